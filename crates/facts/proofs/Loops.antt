@@ -1,0 +1,90 @@
+-- Laws for loops that search a range: the answer from here on is the answer (`seek`, `scan`), or nothing was found so far (`any`).
+use Prim.Native.Nat.{ℕ, suc, _+_, _-_, _<_, _≤_}
+use native.Mathlib.Numerals.{add-one}
+use native.Mathlib.Omega.{arith}
+use mathlib.Core.Path.{_≡_, refl, sym, ap, _∙_}
+use mathlib.Core.Bool.{Bool, true, false, cond}
+use Rattle.facts.specs.declared.Checked.{Checked}
+use Rattle.facts.specs.declared.Checked.the-variants.{Passed, Refused}
+use Rattle.facts.specs.Checks.{_andThen_, scan}
+use Rattle.facts.specs.Sums.{any, seek}
+use Rattle.facts.proofs.Sums.{any-some}
+
+-- a turn of a loop from k to n takes one number off the front of what is left
+turn : (n k : ℕ) → k < n → n - k ≡ suc (n - (k + 1))
+turn n k h = omega arith
+
+-- nothing was found below j, of n
+pub record NoneYet (p : ℕ → Bool) (n j : ℕ) : Type 0 where
+  pub within : j ≤ n
+  pub none : any p j ≡ false
+
+module _ (p : ℕ → Bool) (n : ℕ) where
+  pub any-start : NoneYet p n 0
+  unfolding any
+  any-start = record { within = omega arith; none = refl }
+
+  pub any-more : (j : ℕ) (b : Bool) → NoneYet p n j → j < n → b ≡ p j → b ≡ false → NoneYet p n (j + 1)
+  unfolding any
+  any-more j b i h e f = record { within = omega arith; none = rw (add-one j, i .none, ← e, f) }
+
+  pub any-end : (j : ℕ) → NoneYet p n j → n ≤ j → false ≡ any p n
+  any-end j i h = let e : j ≡ n = omega (arith, i .within) in sym (ap (any p) (sym e) ∙ i .none)
+
+pub any-found : (p : ℕ → Bool) (n j : ℕ) (b : Bool) → j < n → b ≡ p j → b ≡ true → true ≡ any p n
+any-found p n j b h e t = sym (any-some p n .1 (j, h, sym e ∙ t))
+
+-- the search from k on gives what the search from 0 gives
+pub record Seeking (p : ℕ → Bool) (n k : ℕ) : Type 0 where
+  pub within : k ≤ n
+  pub rest : seek p k (n - k) ≡ seek p 0 n
+
+module _ (p : ℕ → Bool) (n : ℕ) where
+  pub seek-start : Seeking p n 0
+  seek-start = record { within = omega arith; rest = ap (seek p 0) (omega arith) }
+
+  seek-turn : (k : ℕ) → k < n → seek p k (n - k) ≡ cond (p k) k (seek p (suc k) (n - (k + 1)))
+  unfolding seek
+  seek-turn k h = rw (turn n k h)
+
+  pub seek-more : (k : ℕ) → Seeking p n k → k < n → p k ≡ false → Seeking p n (k + 1)
+  seek-more k i h e =
+      let t : seek p (k + 1) (n - (k + 1)) ≡ seek p k (n - k) = sym (seek-turn k h ∙ rw (e, add-one k)) in
+      record { within = omega arith; rest = t ∙ i .rest }
+
+  pub seek-here : (k : ℕ) → Seeking p n k → k < n → p k ≡ true → seek p 0 n ≡ k
+  seek-here k i h e = sym (i .rest) ∙ seek-turn k h ∙ rw e
+
+  pub seek-end : (k : ℕ) → Seeking p n k → n ≤ k → seek p 0 n ≡ n
+  unfolding seek
+  seek-end k i h =
+      let e : n - k ≡ 0 = omega arith in
+      let w : k ≡ n = omega (arith, i .within) in
+      sym (i .rest) ∙ ap (seek p k) e ∙ w
+
+-- the answer from k on is the answer
+pub record Scanning (f : ℕ → Checked) (n k : ℕ) : Type 0 where
+  pub within : k ≤ n
+  pub rest : scan f k (n - k) ≡ scan f 0 n
+
+module _ (f : ℕ → Checked) (n : ℕ) where
+  pub scan-start : Scanning f n 0
+  scan-start = record { within = omega arith; rest = ap (scan f 0) (omega arith) }
+
+  scan-turn : (k : ℕ) → k < n → scan f k (n - k) ≡ f k andThen scan f (suc k) (n - (k + 1))
+  unfolding scan
+  scan-turn k h = rw (turn n k h)
+
+  pub scan-more : (k : ℕ) (a : Checked) → Scanning f n k → k < n → a ≡ f k → a ≡ Passed → Scanning f n (k + 1)
+  scan-more k a i h e p =
+      let t : scan f (k + 1) (n - (k + 1)) ≡ scan f k (n - k) = sym (scan-turn k h ∙ rw (← e, p, add-one k)) in
+      record { within = omega arith; rest = t ∙ i .rest }
+
+  pub scan-stop : (k number place : ℕ) (a : Checked) → Scanning f n k → k < n → a ≡ f k → a ≡ Refused number place → Refused number place ≡ scan f 0 n
+  scan-stop k number place a i h e p = sym (sym (i .rest) ∙ scan-turn k h ∙ rw (← e, p))
+
+  pub scan-end : (k : ℕ) → Scanning f n k → n ≤ k → Passed ≡ scan f 0 n
+  unfolding scan
+  scan-end k i h =
+      let e : n - k ≡ 0 = omega arith in
+      sym (sym (i .rest) ∙ ap (scan f k) e)

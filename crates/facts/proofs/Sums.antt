@@ -1,0 +1,383 @@
+-- Laws of sums and counts over the numbers below n: congruence, order, addition, swapping, fibres, double counting, ranks.
+use Prim.Native.Nat.{ℕ, zero, suc, _+_, _*_, _-_, _≤_, _<_, _/_, _%_}
+use mathlib.Core.Path.{_≡_, refl, sym, _∙_, ap, ap₂, subst, subst⁻¹}
+use mathlib.Core.Bool.{Bool, true, false, _&&_, _||_, not}
+use mathlib.Core.Logic.{_↔_}
+use native.Mathlib.Omega.{arith}
+use native.Mathlib.Nat.{mul-zero, mul-suc, mul-add, add-zero, add-suc, add-sub-of-le, mul-add-div, div-eq-of-lt, mul-add-mod-self-left, mod-eq-of-lt, div-mul-le-self, lt-div-mul-add}
+use native.Mathlib.Decide.{decLt}
+use native.Mathlib.Numerals.{add-one}
+use lib.Dec.{eqb}
+use borrow.Author.Tests.{eq-eqb, eqb-true}
+use Rattle.facts.proofs.Bools.{and-l, and-r, or-l, or-r, true-false, not-true}
+use Rattle.facts.specs.Sums.{bit, sum, count, count₂, any}
+
+-- equal terms below n give equal sums
+pub sum-cong : (f g : ℕ → ℕ) (n : ℕ) → ((i : ℕ) → i < n → f i ≡ g i) → sum f n ≡ sum g n
+unfolding sum
+sum-cong f g zero h = refl
+sum-cong f g (suc n) h = cc (sum-cong f g n (λ i l. h i (omega arith)), h n (omega arith))
+
+-- smaller terms below n give a smaller sum
+pub sum-mono : (f g : ℕ → ℕ) (n : ℕ) → ((i : ℕ) → i < n → f i ≤ g i) → sum f n ≤ sum g n
+unfolding sum
+sum-mono f g zero h = omega arith
+sum-mono f g (suc n) h = omega (arith, sum-mono f g n (λ i l. h i (omega arith)), h n (omega arith))
+
+pub sum-zero : (n : ℕ) → sum (λ i. 0) n ≡ 0
+unfolding sum
+sum-zero zero = refl
+sum-zero (suc n) = omega (arith, sum-zero n)
+
+pub sum-const : (c n : ℕ) → sum (λ i. c) n ≡ c * n
+unfolding sum
+sum-const c zero = omega (arith, mul-zero c)
+sum-const c (suc n) = omega (arith, sum-const c n, mul-suc c n)
+
+pub sum-add : (f g : ℕ → ℕ) (n : ℕ) → sum (λ i. f i + g i) n ≡ sum f n + sum g n
+unfolding sum
+sum-add f g zero = refl
+sum-add f g (suc n) = omega (arith, sum-add f g n)
+
+pub sum-scale : (s : ℕ) (f : ℕ → ℕ) (n : ℕ) → sum (λ i. s * f i) n ≡ s * sum f n
+unfolding sum
+sum-scale s f zero = omega (arith, mul-zero s)
+sum-scale s f (suc n) = omega (arith, sum-scale s f n, mul-add s (sum f n) (f n))
+
+-- two sums in either order
+pub sum-swap : (f : ℕ → ℕ → ℕ) (m n : ℕ) → sum (λ i. sum (f i) m) n ≡ sum (λ j. sum (λ i. f i j) n) m
+unfolding sum
+sum-swap f m zero = sym (sum-zero m)
+sum-swap f m (suc n) = omega (arith, sum-swap f m n, sum-add (λ j. sum (λ i. f i j) n) (f n) m)
+
+-- the first m terms and the n after them
+pub sum-append : (f : ℕ → ℕ) (m n : ℕ) → sum f (m + n) ≡ sum f m + sum (λ i. f (m + i)) n
+unfolding sum
+sum-append f m zero = rw (add-zero m) (omega arith)
+sum-append f m (suc n) = rw (add-suc m n) (omega (arith, sum-append f m n))
+
+-- more terms, a larger sum
+pub sum-more : (f : ℕ → ℕ) (m n : ℕ) → m ≤ n → sum f m ≤ sum f n
+sum-more f m n h =
+    subst (λ (k : ℕ). sum f m ≤ sum f k) (add-sub-of-le h) (omega (arith, sum-append f m (n - m)))
+
+-- the first term and the others
+pub sum-first : (f : ℕ → ℕ) (n : ℕ) → sum f (suc n) ≡ f 0 + sum (λ i. f (suc i)) n
+unfolding sum
+sum-first f zero = omega arith
+sum-first f (suc n) = omega (arith, sum-first f n)
+
+-- a sum of zeros
+pub sum-none : (f : ℕ → ℕ) (n : ℕ) → ((i : ℕ) → i < n → f i ≡ 0) → sum f n ≡ 0
+sum-none f n h = sum-cong f (λ i. 0) n h ∙ sum-zero n
+
+-- a sum of which all terms but one are 0
+pub sum-single : (f : ℕ → ℕ) (a n : ℕ) → a < n → ((i : ℕ) → i < n → (i ≡ a → ⊥) → f i ≡ 0) → sum f n ≡ f a
+unfolding sum
+sum-single f a n l h =
+    subst (λ (k : ℕ). sum f k ≡ f a) (add-sub-of-le l)
+    (omega (
+      arith,
+      sum-append f (suc a) (n - suc a),
+      sum-none f a (λ i b. h i (omega arith) (λ e. omega arith)),
+      sum-none (λ i. f (suc a + i)) (n - suc a) (λ i b. h (suc a + i) (omega arith) (λ e. omega arith)),
+    ))
+
+pub sum-single-le : (f : ℕ → ℕ) (a n : ℕ) → ((i : ℕ) → i < n → (i ≡ a → ⊥) → f i ≡ 0) → sum f n ≤ f a
+sum-single-le f a n h =
+    elim (decLt a n) [
+      | yes l ↦ omega (arith, sum-single f a n l h)
+      | no g ↦ omega (arith, sum-none f n (λ i l. h i l (λ e. omega arith)))
+    ]
+
+-- terms of at most s where q holds and 0 elsewhere
+pub sum-bounded : (f : ℕ → ℕ) (q : ℕ → Bool) (s n : ℕ) →
+    ((y : ℕ) → y < n → q y ≡ true → f y ≤ s) →
+    ((y : ℕ) → y < n → q y ≡ false → f y ≡ 0) →
+    sum f n ≤ s * count q n
+unfolding count
+sum-bounded f q s n some none =
+    subst (λ (c : ℕ). sum f n ≤ c) (sum-scale s (λ y. bit (q y)) n) (sum-mono f _ n (λ y l. go y l (q y) refl))
+  where
+    go : (y : ℕ) → y < n → (b : Bool) → q y ≡ b → f y ≤ s * bit b
+    go y l true e = omega (arith, some y l e)
+    go y l false e = omega (arith, none y l e, mul-zero s)
+
+-- one term is at most the sum
+pub term-le : (f : ℕ → ℕ) (i n : ℕ) → i < n → f i ≤ sum f n
+unfolding sum
+term-le f i n l = omega (arith, sum-more f (suc i) n l)
+
+-- counts agree where the tests do
+pub count-cong : (p q : ℕ → Bool) (n : ℕ) → ((i : ℕ) → i < n → p i ≡ q i) → count p n ≡ count q n
+unfolding count
+count-cong p q n h = sum-cong _ _ n (λ i l. ap bit (h i l))
+
+bit-le : (a : Bool) → bit a ≤ 1
+bit-le true = omega arith
+bit-le false = omega arith
+
+bit-none : (a : Bool) → (a ≡ true → ⊥) → bit a ≡ 0
+bit-none true h = absurd (h refl)
+bit-none false h = refl
+
+bit-mono : (a b : Bool) → (a ≡ true → b ≡ true) → bit a ≤ bit b
+bit-mono true b h = rw (h refl) (omega arith)
+bit-mono false b h = omega arith
+
+bit-or : (a b : Bool) → (a ≡ true → b ≡ true → ⊥) → bit (a || b) ≡ bit a + bit b
+bit-or true true h = absurd (h refl refl)
+bit-or true false h = refl
+bit-or false b h = omega arith
+
+bit-split : (a b : Bool) → bit a ≡ bit (a && b) + bit (a && not b)
+bit-split true true = refl
+bit-split true false = refl
+bit-split false b = refl
+
+-- what implies more is counted more often
+pub count-mono : (p q : ℕ → Bool) (n : ℕ) → ((i : ℕ) → i < n → p i ≡ true → q i ≡ true) → count p n ≤ count q n
+unfolding count
+count-mono p q n h = sum-mono _ _ n (λ i l. bit-mono (p i) (q i) (h i l))
+
+-- a count is at most the range
+pub count-le : (p : ℕ → Bool) (n : ℕ) → count p n ≤ n
+unfolding count
+count-le p n = omega (arith, sum-mono (λ i. bit (p i)) (λ i. 1) n (λ i l. bit-le (p i)), sum-const 1 n)
+
+-- a disjoint union
+pub count-or : (p q : ℕ → Bool) (n : ℕ) →
+    ((i : ℕ) → i < n → p i ≡ true → q i ≡ true → ⊥) → count (λ i. p i || q i) n ≡ count p n + count q n
+unfolding count
+count-or p q n h = sum-cong _ _ n (λ i l. bit-or (p i) (q i) (h i l)) ∙ sum-add (λ i. bit (p i)) (λ i. bit (q i)) n
+
+-- one more index
+pub count-suc : (p : ℕ → Bool) (n : ℕ) → count p (suc n) ≡ count p n + bit (p n)
+unfolding count sum
+count-suc p n = refl
+
+pub count-true : (p : ℕ → Bool) (n : ℕ) → p n ≡ true → count p (suc n) ≡ suc (count p n)
+unfolding count sum
+count-true p n e = rw e (omega arith)
+
+pub count-false : (p : ℕ → Bool) (n : ℕ) → p n ≡ false → count p (suc n) ≡ count p n
+unfolding count sum
+count-false p n e = rw e (omega arith)
+
+-- the first m indices and the n after them
+pub count-append : (p : ℕ → Bool) (m n : ℕ) → count p (m + n) ≡ count p m + count (λ i. p (m + i)) n
+unfolding count
+count-append p m n = sum-append (λ i. bit (p i)) m n
+
+-- more indices, a larger count
+pub count-more : (p : ℕ → Bool) (m n : ℕ) → m ≤ n → count p m ≤ count p n
+unfolding count
+count-more p m n h = sum-more (λ i. bit (p i)) m n h
+
+-- nothing counted
+pub count-none : (p : ℕ → Bool) (n : ℕ) → ((i : ℕ) → i < n → p i ≡ true → ⊥) → count p n ≡ 0
+unfolding count
+count-none p n h = sum-cong _ (λ i. 0) n (λ i l. bit-none (p i) (h i l)) ∙ sum-zero n
+
+-- nothing counted from m on
+pub count-stop : (p : ℕ → Bool) (m n : ℕ) → m ≤ n → ((i : ℕ) → m ≤ i → p i ≡ true → ⊥) → count p n ≡ count p m
+count-stop p m n l h =
+    subst (λ (k : ℕ). count p k ≡ count p m) (add-sub-of-le l)
+    (omega (
+      arith,
+      count-append p m (n - m),
+      count-none (λ i. p (m + i)) (n - m) (λ i b e. h (m + i) (omega arith) e),
+    ))
+
+-- everything counted
+pub count-all : (p : ℕ → Bool) (n : ℕ) → ((i : ℕ) → i < n → p i ≡ true) → count p n ≡ n
+unfolding count
+count-all p n h = sum-cong _ (λ i. 1) n (λ i l. ap bit (h i l)) ∙ omega (arith, sum-const 1 n)
+
+-- over pairs: tests that agree, that imply, that never hold, disjoint unions, and the range
+pub count₂-cong : (p q : ℕ → ℕ → Bool) (w n : ℕ) →
+    ((i j : ℕ) → i < n → j < w → p i j ≡ q i j) → count₂ p w n ≡ count₂ q w n
+unfolding count₂
+count₂-cong p q w n h = sum-cong _ _ n (λ i l. count-cong (p i) (q i) w (λ j k. h i j l k))
+
+pub count₂-mono : (p q : ℕ → ℕ → Bool) (w n : ℕ) →
+    ((i j : ℕ) → i < n → j < w → p i j ≡ true → q i j ≡ true) → count₂ p w n ≤ count₂ q w n
+unfolding count₂
+count₂-mono p q w n h = sum-mono _ _ n (λ i l. count-mono (p i) (q i) w (λ j k. h i j l k))
+
+pub count₂-none : (p : ℕ → ℕ → Bool) (w n : ℕ) →
+    ((i j : ℕ) → i < n → j < w → p i j ≡ true → ⊥) → count₂ p w n ≡ 0
+unfolding count₂
+count₂-none p w n h = sum-cong _ (λ i. 0) n (λ i l. count-none (p i) w (λ j k. h i j l k)) ∙ sum-zero n
+
+pub count₂-le : (p : ℕ → ℕ → Bool) (w n : ℕ) → count₂ p w n ≤ w * n
+unfolding count₂
+count₂-le p w n =
+    subst (λ (c : ℕ). count₂ p w n ≤ c) (sum-const w n) (sum-mono _ (λ i. w) n (λ i l. count-le (p i) w))
+
+-- one place each
+count₂-once : (p : ℕ → Bool) (n : ℕ) → count₂ (λ i j. p i) 1 n ≡ count p n
+unfolding count₂ count sum
+count₂-once p n = sum-cong _ _ n (λ i l. omega arith)
+
+-- pairs by number: pair (i, j) is number w * i + j
+pub count₂-flat : (p : ℕ → ℕ → Bool) (w n : ℕ) → 0 < w → count₂ p w n ≡ count (λ x. p (x / w) (x % w)) (w * n)
+unfolding count₂ sum
+count₂-flat p w zero h = rw (mul-zero w) (sym (count-none _ 0 (λ i l e. omega arith)))
+count₂-flat p w (suc n) h =
+    rw (mul-suc w n, count-append (λ x. p (x / w) (x % w)) (w * n) w, ← count₂-flat p w n h)
+    (ap (λ (c : ℕ). sum (λ i. count (p i) w) n + c) (count-cong (p n) _ w (λ j k. sym (ap₂ p (quotient j k) (remainder j k)))))
+  where
+    quotient : (j : ℕ) → j < w → (w * n + j) / w ≡ n
+    quotient j k = omega (arith, mul-add-div h n j, div-eq-of-lt k)
+
+    remainder : (j : ℕ) → j < w → (w * n + j) % w ≡ j
+    remainder j k = mul-add-mod-self-left w n j ∙ mod-eq-of-lt k
+
+-- the rank of a counted index, the number counted below it, is below the count
+pub rank-lt : (p : ℕ → Bool) (i n : ℕ) → i < n → p i ≡ true → count p i < count p n
+rank-lt p i n l e = omega (arith, count-more p (suc i) n l, count-true p i e)
+
+-- each rank below the count has its index
+pub rank-index : (p : ℕ → Bool) (n r : ℕ) → r < count p n → (i : ℕ) × (i < n) × (p i ≡ true) × (count p i ≡ r)
+unfolding count sum
+rank-index p zero r l = absurd (omega arith)
+rank-index p (suc n) r l = go (p n) refl (rank-index p n r)
+  where
+    go : (b : Bool) → p n ≡ b →
+        (r < count p n → (i : ℕ) × (i < n) × (p i ≡ true) × (count p i ≡ r)) →
+        (i : ℕ) × (i < suc n) × (p i ≡ true) × (count p i ≡ r)
+    go false e before =
+        let f = before (omega (arith, count-false p n e)) in
+        (f .0, omega (arith, f .1), f .2, f .3)
+    go true e before =
+        elim (decLt r (count p n)) [
+          | yes b ↦ (let f = before b in (f .0, omega (arith, f .1), f .2, f .3))
+          | no g ↦ (n, omega arith, e, omega (arith, count-true p n e))
+        ]
+
+-- counted indices with g of their rank are as many as the ranks with g
+pub count-rank : (p g : ℕ → Bool) (n : ℕ) → count (λ i. p i && g (count p i)) n ≡ count g (count p n)
+unfolding count sum
+count-rank p g zero = refl
+count-rank p g (suc n) = go (p n) refl (count-rank p g n)
+  where
+    go : (b : Bool) → p n ≡ b → count (λ i. p i && g (count p i)) n ≡ count g (count p n) →
+        count (λ i. p i && g (count p i)) n + bit (p n && g (count p n)) ≡ count g (count p n + bit (p n))
+    go true e r = rw (e, add-one (count p n)) (omega (arith, r))
+    go false e r = rw (e, add-zero (count p n)) (omega (arith, r))
+
+-- exactly one number below n is y
+pub count-one : (y n : ℕ) → y < n → count (λ i. eqb y i) n ≡ 1
+count-one y n l =
+    subst (λ (k : ℕ). count (λ i. eqb y i) k ≡ 1) (add-sub-of-le l)
+    (omega (
+      arith,
+      count-append (λ i. eqb y i) (suc y) (n - suc y),
+      count-true (λ i. eqb y i) y (eq-eqb y y refl),
+      count-none (λ i. eqb y i) y (λ i l e. omega (arith, eqb-true y i e)),
+      count-none (λ i. eqb y (suc y + i)) (n - suc y) (λ i l e. omega (arith, eqb-true y (suc y + i) e)),
+    ))
+
+-- at most s numbers are counted where all lie in s places from a on
+pub count-within : (p : ℕ → Bool) (a s n : ℕ) → ((i : ℕ) → p i ≡ true → (a ≤ i) × (i < a + s)) → count p n ≤ s
+count-within p a s n h =
+    omega (
+      arith,
+      count-more p n (a + s + n) (omega arith),
+      count-append p (a + s) n,
+      count-append p a s,
+      count-le (λ i. p (a + i)) s,
+      count-none p a (λ i l e. omega (arith, h i e)),
+      count-none (λ i. p (a + s + i)) n (λ i l e. omega (arith, h (a + s + i) e)),
+    )
+
+-- at most s numbers give y when divided by s
+pub count-div : (s y n : ℕ) → 0 < s → count (λ i. eqb (i / s) y) n ≤ s
+count-div s y n h = count-within (λ i. eqb (i / s) y) (y * s) s n (λ i e. at i (eqb-true (i / s) y e))
+  where
+    at : (i : ℕ) → i / s ≡ y → (y * s ≤ i) × (i < y * s + s)
+    at i e = rw (← e) (div-mul-le-self i s, lt-div-mul-add h)
+
+bit-fibre : (b : Bool) (x Y : ℕ) → (b ≡ true → x < Y) → bit b ≡ sum (λ y. bit (b && eqb x y)) Y
+unfolding count
+bit-fibre true x Y h = sym (count-one x Y (h refl))
+bit-fibre false x Y h = sym (sum-zero Y)
+
+-- what is counted over pairs, by values: the sum over the values of the counts at each value
+pub fibres : (p : ℕ → ℕ → Bool) (f : ℕ → ℕ → ℕ) (w n Y : ℕ) →
+    ((i j : ℕ) → i < n → j < w → p i j ≡ true → f i j < Y) →
+    count₂ p w n ≡ sum (λ y. count₂ (λ i j. p i j && eqb (f i j) y) w n) Y
+unfolding count₂ count
+fibres p f w n Y h =
+    sum-cong _ _ n (λ i l. sum-cong _ _ w (λ j k. bit-fibre (p i j) (f i j) Y (h i j l k)) ∙ sum-swap _ Y w)
+    ∙ sum-swap _ Y n
+
+-- double counting: each counted pair goes to a y that has q, and each y gets at most s of them
+pub double-count : (p : ℕ → ℕ → Bool) (f : ℕ → ℕ → ℕ) (q : ℕ → Bool) (s w n Y : ℕ) →
+    ((i j : ℕ) → i < n → j < w → p i j ≡ true → (f i j < Y) × (q (f i j) ≡ true)) →
+    ((y : ℕ) → y < Y → q y ≡ true → count₂ (λ i j. p i j && eqb (f i j) y) w n ≤ s) →
+    count₂ p w n ≤ s * count q Y
+double-count p f q s w n Y goes few =
+    subst⁻¹ (λ (c : ℕ). c ≤ s * count q Y) (fibres p f w n Y (λ i j l k e. goes i j l k e .0))
+    (sum-bounded (λ y. count₂ (lands y) w n) q s Y few (λ y l e. count₂-none (lands y) w n (never y e)))
+  where
+    lands : ℕ → ℕ → ℕ → Bool
+    lands y i j = p i j && eqb (f i j) y
+
+    never : (y : ℕ) → q y ≡ false → (i j : ℕ) → i < n → j < w → lands y i j ≡ true → ⊥
+    never y e i j a b c =
+        true-false (q y)
+        (subst (λ (x : ℕ). q x ≡ true) (eqb-true (f i j) y (and-r (p i j) _ c)) (goes i j a b (and-l (p i j) _ c) .1))
+        e
+
+-- a count is the sum over the values of the counts at each value
+pub fibres₁ : (p : ℕ → Bool) (f : ℕ → ℕ) (n Y : ℕ) →
+    ((i : ℕ) → i < n → p i ≡ true → f i < Y) →
+    count p n ≡ sum (λ y. count (λ i. p i && eqb (f i) y) n) Y
+fibres₁ p f n Y h =
+    sym (count₂-once p n)
+    ∙ fibres (λ i j. p i) (λ i j. f i) 1 n Y (λ i j l k e. h i l e)
+    ∙ sum-cong _ _ Y (λ y l. count₂-once (λ i. p i && eqb (f i) y) n)
+
+any-at : (p : ℕ → Bool) (n i : ℕ) → i < n → p i ≡ true → any p n ≡ true
+unfolding any
+any-at p zero i l e = absurd (omega arith)
+any-at p (suc n) i l e =
+    elim (decLt i n) [
+      | yes b ↦ or-l (any p n) (p n) (any-at p n i b e)
+      | no g ↦ or-r (any p n) (p n) (subst (λ (k : ℕ). p k ≡ true) (let h : i ≡ n = omega arith in h) e)
+    ]
+
+any-found : (p : ℕ → Bool) (n : ℕ) → any p n ≡ true → (i : ℕ) × (i < n) × (p i ≡ true)
+unfolding any
+any-found p zero e = absurd (true-false false e refl)
+any-found p (suc n) e = go (any p n) refl (any-found p n)
+  where
+    go : (b : Bool) → any p n ≡ b → (any p n ≡ true → (i : ℕ) × (i < n) × (p i ≡ true)) →
+        (i : ℕ) × (i < suc n) × (p i ≡ true)
+    go true h before = let f = before h in (f .0, omega (arith, f .1), f .2)
+    go false h before = (n, omega arith, rw h at e)
+
+-- over some of the values, the counts at each add up to at most the range
+pub values-le : (f : ℕ → ℕ) (n Y : ℕ) → sum (λ y. count (λ i. eqb (f i) y) n) Y ≤ n
+unfolding count
+values-le f n Y =
+    subst (λ (c : ℕ). c ≤ n) (sum-swap (λ i y. bit (eqb (f i) y)) Y n)
+    (omega (
+      arith,
+      sum-mono (λ i. count (λ y. eqb (f i) y) Y) (λ i. 1) n
+          (λ i l. count-within (λ y. eqb (f i) y) (f i) 1 Y (λ y e. omega (arith, eqb-true (f i) y e))),
+      sum-const 1 n,
+    ))
+
+-- some number below n has p
+pub any-some : (p : ℕ → Bool) (n : ℕ) → (any p n ≡ true) ↔ ((i : ℕ) × (i < n) × (p i ≡ true))
+any-some p n = (any-found p n, λ f. any-at p n (f .0) (f .1) (f .2))
+
+-- no number below n has p
+pub any-none : (p : ℕ → Bool) (n : ℕ) → (any p n ≡ false) ↔ ((i : ℕ) → i < n → p i ≡ false)
+any-none p n = (
+  λ e i l. not-true (p i) (λ h. true-false (any p n) (any-at p n i l h) e),
+  λ h. not-true (any p n) (λ e. let f = any-found p n e in true-false (p (f .0)) (f .2) (h (f .0) (f .1))),
+)

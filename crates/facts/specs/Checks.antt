@@ -1,0 +1,27 @@
+-- Checks in order: the answer of a call is its first failing check (document 01, the table of refusals).
+use Prim.Native.Nat.{ℕ, zero, suc}
+use mathlib.Core.Bool.{Bool, true, false}
+use mathlib.Core.List.{List, [], _∷_}
+use Rattle.facts.specs.declared.Checked.{Checked}
+use Rattle.facts.specs.declared.Checked.the-variants.{Passed, Refused}
+
+infixr 20 _andThen_
+-- one check: refused, with its number and place, where its condition holds
+abbrev pub check : ℕ → ℕ → Bool → Checked
+check number place true = Refused number place
+check number place false = Passed
+
+-- a's answer where a refuses, else b's
+abbrev pub _andThen_ : Checked → Checked → Checked
+Passed andThen b = b
+(Refused number place) andThen b = Refused number place
+
+-- n places from i on, rising
+unfoldable pub scan : (ℕ → Checked) → ℕ → ℕ → Checked
+scan f i zero = Passed
+scan f i (suc n) = f i andThen scan f (suc i) n
+
+-- document 01's numbers of an answer: number and place
+unfoldable pub checkedNumbers : Checked → List ℕ
+checkedNumbers Passed = 0 ∷ 0 ∷ []
+checkedNumbers (Refused number place) = number ∷ place ∷ []

@@ -1,0 +1,4 @@
+pub mod Blocks
+pub mod Checks
+pub mod Refusals
+pub mod Sums

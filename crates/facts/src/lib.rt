@@ -1,0 +1,16 @@
+// What every call shares and no netlist is needed for: the answer of a list of checks, and a byte as a wider number.
+ghost use mathlib.Core.Path.{_≡_};
+ghost use Prim.Native.Nat.{_<_};
+
+// All checks passed, or the number of the first that failed and its place.
+pub enum Checked {
+    Passed,
+    Refused(u32, u32),
+}
+
+// A byte as a wider number.
+pub fn wide(x: u8) -> u16
+    ensures { λ r. ⌜ (r ≡ x) × (r < 256) ⌝ }
+{
+    x as u16
+}
