@@ -1,0 +1,5 @@
+pub mod Checks
+pub mod Lists
+pub mod Records
+pub mod Refusals
+pub mod Source

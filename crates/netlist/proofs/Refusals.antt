@@ -1,0 +1,132 @@
+-- The answers of checks 1 to 7 are exact: each test is its condition, and the checks stand in the table's order.
+use Prim.Native.Nat.{ℕ, _%_, _^_, _<_, _≤_}
+use native.Mathlib.Omega.{arith}
+use mathlib.Core.Path.{_≡_}
+use mathlib.Core.Logic.{_⊎_, ⊎-elim, _↔_, _≢_}
+use mathlib.Core.Bool.{true, not, _&&_, _||_}
+use mathlib.Core.List.{List}
+use lib.ListN.{length}
+use lib.Dec.{ltb, leb, eqb}
+use Rattle.facts.specs.Sums.{any}
+use Rattle.facts.specs.Refusals.{rowOf, Fails, _or_, Each, First}
+use Rattle.facts.proofs.Bits.{bit-from}
+use Rattle.facts.proofs.Sums.{any-some}
+use Rattle.facts.proofs.Reflect.{iff-sum, iff-pair, iff-trans, iff-some, less, most, same, unlike, both, either, side}
+use Rattle.facts.proofs.Refusals.{InRow, UpTo, After, Within, rows-before, one-row, within-one, within-or, within-before, first-check, first-then, first-scan, scan-rows, exact}
+use Rattle.netlist.specs.declared.Record.{Record}
+use Rattle.netlist.specs.Kinds.{width, slots, unused, sourceLimit, topLevel, arity, input, output, invertible}
+use Rattle.netlist.specs.Records.{Netlist, netlist, recordCount, slot, depth}
+use Rattle.netlist.specs.Checks.{badCapacity, badInversion, badSlot, badSlots, notBelow, misplaced, badLevel, recordChecks, sourceChecks, inputChecks}
+use Rattle.netlist.proofs.Checks.{arity-slots}
+use Rattle.netlist.specs.Refusals.{BadCapacity, Ragged, TooMany, BadInversion, BadSlots, Misplaced, BadLevel, SizeFails, StructureFails, RecordFails, SourceFails, InputFails, SourceExact, InputExact}
+
+capacity-is : (s : ℕ) → (badCapacity s ≡ true) ↔ BadCapacity s
+capacity-is s = iff-trans (either (ltb s 2) (ltb 4 s)) (iff-sum (less s 2) (less 4 s))
+
+inversion-is : (r : Record) → (badInversion r ≡ true) ↔ BadInversion r
+inversion-is r = iff-trans (most (2 ^ invertible (r .kind)) (r .inversion)) (bit-from (invertible (r .kind)) (r .inversion))
+
+slots-are : (m : Netlist) (k : ℕ) (r : Record) → (badSlots m k r ≡ true) ↔ BadSlots m k r
+slots-are m k r = iff-trans (any-some (badSlot m k r) slots) (iff-some slots _ _ one)
+  where
+    one : (j : ℕ) → (badSlot m k r j ≡ true) ↔ (((j < arity (r .kind)) × ((k ≤ slot r j) ⊎ (m .at (slot r j) .kind ≡ output))) ⊎ ((arity (r .kind) ≤ j) × (slot r j ≢ unused)))
+    one j =
+        iff-trans (side j (arity (r .kind)) (leb k (slot r j) || eqb (m .at (slot r j) .kind) output) (not (eqb (slot r j) unused)))
+        (iff-sum
+        (iff-pair (λ l. l, λ l. l) (iff-trans (either (leb k (slot r j)) (eqb (m .at (slot r j) .kind) output)) (iff-sum (most k (slot r j)) (same (m .at (slot r j) .kind) output))))
+        (iff-pair (λ l. l, λ l. l) (unlike (slot r j) unused)))
+
+fanins-are : (m : Netlist) (r : Record) → (any (notBelow m r) slots ≡ true) ↔ ((j : ℕ) × (j < arity (r .kind)) × (r .level ≤ m .at (slot r j) .level))
+fanins-are m r = iff-trans (any-some (notBelow m r) slots) (
+  λ x. let y = one (x .0) .0 (x .2) in (x .0, y .0, y .1),
+  λ x. (x .0, omega (arith, arity-slots (r .kind), x .1), one (x .0) .1 (x .1, x .2)),
+)
+  where
+    one : (j : ℕ) → (notBelow m r j ≡ true) ↔ ((j < arity (r .kind)) × (r .level ≤ m .at (slot r j) .level))
+    one j =
+        iff-trans (both (ltb j (arity (r .kind))) (leb (r .level) (m .at (slot r j) .level)))
+        (iff-pair (less j (arity (r .kind))) (most (r .level) (m .at (slot r j) .level)))
+
+level-is : (m : Netlist) (r : Record) → (badLevel m r ≡ true) ↔ BadLevel m r
+level-is m r =
+    iff-trans (either (misplaced (depth m) r) (any (notBelow m r) slots)) (iff-sum own (fanins-are m r))
+  where
+    at : (kind level : ℕ) → ((eqb (r .kind) kind && not (eqb (r .level) level)) ≡ true) ↔ ((r .kind ≡ kind) × (r .level ≢ level))
+    at kind level =
+        iff-trans (both (eqb (r .kind) kind) (not (eqb (r .level) level)))
+        (iff-pair (same (r .kind) kind) (unlike (r .level) level))
+
+    own : (misplaced (depth m) r ≡ true) ↔ Misplaced (depth m) r
+    own =
+        iff-trans (either (ltb topLevel (r .level)) _)
+        (iff-sum (less topLevel (r .level)) (iff-trans (either _ _) (iff-sum (at input 0) (at output (depth m)))))
+
+-- 4 to 7 stand at one place of one row
+later-within : (m : Netlist) (k : ℕ) → Within 4 k 5 6 (Fails 5 k (BadInversion (m .at k)) or Fails 6 k (BadSlots m k (m .at k)))
+later-within m k = within-or 4 k 5 5 6 6 (within-one 5 k _) (within-one 6 k _) (omega arith) (omega arith) (omega arith)
+
+structure-within : (m : Netlist) (k : ℕ) → Within 4 k 4 6 (StructureFails m k)
+structure-within m k = within-or 4 k 4 4 5 6 (within-one 4 k _) (later-within m k) (omega arith) (omega arith) (omega arith)
+
+record-within : (m : Netlist) (k : ℕ) → Within 4 k 4 7 (RecordFails m k)
+record-within m k = within-or 4 k 4 6 7 7 (structure-within m k) (within-one 7 k _) (omega arith) (omega arith) (omega arith)
+
+record-first : (m : Netlist) (k : ℕ) → First (RecordFails m k) (recordChecks m k)
+record-first m k =
+    first-then (within-before 4 k 4 6 7 7 (structure-within m k) (within-one 7 k _) (omega arith))
+    (first-then (within-before 4 k 4 4 5 6 (within-one 4 k _) (later-within m k) (omega arith))
+    (first-check 4 k (less output (m .at k .kind)))
+    (first-then (within-before 4 k 5 5 6 6 (within-one 5 k _) (within-one 6 k _) (omega arith))
+    (first-check 5 k (inversion-is (m .at k)))
+    (first-check 6 k (slots-are m k (m .at k)))))
+    (first-check 7 k (level-is m (m .at k)))
+
+records-rows : (bytes : List ℕ) → InRow 4 (Each (recordCount bytes) (RecordFails (netlist bytes)))
+records-rows bytes = scan-rows (RecordFails (netlist bytes)) 4 4 7 (recordCount bytes) (record-within (netlist bytes))
+
+size-rows : (bytes : List ℕ) (n p : ℕ) → SizeFails bytes n p → (1 < rowOf n) × (rowOf n < 4)
+size-rows bytes n p =
+    ⊎-elim
+    (λ f. omega (arith, one-row 2 0 (Ragged bytes) n p f))
+    (λ f. omega (arith, one-row 3 0 (TooMany bytes) n p f))
+
+-- the conditions of checks 2 to 7 stand in the table's rows from 2 to 4
+pub source-rows : (bytes : List ℕ) (n p : ℕ) → SourceFails bytes n p → (1 < rowOf n) × (rowOf n ≤ 4)
+source-rows bytes n p =
+    ⊎-elim (λ f. omega (arith, size-rows bytes n p f)) (λ f. omega (arith, records-rows bytes n p f))
+
+-- and those of 1 to 7 in the rows up to 4
+pub input-rows : (s : ℕ) (bytes : List ℕ) → UpTo 4 (InputFails s bytes)
+input-rows s bytes n p =
+    ⊎-elim (λ f. omega (arith, one-row 1 0 (BadCapacity s) n p f)) (λ f. source-rows bytes n p f .1)
+
+-- so no refusal has number 0
+pub input-numbered : (s : ℕ) (bytes : List ℕ) → After 0 (InputFails s bytes)
+input-numbered s bytes n p =
+    ⊎-elim
+    (λ f. omega (arith, one-row 1 0 (BadCapacity s) n p f))
+    (λ f. omega (arith, source-rows bytes n p f .0))
+
+pub source-first : (bytes : List ℕ) → First (SourceFails bytes) (sourceChecks bytes)
+unfolding sourceChecks
+source-first bytes =
+    first-then
+    (rows-before 3 (λ n p f. omega (arith, size-rows bytes n p f)) (λ n p f. omega (arith, records-rows bytes n p f)))
+    (first-then (rows-before 2 (λ n p f. omega (arith, one-row 2 0 (Ragged bytes) n p f)) (λ n p f. omega (arith, one-row 3 0 (TooMany bytes) n p f)))
+    (first-check 2 0 (unlike (length bytes % width) 0))
+    (first-check 3 0 (less sourceLimit (recordCount bytes))))
+    (first-scan (recordChecks (netlist bytes)) (RecordFails (netlist bytes)) 4 4 7 (record-within (netlist bytes)) (recordCount bytes)
+    (λ k l. record-first (netlist bytes) k))
+
+pub input-first : (s : ℕ) (bytes : List ℕ) → First (InputFails s bytes) (inputChecks s bytes)
+input-first s bytes =
+    first-then
+    (rows-before 1 (λ n p f. omega (arith, one-row 1 0 (BadCapacity s) n p f)) (λ n p f. source-rows bytes n p f .0))
+    (first-check 1 0 (capacity-is s))
+    (source-first bytes)
+
+pub source-exact : SourceExact
+source-exact bytes = exact (source-first bytes)
+
+pub input-exact : InputExact
+input-exact s bytes = exact (input-first s bytes)

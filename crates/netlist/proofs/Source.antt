@@ -1,0 +1,62 @@
+-- A source passes checks 2 to 7 exactly if it is one: whole records with the facts of `IsSource`.
+use Prim.Native.Nat.{ℕ, _<_}
+use native.Mathlib.Omega.{arith}
+use mathlib.Core.Path.{_≡_}
+use mathlib.Core.Logic.{_↔_}
+use mathlib.Core.List.{List}
+use Rattle.facts.specs.declared.Checked.the-variants.{Passed}
+use lib.Dec.{ltb}
+use borrow.Author.Tests.{ltb-false}
+use Rattle.facts.specs.Checks.{check}
+use Rattle.facts.proofs.Reflect.{reflect, check-passed, then-passed, or-none}
+use Rattle.netlist.specs.Kinds.{slots, arity}
+use Rattle.netlist.specs.Records.{recordAt}
+use Rattle.netlist.specs.Checks.{badCapacity, sourceChecks, inputChecks}
+use Rattle.netlist.specs.Source.{Source, Input}
+use Rattle.netlist.proofs.Checks.{arity-slots}
+
+pub source-passed : (bytes : List ℕ) → (sourceChecks bytes ≡ Passed) ↔ Source bytes
+unfolding sourceChecks
+source-passed bytes =
+    simp reflect (
+      λ h.
+          let each = h .1 in
+          record {
+            whole = h .0 .0;
+            isSource =
+                record {
+                  few = h .0 .1;
+                  kinds = λ k l. each k l .0 .0;
+                  inversions = λ k l. each k l .0 .1 .0;
+                  earlier = λ k j l u. each k l .0 .1 .1 j (below k u) .0 u .0;
+                  noOutput = λ k j l u. each k l .0 .1 .1 j (below k u) .0 u .1;
+                  empty = λ k j l u v. each k l .0 .1 .1 j v .1 u;
+                  lower = λ k j l u. each k l .1 .1 j (below k u) u;
+                  inputs = λ k l. each k l .1 .0 .1 .0;
+                  levels = λ k l. each k l .1 .0 .0;
+                  outputs = λ k l. each k l .1 .0 .1 .1;
+                };
+          },
+      λ s.
+          let m = s .isSource in (
+            (s .whole, m .few),
+            λ k l. (
+              (m .kinds k l, (m .inversions k l, λ j v. (λ u. (m .earlier k j l u, m .noOutput k j l u), λ u. m .empty k j l u v))),
+              ((m .levels k l, (m .inputs k l, m .outputs k l)), λ j v u. m .lower k j l u),
+            ),
+          ),
+    )
+  where
+    below : (k : ℕ) {j : ℕ} → j < arity (recordAt bytes k .kind) → j < slots
+    below k u = omega (arith, arity-slots (recordAt bytes k .kind))
+
+-- what passing 1 to 7 means
+pub input-passed : (s : ℕ) (source : List ℕ) → inputChecks s source ≡ Passed → Input s source
+input-passed s source e =
+    let h = then-passed (check 1 0 (badCapacity s)) (sourceChecks source) .0 e in
+    let c = or-none (ltb s 2) (ltb 4 s) .0 (check-passed 1 0 (badCapacity s) .0 (h .0)) in
+    record {
+      low = ltb-false s 2 (c .0);
+      high = ltb-false 4 s (c .1);
+      isSource = source-passed source .0 (h .1);
+    }
