@@ -1,0 +1,171 @@
+-- The promises about the call: its answer is a refusal exactly by its checks, and otherwise what is counted from the driver's row.
+use Prim.Native.Nat.{ℕ, _<_}
+use mathlib.Core.Path.{_≡_, refl, sym, _∙_, ap, subst}
+use mathlib.Core.Bool.{Bool, true, false, not}
+use mathlib.Core.List.{List}
+use mathlib.Core.Logic.{_↔_, inl, inr, ⊎-elim}
+use native.Mathlib.Decide.{decLt}
+use native.Mathlib.Omega.{arith}
+use borrow.Author.Tests.{leb-false, lt-leb, not-false, not-true}
+use Rattle.facts.specs.declared.Checked.{Checked}
+use Rattle.facts.specs.declared.Checked.the-variants as checked
+use Rattle.facts.specs.Refusals.{First, FirstAt}
+use Rattle.facts.proofs.Refusals.{exact, rows-before, one-row, first-check, first-after}
+use Rattle.facts.proofs.Reflect.{check-passed, then-passed}
+use Rattle.netlist.specs.Kinds.{isDriver, majority}
+use Rattle.netlist.specs.Records.{netlist, recordAt, recordCount}
+use Rattle.netlist.specs.Checks.{inputChecks}
+use Rattle.netlist.specs.Source.{Source}
+use Rattle.netlist.specs.declared.Record.{Record}
+use Rattle.netlist.proofs.Records.{record-past}
+use Rattle.netlist.proofs.Source.{input-passed}
+use Rattle.netlist.proofs.Refusals.{input-rows, input-first}
+use Rattle.netlist.specs.Source.{Input}
+use Rattle.fanout.specs.declared.Count.{Count}
+use Rattle.fanout.specs.declared.Count.the-variants.{Fewest, NoTree, Refused}
+use Rattle.fanout.specs.Nets.{row}
+use Rattle.fanout.specs.Trees.{Net, netOf}
+use Rattle.fanout.specs.Answer.{treeCount, driverCapacity, unlessRefused, countChecks, countAnswer}
+use Rattle.fanout.specs.Promises.{
+  Says,
+  Asked,
+  NoTreeExactly,
+  FewestExactly,
+  RefusedExactly,
+  NoDriver,
+  CountFails,
+  CountExact,
+}
+use Rattle.fanout.proofs.Rows.{row-of-net}
+use Rattle.fanout.proofs.Promises.{count-true}
+
+tree-refused : (n p : ℕ) → NoTree ≡ Refused n p → ⊥
+tree-refused n p e = let z : _≡_ {A = ℕ} 0 1 = cc in omega arith
+
+fewest-refused : (k n p : ℕ) → Fewest k ≡ Refused n p → ⊥
+fewest-refused k n p e = let z : _≡_ {A = ℕ} 0 1 = cc in omega arith
+
+module _ (s : ℕ) (source : List ℕ) (d : ℕ) where
+  abbrev counted : Count
+  counted = treeCount driverCapacity s (row (netlist source) d)
+
+  abbrev net : Net
+  net = netOf (netlist source) d
+
+  -- the checks pass exactly if a driver is asked for
+  asked : (countChecks s source d ≡ checked.Passed) → Asked s source d
+  asked e =
+      let h = then-passed (inputChecks s source) _ .0 e in
+      record { passed = h .0; driver = not-false _ (check-passed 20 d _ .0 (h .1)) }
+
+  passes : Asked s source d → countChecks s source d ≡ checked.Passed
+  passes a =
+      then-passed (inputChecks s source) _ .1 (a .passed, check-passed 20 d _ .1 (ap not (a .driver)))
+
+  -- the answer, by the checks
+  by-checks : (c : Checked) → countChecks s source d ≡ c → countAnswer s source d ≡ unlessRefused c counted
+  unfolding countAnswer
+  by-checks c e = ap (λ (x : Checked). unlessRefused x counted) e
+
+  -- what is counted is true of the net
+  true-of : Asked s source d → Says driverCapacity s net counted
+  true-of a =
+      let i = input-passed s source (a .passed) in
+      count-true driverCapacity s net (row (netlist source) d) (omega (arith, i .low))
+      (row-of-net (netlist source) d (i .isSource .isSource))
+
+  -- an answer other than a refusal is asked for, counted, and true of the net
+  answered : (c : Checked) → countChecks s source d ≡ c → (a : Count) → ((n p : ℕ) → a ≡ Refused n p → ⊥) →
+      countAnswer s source d ≡ a → Asked s source d × Says driverCapacity s net a
+  answered checked.Passed e a other h =
+      (asked e, subst (Says driverCapacity s net) (sym (by-checks checked.Passed e) ∙ h) (true-of (asked e)))
+  answered (checked.Refused n p) e a other h = absurd (other n p (sym h ∙ by-checks (checked.Refused n p) e))
+
+-- two answers that are true of one net are one
+says-once : (c s : ℕ) (net : Net) (a b : Count) → Says c s net a → Says c s net b → a ≡ b
+says-once c s net (Fewest m) (Fewest n) x y =
+    ap Fewest (omega (arith, x .least (y .tree) (y .legal), y .least (x .tree) (x .legal), x .size, y .size))
+says-once c s net (Fewest m) NoTree x y = absurd (y (x .tree) (x .legal))
+says-once c s net NoTree (Fewest n) x y = absurd (x (y .tree) (y .legal))
+says-once c s net NoTree NoTree x y = refl
+says-once c s net (Fewest m) (Refused n p) x y = absurd y
+says-once c s net NoTree (Refused n p) x y = absurd y
+says-once c s net (Refused n p) b x y = absurd x
+
+-- asked for a driver, the call gives the one answer that is true of its net
+gives : (s : ℕ) (source : List ℕ) (d : ℕ) (a : Count) →
+    Asked s source d → Says driverCapacity s (netOf (netlist source) d) a → countAnswer s source d ≡ a
+gives s source d a q says =
+    by-checks s source d checked.Passed (passes s source d q)
+    ∙ says-once driverCapacity s (netOf (netlist source) d) (counted s source d) a (true-of s source d q) says
+
+pub no-tree-exactly : NoTreeExactly
+no-tree-exactly s source d = (
+  answered s source d (countChecks s source d) refl NoTree tree-refused,
+  λ x. gives s source d NoTree (x .0) (x .1),
+)
+
+pub fewest-exactly : FewestExactly
+fewest-exactly s source d n = (
+  answered s source d (countChecks s source d) refl (Fewest n) (fewest-refused n),
+  λ x. gives s source d (Fewest n) (x .0) (x .1),
+)
+
+-- in a source 20 is answered exactly for a record that is absent or an output
+driver-is : (source : List ℕ) (d : ℕ) → Source source → (not (isDriver (recordAt source d .kind)) ≡ true) ↔ NoDriver source d
+driver-is source d h =
+    (there, ⊎-elim (λ l. none (omega (arith, ap (λ (r : Record). r .kind) (record-past source d l)))) (λ e. none (omega arith)))
+  where
+    none : majority < recordAt source d .kind → not (isDriver (recordAt source d .kind)) ≡ true
+    none l = ap not (lt-leb (recordAt source d .kind) majority l)
+
+    there : not (isDriver (recordAt source d .kind)) ≡ true → NoDriver source d
+    there e =
+        elim (decLt d (recordCount source)) [
+          | yes l ↦ inr (omega (arith, leb-false (recordAt source d .kind) majority (not-true _ e), h .isSource .kinds d l))
+          | no g ↦ inl (omega arith)
+        ]
+
+count-first : (s : ℕ) (source : List ℕ) (d : ℕ) → First (CountFails s source d) (countChecks s source d)
+count-first s source d =
+    first-after (rows-before 4 (input-rows s source) (λ n p f. omega (arith, one-row 20 d (NoDriver source d) n p f)))
+    (input-first s source)
+    (λ e. first-check 20 d (driver-is source d (input-passed s source e .isSource)))
+
+pub count-exact : CountExact
+count-exact s source d = exact (count-first s source d)
+
+pub refused-exactly : RefusedExactly
+refused-exactly s source d number place = (there (countChecks s source d) refl, back)
+  where
+    there : (c : Checked) → countChecks s source d ≡ c → countAnswer s source d ≡ Refused number place →
+        FirstAt (CountFails s source d) number place
+    there checked.Passed e h =
+        absurd
+        (subst (Says driverCapacity s (netOf (netlist source) d)) (sym (by-checks s source d checked.Passed e) ∙ h)
+        (true-of s source d (asked s source d e)))
+    there (checked.Refused n p) e h =
+        count-first s source d .fails number place (cc (by-checks s source d (checked.Refused n p) e))
+
+    back : FirstAt (CountFails s source d) number place → countAnswer s source d ≡ Refused number place
+    back f =
+        by-checks s source d (checked.Refused number place) (count-exact s source d .refused number place .1 f)
+
+-- the call's answer, with premises as the code has them
+module _ (s : ℕ) (source : List ℕ) (d : ℕ) (c : Checked) (e : c ≡ inputChecks s source) where
+  pub call-input : c ≡ checked.Passed → Input s source
+  call-input p = input-passed s source (sym e ∙ p)
+
+  pub call-refused : (number place : ℕ) → c ≡ checked.Refused number place → Refused number place ≡ countAnswer s source d
+  unfolding countAnswer
+  call-refused number place p = rw (← e, p)
+
+  module _ (kind : ℕ) (b : Bool) (k : kind ≡ recordAt source d .kind) (q : b ≡ isDriver kind) where
+    pub call-counted : (a : Count) → c ≡ checked.Passed → b ≡ true →
+        a ≡ treeCount driverCapacity s (row (netlist source) d) → a ≡ countAnswer s source d
+    unfolding countAnswer
+    call-counted a p t h = h ∙ rw (← e, p, ← k, ← q, t)
+
+    pub call-no-driver : c ≡ checked.Passed → b ≡ false → Refused 20 d ≡ countAnswer s source d
+    unfolding countAnswer
+    call-no-driver p t = rw (← e, p, ← k, ← q, t)

@@ -1,0 +1,260 @@
+-- Laws of filling the row of one driver, with premises as the code has them: one slot, one record, all records.
+use Prim.Native.Nat.{ℕ, suc, _+_, _-_, _≤_, _<_, _^_}
+use mathlib.Core.Path.{_≡_, refl, sym, _∙_, ap, subst}
+use mathlib.Core.Bool.{Bool, true, false, cond}
+use mathlib.Core.List.{List}
+use native.Mathlib.Omega.{arith}
+use lib.ListN.{length, getD, length-set, length-replicate}
+use native.Mathlib.Numerals.{add-one}
+use lib.Dec.{ltb, eqb}
+use borrow.Author.Tests.{eq-eqb, ne-eqb, lt-ltb, le-ltb, ltb-true, ltb-false}
+use Rattle.facts.proofs.Bools.{and-i, and-l}
+use Rattle.facts.specs.Sums.{bit, sum, count, count₂}
+use Rattle.facts.proofs.Sums.{count-suc, count-false, count-le, count-stop, count₂-le}
+use Rattle.netlist.proofs.Checks.{arity-slots}
+use Rattle.fanout.proofs.Rows.{added-at, level-test, sink-above, zeros-at}
+use Rattle.netlist.specs.declared.Record.{Record}
+use Rattle.netlist.specs.Kinds.{slots, topLevel, arity}
+use Rattle.netlist.specs.Records.{Netlist, slot, used, fanin, names}
+use Rattle.netlist.specs.Source.{IsSource}
+use Rattle.fanout.specs.Nets.{sinkAt, added, row}
+use Rattle.fanout.specs.Filling.{sinksSoFar, Filled, Filling, Empty, Room, Slot, farther, rowWith, farWith}
+
+-- one slot, whose content is t
+module _ (d below : ℕ) (r : Record) (j t : ℕ) (p : t ≡ slot r j) where
+  pub other-row : (row : List ℕ) → (t ≡ d → ⊥) → row ≡ rowWith d below r j row
+  other-row row h = rw (ne-eqb (slot r j) d (λ e. h (p ∙ e)))
+
+  pub other-far : (far : ℕ) → (t ≡ d → ⊥) → far ≡ farWith d below r j far
+  other-far far h = rw (ne-eqb (slot r j) d (λ e. h (p ∙ e)))
+
+  pub sink-level : (row : List ℕ) → Slot row d below r j → t ≡ d → below ≤ r .level
+  sink-level row h e = h .above (sym p ∙ e)
+
+  pub sink-room : (row : List ℕ) → Slot row d below r j → t ≡ d → Room row (r .level - below)
+  sink-room row h e = h .room (sym p ∙ e)
+
+  pub sink-row : (row after : List ℕ) → t ≡ d → after ≡ added row (r .level - below) → after ≡ rowWith d below r j row
+  sink-row row after e h = rw (eq-eqb (slot r j) d (sym p ∙ e)) h
+
+  pub sink-farther : (far : ℕ) → t ≡ d → far < r .level - below → r .level - below ≡ farWith d below r j far
+  sink-farther far e h = rw (eq-eqb (slot r j) d (sym p ∙ e), lt-ltb far (r .level - below) h)
+
+  pub sink-nearer : (far : ℕ) → t ≡ d → r .level - below ≤ far → far ≡ farWith d below r j far
+  sink-nearer far e h = rw (eq-eqb (slot r j) d (sym p ∙ e), le-ltb far (r .level - below) h)
+
+farther-le : (far x b : ℕ) → far ≤ b → x ≤ b → farther far x ≤ b
+farther-le far x b g h = go (ltb far x)
+  where
+    go : (t : Bool) → cond t x far ≤ b
+    go true = h
+    go false = g
+
+le-farther : (far x : ℕ) → (far ≤ farther far x) × (x ≤ farther far x)
+le-farther far x = go (ltb far x) refl
+  where
+    go : (t : Bool) → ltb far x ≡ t → (far ≤ cond t x far) × (x ≤ cond t x far)
+    go true e = (omega (arith, ltb-true far x e), omega arith)
+    go false e = (omega arith, omega (arith, ltb-false far x e))
+
+-- a record whose slots are all counted
+next-record : (m : Netlist) (d i x : ℕ) → sinksSoFar m d (suc i) 0 x ≡ sinksSoFar m d i slots x
+unfolding count₂ count sum
+next-record m d i x = omega arith
+
+module _ (m : Netlist) (d i j : ℕ) (source : IsSource m) (inside : i < m .size) (l : j < arity (m .at i .kind)) where
+  -- a slot that names another record is no sink
+  no-sink : (x : ℕ) → eqb (fanin m i j) d ≡ false → sinkAt m d x i j ≡ false
+  no-sink x e = rw (lt-ltb j (arity (m .at i .kind)) l, e) refl
+
+  stands-above : eqb (fanin m i j) d ≡ true → m .at d .level < m .at i .level
+  stands-above e = sink-above m d source i j inside (and-i (used m i j) _ (lt-ltb j (arity (m .at i .kind)) l) e)
+
+  -- one that names d is a sink at its level's distance alone
+  is-sink : (x : ℕ) → eqb (fanin m i j) d ≡ true → sinkAt m d x i j ≡ eqb (m .at i .level - m .at d .level) x
+  is-sink x e =
+      rw (lt-ltb j (arity (m .at i .kind)) l, e)
+      (level-test (m .at i .level) (m .at d .level) x (stands-above e))
+
+  filled-more : (row : List ℕ) (far : ℕ) → Filled m d i j row far →
+      Filled m d i (suc j) (rowWith d (m .at d .level) (m .at i) j row) (farWith d (m .at d .level) (m .at i) j far)
+  filled-more row far f = go (eqb (fanin m i j) d) refl
+    where
+      at : ℕ
+      at = m .at i .level - m .at d .level
+
+      go : (b : Bool) → eqb (fanin m i j) d ≡ b → Filled m d i (suc j) (cond b (added row at) row) (cond b (farther far at) far)
+      go false e =
+          record {
+            long = f .long;
+            entry = λ x h. omega (arith, f .entry x h, count-false (sinkAt m d x i) j (no-sink x e));
+            within = f .within;
+            past = f .past;
+          }
+      go true e =
+          let h : at ≤ topLevel = omega (arith, source .levels i inside) in
+          record {
+            long = length-set row at _ ∙ f .long;
+            entry = λ x l.
+                omega (
+                  arith,
+                  added-at row at x (omega (arith, f .long)),
+                  f .entry x l,
+                  count-suc (sinkAt m d x i) j,
+                  ap bit (is-sink x e),
+                );
+            within = farther-le far at topLevel (f .within) h;
+            past = λ x l.
+                added-at row at x (omega (arith, f .long))
+                ∙ rw (ne-eqb at x (λ y. omega (arith, le-farther far at)), f .past x (omega (arith, le-farther far at)))
+                (omega arith);
+          }
+
+-- one record r, which uses a slots: those below j are counted
+pub record Slots (m : Netlist) (d below i : ℕ) (r : Record) (a : ℕ) (row : List ℕ) (far j : ℕ) : Type 0 where
+  pub isSource : IsSource m
+  pub driver : below ≡ m .at d .level
+  pub inside : i < m .size
+  pub read : r ≡ m .at i
+  pub uses : a ≡ arity (r .kind)
+  pub within : j ≤ a
+  pub filled : Filled m d i j row far
+
+module _ (m : Netlist) (d below i : ℕ) (r : Record) (a : ℕ) where
+  pub slots-start : (row : List ℕ) (far : ℕ) → Filling m d below i row far → r ≡ m .at i → a ≡ arity (r .kind) →
+      Slots m d below i r a row far 0
+  slots-start row far f q u =
+      record {
+        isSource = f .isSource;
+        driver = f .driver;
+        inside = f .inside;
+        read = q;
+        uses = u;
+        within = omega arith;
+        filled = f .filled;
+      }
+
+  module _ (row : List ℕ) (far j : ℕ) (h : Slots m d below i r a row far j) where
+    pub slots-room : j < a → Slot row d below r j
+    slots-room l =
+        record {
+          above = λ e. omega (arith, stands-above m d i j (h .isSource) (h .inside) used-slot (hit e), level, h .driver);
+          room = λ e. record { inRow = inRow; fits = fits };
+        }
+      where
+        used-slot : j < arity (m .at i .kind)
+        used-slot = subst (λ (r : Record). j < arity (r .kind)) (h .read) (omega (arith, h .uses))
+
+        level : r .level ≡ m .at i .level
+        level = ap (λ (r : Record). r .level) (h .read)
+
+        hit : slot r j ≡ d → eqb (fanin m i j) d ≡ true
+        hit e = eq-eqb (fanin m i j) d (ap (λ (r : Record). slot r j) (sym (h .read)) ∙ e)
+
+        inRow : r .level - below ≤ topLevel
+        inRow = omega (arith, h .isSource .levels i (h .inside), level)
+
+        fits : getD row (r .level - below) 0 + 1 < 2 ^ 32
+        fits =
+            omega (
+              arith,
+              h .filled .entry (r .level - below) inRow,
+              count₂-le (sinkAt m d (r .level - below)) slots i,
+              count-le (sinkAt m d (r .level - below) i) j,
+              arity-slots (m .at i .kind),
+              used-slot,
+              h .inside,
+              h .isSource .few,
+            )
+
+    pub slots-more : (row′ : List ℕ) (far′ : ℕ) → j < a → row′ ≡ rowWith d below r j row → far′ ≡ farWith d below r j far →
+        Slots m d below i r a row′ far′ (j + 1)
+    slots-more row′ far′ l e g =
+        record {
+          isSource = h .isSource;
+          driver = h .driver;
+          inside = h .inside;
+          read = h .read;
+          uses = h .uses;
+          within = omega arith;
+          filled =
+              rw (add-one j, e, g, h .driver, h .read)
+              (filled-more m d i j (h .isSource) (h .inside)
+              (subst (λ (r : Record). j < arity (r .kind)) (h .read) (omega (arith, h .uses))) row far (h .filled));
+        }
+
+    pub slots-end : a ≤ j → Filled m d (suc i) 0 row far
+    slots-end l =
+        record {
+          long = h .filled .long;
+          entry = λ x b. omega (arith, h .filled .entry x b, all x, next-record m d i x);
+          within = h .filled .within;
+          past = h .filled .past;
+        }
+      where
+        uses-all : j ≡ arity (m .at i .kind)
+        uses-all = subst (λ (r : Record). j ≡ arity (r .kind)) (h .read) (omega (arith, h .uses, h .within))
+
+        all : (x : ℕ) → count (sinkAt m d x i) slots ≡ count (sinkAt m d x i) j
+        all x =
+            count-stop (sinkAt m d x i) j slots (omega (arith, uses-all, arity-slots (m .at i .kind)))
+            (λ y b e.
+            omega (
+              arith,
+              uses-all,
+              ltb-true y (arity (m .at i .kind)) (and-l (used m i y) _ (and-l (names m d i y) _ e)),
+            ))
+
+-- all records: those below k are counted
+pub record Records (m : Netlist) (d below n : ℕ) (row : List ℕ) (far k : ℕ) : Type 0 where
+  pub isSource : IsSource m
+  pub driver : below ≡ m .at d .level
+  pub size : n ≡ m .size
+  pub within : k ≤ n
+  pub filled : Filled m d k 0 row far
+
+module _ (m : Netlist) (d below n : ℕ) where
+  pub records-start : (row : List ℕ) → Empty m row → below ≡ m .at d .level → n ≡ m .size → Records m d below n row 0 0
+  unfolding count₂ count sum
+  records-start row h b s =
+      record {
+        isSource = h .isSource;
+        driver = b;
+        size = s;
+        within = omega arith;
+        filled =
+            record {
+              long = ap length (h .zeros) ∙ length-replicate {A = ℕ} (suc topLevel) 0;
+              entry = λ x l. zero-at x;
+              within = omega arith;
+              past = λ x l. zero-at x;
+            };
+      }
+    where
+      zero-at : (x : ℕ) → getD row x 0 ≡ 0
+      zero-at x = ap (λ (r : List ℕ). getD r x 0) (h .zeros) ∙ zeros-at (suc topLevel) x
+
+  module _ (row : List ℕ) (far k : ℕ) (h : Records m d below n row far k) where
+    pub records-room : k < n → Filling m d below k row far
+    records-room l =
+        record {
+          isSource = h .isSource;
+          driver = h .driver;
+          inside = omega (arith, h .size);
+          filled = h .filled;
+        }
+
+    pub records-more : (row′ : List ℕ) (far′ : ℕ) → k < n → Filled m d (suc k) 0 row′ far′ →
+        Records m d below n row′ far′ (k + 1)
+    records-more row′ far′ l f =
+        record {
+          isSource = h .isSource;
+          driver = h .driver;
+          size = h .size;
+          within = omega arith;
+          filled = rw (add-one k) f;
+        }
+
+    pub records-end : n ≤ k → Filled m d (m .size) 0 row far
+    records-end l =
+        subst (λ (k : ℕ). Filled m d k 0 row far) (let e : k ≡ m .size = omega (arith, h .size, h .within) in e) (h .filled)

@@ -1,0 +1,10 @@
+pub mod Nets
+pub mod Rows
+pub mod Least
+pub mod Built
+pub mod Promises
+pub mod Worked
+pub mod Call
+pub mod Filling
+pub mod Walking
+pub mod Numbers

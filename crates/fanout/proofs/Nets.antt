@@ -1,0 +1,110 @@
+-- Laws of one net's counts: rounding up, nodes and buffers per distance, their minimality, and the row's entries.
+use Prim.Native.Nat.{ℕ, zero, suc, _+_, _*_, _-_, _≤_, _<_, _/_}
+use mathlib.Core.Path.{_≡_, refl, ap}
+use mathlib.Core.List.{List}
+use native.Mathlib.Omega.{arith}
+use native.Mathlib.Nat.{mul-comm, mul-suc, div-lt-iff-lt-mul, lt-div-mul-add}
+use native.Mathlib.Decide.{decLt}
+use lib.ListN.{length, getD, drop, drop-of-length-le, List·getD-eq-default}
+use lib.Seq.{drop-cons}
+use Rattle.facts.specs.Sums.{sum}
+use Rattle.netlist.specs.Kinds.{topLevel}
+use Rattle.netlist.proofs.Lists.{length-tabulate, getD-tabulate}
+use Rattle.netlist.specs.Records.{Netlist}
+use Rattle.fanout.specs.Nets.{sinks, row, up, nodes, buffers, nodesAt, buffersAt, fewest}
+
+-- the least number that s times covers n
+pub up-le : (s n b : ℕ) → 0 < s → n ≤ s * b → up s n ≤ b
+up-le s n b h l =
+    omega (
+      arith,
+      div-lt-iff-lt-mul {k = s} {x = n + (s - 1)} {y = suc b} h .1 (omega (arith, mul-comm s b, mul-comm s (suc b), mul-suc s b)),
+    )
+
+pub le-up : (s n : ℕ) → 0 < s → n ≤ s * up s n
+le-up s n h = omega (arith, lt-div-mul-add {a = n + (s - 1)} h, mul-comm s (up s n))
+
+pub up-zero : (s : ℕ) → 0 < s → up s 0 ≡ 0
+up-zero s h = omega (arith, up-le s 0 0 h (omega arith))
+
+-- number q of n stands on one of the up s n
+pub div-up : (s q n : ℕ) → 0 < s → q < n → q / s < up s n
+div-up s q n h l =
+    div-lt-iff-lt-mul {k = s} {x = q} {y = up s n} h .1 (omega (arith, le-up s n h, mul-comm s (up s n)))
+
+-- past the row there is nothing
+pub nodes-past : (s : ℕ) (r : List ℕ) (k : ℕ) → length r ≤ k → nodesAt s r k ≡ 0
+unfolding nodes
+nodes-past s r k l = rw (drop-of-length-le r l) refl
+
+pub buffers-past : (s : ℕ) (r : List ℕ) (k : ℕ) → 0 < s → length r ≤ suc k → buffersAt s r k ≡ 0
+buffers-past s r k h l = rw (nodes-past s r (suc k) l) (up-zero s h)
+
+-- the nodes at a distance: its buffers and its sinks
+pub nodes-at : (s : ℕ) (r : List ℕ) (k : ℕ) → 0 < s → nodesAt s r k ≡ buffersAt s r k + getD r k 0
+unfolding nodes
+nodes-at s r k h =
+    elim (decLt k (length r)) [
+      | yes l ↦ ap (nodes s) (drop-cons r k 0 l)
+      | no g ↦
+          omega (
+            arith,
+            nodes-past s r k (omega arith),
+            buffers-past s r k h (omega arith),
+            List·getD-eq-default r 0 {n = k} (omega arith),
+          )
+    ]
+
+-- the buffers from a distance on: those there, and those further on
+pub none-past : (s : ℕ) (r : List ℕ) (k : ℕ) → length r ≤ k → buffers s (drop k r) ≡ 0
+unfolding buffers
+none-past s r k l = rw (drop-of-length-le r l) refl
+
+pub buffers-from : (s : ℕ) (r : List ℕ) (k : ℕ) → 0 < s →
+    buffers s (drop k r) ≡ buffersAt s r k + buffers s (drop (suc k) r)
+unfolding buffers
+buffers-from s r k h =
+    elim (decLt k (length r)) [
+      | yes l ↦ ap (buffers s) (drop-cons r k 0 l)
+      | no g ↦
+          omega (
+            arith,
+            none-past s r k (omega arith),
+            none-past s r (suc k) (omega arith),
+            buffers-past s r k h (omega arith),
+          )
+    ]
+
+-- the fewest buffers are those at each distance from 1 on
+buffers-sum : (s : ℕ) (r : List ℕ) (n : ℕ) → 0 < s →
+    fewest s r ≡ sum (λ k. buffersAt s r (suc k)) n + buffers s (drop (suc n) r)
+unfolding sum
+buffers-sum s r zero h = omega arith
+buffers-sum s r (suc n) h = omega (arith, buffers-sum s r n h, buffers-from s r (suc n) h)
+
+pub fewest-sum : (s : ℕ) (r : List ℕ) (n : ℕ) → 0 < s → length r ≤ suc n →
+    fewest s r ≡ sum (λ k. buffersAt s r (suc k)) n
+fewest-sum s r n h l = omega (arith, buffers-sum s r n h, none-past s r (suc n) l)
+
+-- whatever carries the sinks and itself at each distance has at least as many buffers at each
+module _ (s : ℕ) (r : List ℕ) (B : ℕ → ℕ) (h : 0 < s)
+    (carries : (k : ℕ) → 1 ≤ k → B (suc k) + getD r (suc k) 0 ≤ s * B k) where
+  minimal-from : (n k : ℕ) → length r ≤ k + n → 1 ≤ k → buffersAt s r k ≤ B k
+  minimal-from zero k l g = omega (arith, buffers-past s r k h (omega arith))
+  minimal-from (suc n) k l g =
+      up-le s _ (B k) h
+      (omega (arith, nodes-at s r (suc k) h, minimal-from n (suc k) (omega arith) (omega arith), carries k g))
+
+  pub minimal : (k : ℕ) → 1 ≤ k → buffersAt s r k ≤ B k
+  minimal k g = minimal-from (length r) k (omega arith) g
+
+  pub minimal-nodes : nodesAt s r 1 ≤ B 1 + getD r 1 0
+  minimal-nodes = omega (arith, nodes-at s r 1 h, minimal 1 (omega arith))
+
+pub row-length : (m : Netlist) (d : ℕ) → length (row m d) ≡ suc topLevel
+unfolding row
+row-length m d = length-tabulate (sinks m d) (suc topLevel)
+
+pub row-at : (m : Netlist) (d x : ℕ) → x ≤ topLevel → getD (row m d) x 0 ≡ sinks m d x
+unfolding row
+row-at m d x l = getD-tabulate (sinks m d) (suc topLevel) x 0 (omega arith)

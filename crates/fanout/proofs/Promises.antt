@@ -1,0 +1,44 @@
+-- The promises about trees, from the bound (Least) and the built tree (Built).
+use mathlib.Core.Path.{_≡_, refl}
+use mathlib.Core.Bool.{Bool, true, false, cond}
+use Rattle.facts.proofs.Bools.{true-false}
+use borrow.Author.Tests.{leb-true, le-leb}
+use Rattle.fanout.specs.Nets.{sinks, nodesAt, hasTree, fewest}
+use Rattle.fanout.specs.declared.Count.the-variants.{Fewest, NoTree}
+use Rattle.fanout.specs.Promises.{TreeExactly, LeastAtEach, LeastInAll, FewestAttained, CountTrue, Says, RowTrue, RowOfNet}
+use Rattle.netlist.specs.Records.{netlist}
+use Rattle.fanout.proofs.Nets.{row-at}
+use Rattle.fanout.proofs.Rows as rows
+use Rattle.fanout.proofs.Least.{bound-at, bound-in-all, few-left}
+use Rattle.fanout.proofs.Built.{attained}
+
+pub least-at-each : LeastAtEach
+least-at-each c s net r pos counts t legal = bound-at c s net r pos counts t legal
+
+pub least-in-all : LeastInAll
+least-in-all c s net r pos counts t legal = bound-in-all c s net r pos counts t legal
+
+pub fewest-attained : FewestAttained
+fewest-attained c s net r pos counts e = attained s net r pos counts c (leb-true (nodesAt s r 1) c e)
+
+pub tree-exactly : TreeExactly
+tree-exactly c s net r pos counts = (
+  λ f. le-leb (nodesAt s r 1) c (few-left c s net r pos counts (f .0) (f .1)),
+  λ e. let a = fewest-attained c s net r pos counts e in (a .tree, a .legal),
+)
+
+pub count-true : CountTrue
+count-true c s net r pos counts = go (hasTree c s r) refl
+  where
+    go : (b : Bool) → hasTree c s r ≡ b → Says c s net (cond b (Fewest (fewest s r)) NoTree)
+    go true e =
+        let a = fewest-attained c s net r pos counts e in
+        record { tree = a .tree; legal = a .legal; size = a .inAll; least = least-in-all c s net r pos counts }
+    go false e = λ t legal. true-false (hasTree c s r) (tree-exactly c s net r pos counts .0 (t, legal)) e
+
+pub row-true : RowTrue
+unfolding sinks
+row-true source d x l = row-at (netlist source) d x l
+
+pub row-of-net : RowOfNet
+row-of-net source is d = rows.row-of-net (netlist source) d (is .isSource)

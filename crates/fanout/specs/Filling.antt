@@ -1,0 +1,83 @@
+-- What the count's code keeps while it fills the row of one driver and walks it downwards.
+use Prim.Native.Nat.{ℕ, suc, _+_, _*_, _-_, _≤_, _<_, _^_}
+use mathlib.Core.Path.{_≡_}
+use mathlib.Core.Bool.{cond}
+use mathlib.Core.List.{List}
+use lib.ListN.{length, getD, drop, replicate}
+use lib.Dec.{ltb, eqb}
+use Rattle.facts.specs.Sums.{count, count₂}
+use Rattle.netlist.specs.declared.Record.{Record}
+use Rattle.netlist.specs.Kinds.{slots, topLevel, sourceLimit}
+use Rattle.netlist.specs.Records.{Netlist, slot}
+use Rattle.netlist.specs.Source.{IsSource}
+use Rattle.fanout.specs.Nets.{sinkAt, added, nodesAt, buffers}
+
+-- sinks of d at distance x among the records below i and the first j slots of record i
+abbrev pub sinksSoFar : Netlist → ℕ → ℕ → ℕ → ℕ → ℕ
+sinksSoFar m d i j x = count₂ (sinkAt m d x) slots i + count (sinkAt m d x i) j
+
+-- a row holds the sinks so far, none of them beyond `far`
+pub record Filled (m : Netlist) (d i j : ℕ) (r : List ℕ) (far : ℕ) : Type 0 where
+  pub long : length r ≡ suc topLevel
+  pub entry : (x : ℕ) → x ≤ topLevel → getD r x 0 ≡ sinksSoFar m d i j x
+  pub within : far ≤ topLevel
+  pub past : (x : ℕ) → far < x → getD r x 0 ≡ 0
+
+-- the driver of a source, its level, and a row filled up to a record
+pub record Filling (m : Netlist) (d below i : ℕ) (r : List ℕ) (far : ℕ) : Type 0 where
+  pub isSource : IsSource m
+  pub driver : below ≡ m .at d .level
+  pub inside : i < m .size
+  pub filled : Filled m d i 0 r far
+
+-- a source, and a row of zeros
+pub record Empty (m : Netlist) (r : List ℕ) : Type 0 where
+  pub isSource : IsSource m
+  pub zeros : r ≡ replicate (suc topLevel) 0
+
+-- there is room for one more sink at a distance
+pub record Room (r : List ℕ) (x : ℕ) : Type 0 where
+  pub inRow : x ≤ topLevel
+  pub fits : getD r x 0 + 1 < 2 ^ 32
+
+-- slot j of a record that stands above the driver, where it names it, and room for it
+pub record Slot (row : List ℕ) (d below : ℕ) (r : Record) (j : ℕ) : Type 0 where
+  pub above : slot r j ≡ d → below ≤ r .level
+  pub room : slot r j ≡ d → Room row (r .level - below)
+
+-- the larger of two distances
+abbrev pub farther : ℕ → ℕ → ℕ
+farther far x = cond (ltb far x) x far
+
+-- the row and its largest distance after slot j of a record: one more sink where it names d
+abbrev pub rowWith : ℕ → ℕ → Record → ℕ → List ℕ → List ℕ
+rowWith d below r j row = cond (eqb (slot r j) d) (added row (r .level - below)) row
+
+abbrev pub farWith : ℕ → ℕ → Record → ℕ → ℕ → ℕ
+farWith d below r j far = cond (eqb (slot r j) d) (farther far (r .level - below)) far
+
+-- the most sinks of a net
+abbrev pub sinkLimit : ℕ
+sinkLimit = slots * sourceLimit
+
+-- a capacity, and no more nodes than a net has sinks
+pub record Few (s n : ℕ) : Type 0 where
+  pub low : 2 ≤ s
+  pub high : s ≤ 4
+  pub nodes : n ≤ sinkLimit
+
+-- a row that can be walked: few nodes at each distance, none beyond `far`
+pub record Walkable (s : ℕ) (r : List ℕ) (far : ℕ) : Type 0 where
+  pub low : 2 ≤ s
+  pub high : s ≤ 4
+  pub within : far ≤ topLevel
+  pub past : (x : ℕ) → far < x → getD r x 0 ≡ 0
+  pub few : (k : ℕ) → 0 < k → nodesAt s r k ≤ sinkLimit
+
+-- the walk down to distance k: the nodes there, and the buffers from there on
+pub record Walked (s : ℕ) (r : List ℕ) (k nodes total : ℕ) : Type 0 where
+  pub above : 0 < k
+  pub within : k ≤ suc topLevel
+  pub nodesThere : nodes ≡ nodesAt s r k
+  pub buffersFrom : total ≡ buffers s (drop k r)
+  pub small : total + sinkLimit * k ≤ sinkLimit * suc topLevel

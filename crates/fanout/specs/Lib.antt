@@ -1,0 +1,6 @@
+pub mod Nets
+pub mod Trees
+pub mod Answer
+pub mod Filling
+pub mod Worked
+pub mod Promises

@@ -1,0 +1,154 @@
+// One net: its sinks by distance and the fewest buffers of a tree.
+ghost use mathlib.Core.Path.{_≡_};
+ghost use Prim.Native.Nat.{suc};
+ghost use Rattle.netlist.specs.Records.{netlist, recordCount};
+ghost use Rattle.netlist.specs.Source.{Input};
+ghost use Rattle.fanout.specs.Nets.{added, row};
+ghost use Rattle.fanout.specs.Nets;
+ghost use Rattle.fanout.specs.Answer.{treeCount, driverCapacity, countAnswer};
+ghost use Rattle.fanout.specs.Filling.{Filled, Filling, Empty, Room, Slot, rowWith, farWith, Few, Walkable};
+use facts::Checked;
+use netlist::Record;
+
+// The count of one net: the fewest buffers of a legal tree, no tree, or a refusal with its number and place.
+pub enum Count {
+    Fewest(u32),
+    NoTree,
+    Refused(u32, u32),
+}
+
+// Distances of a row, from 0 on.
+const DISTANCES: usize = 4096;
+
+// Slots that a driver may feed.
+const DRIVER_CAPACITY: u32 = 1;
+
+// One more sink at a distance.
+fn add_sink(row: &mut [u32; DISTANCES], distance: usize)
+    requires { ⌜ Room (now row) distance ⌝ }
+    ensures { λ r. ⌜ now (row .exit) ≡ added (now (row .entry)) distance ⌝ }
+{
+    row[distance] += 1;
+}
+
+// Slot j of a record: one more sink where it names the driver. Answers the largest distance so far.
+fn add_slot(
+    row: &mut [u32; DISTANCES],
+    far: usize,
+    driver: usize,
+    below: u16,
+    r: Record,
+    j: usize,
+) -> usize
+    requires { ⌜ Slot (now row) driver below r j ⌝ }
+    ensures { λ f. ⌜ (now (row .exit) ≡ rowWith driver below r j (now (row .entry))) × (f ≡ farWith driver below r j far) ⌝ }
+{
+    if netlist::slot(r, j) as usize != driver {
+        return far;
+    }
+    let distance = (r.level - below) as usize;
+    add_sink(row, distance);
+    if far < distance { distance } else { far }
+}
+
+// The sinks among the slots of record k. Answers the largest distance so far.
+fn add_record(
+    source: &[u8],
+    row: &mut [u32; DISTANCES],
+    far: usize,
+    driver: usize,
+    below: u16,
+    k: usize,
+) -> usize
+    requires { ⌜ Filling (netlist (now source)) driver below k (now row) far ⌝ }
+    ensures { λ f. ⌜ Filled (netlist (now (source .entry))) driver (suc k) 0 (now (row .exit)) f ⌝ }
+{
+    let r = netlist::record_at(source, k);
+    let n = netlist::arity(r.kind);
+    let mut most = far;
+    let mut j: usize = 0;
+    while j < n {
+        most = add_slot(row, most, driver, below, r, j);
+        j += 1;
+    }
+    most
+}
+
+// The row of the driver's net. Answers the largest distance.
+fn fill(source: &[u8], row: &mut [u32; DISTANCES], driver: usize) -> usize
+    requires { ⌜ Empty (netlist (now source)) (now row) ⌝ }
+    ensures { λ f. ⌜ Filled (netlist (now (source .entry))) driver (recordCount (now (source .entry))) 0 (now (row .exit)) f ⌝ }
+{
+    let below = netlist::level_at(source, driver);
+    let n = netlist::record_count(source);
+    let mut far: usize = 0;
+    let mut k: usize = 0;
+    while k < n {
+        far = add_record(source, row, far, driver, below, k);
+        k += 1;
+    }
+    far
+}
+
+// n / s, rounded up.
+fn up(s: u32, n: u32) -> u32
+    requires { ⌜ Few s n ⌝ }
+    ensures { λ r. ⌜ r ≡ Nets.up s n ⌝ }
+{
+    if s == 2 {
+        return (n + 1) / 2;
+    }
+    if s == 3 {
+        return (n + 2) / 3;
+    }
+    (n + 3) / 4
+}
+
+// The walk down from the largest distance: the nodes at each distance and the buffers from there on.
+fn walk(row: &[u32; DISTANCES], far: usize, s: u32) -> Count
+    requires { ⌜ Walkable s (now row) far ⌝ }
+    ensures { λ r. ⌜ r ≡ treeCount driverCapacity s (now (row .entry)) ⌝ }
+{
+    let mut k = far + 1;
+    let mut nodes: u32 = 0;
+    let mut buffers: u32 = 0;
+    while 1 < k {
+        k -= 1;
+        let carriers = up(s, nodes);
+        buffers += carriers;
+        nodes = carriers + row[k];
+    }
+    if nodes <= DRIVER_CAPACITY {
+        Count::Fewest(buffers)
+    } else {
+        Count::NoTree
+    }
+}
+
+// The count of a driver's net.
+fn count_driver(source: &[u8], s: u32, driver: usize) -> Count
+    requires { ⌜ Input s (now source) ⌝ }
+    ensures { λ r. ⌜ r ≡ treeCount driverCapacity s (row (netlist (now (source .entry))) driver) ⌝ }
+{
+    let mut row = [0u32; DISTANCES];
+    let far = fill(source, &mut row, driver);
+    walk(&row, far, s)
+}
+
+// The count of one net: checks 1 to 7, then 20, then the fewest buffers or no tree.
+pub fn count_net(source: &[u8], capacity: u32, record: u32) -> Count
+    ensures { λ r. ⌜ r ≡ countAnswer capacity (now (source .entry)) «record» ⌝ }
+{
+    let checked = netlist::check_input(capacity, source);
+    match checked {
+        Checked::Passed => {
+            let driver = record as usize;
+            if netlist::is_driver(netlist::kind_at(source, driver)) {
+                count_driver(source, capacity, driver)
+            } else {
+                Count::Refused(20, record)
+            }
+        }
+        Checked::Refused(number, place) => Count::Refused(number, place),
+    }
+}
