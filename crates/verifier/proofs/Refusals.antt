@@ -1,0 +1,190 @@
+-- The refusals of checks 11 to 17 are exact: each test is its condition, and the checks stand in the table's order. The trace of
+-- check 16 is that of document 01 because 14 and 15 have passed.
+use Prim.Native.Nat.{ℕ, suc, _%_, _<_, _≤_}
+use native.Mathlib.Omega.{arith}
+use mathlib.Core.Path.{_≡_, sym, _∙_}
+use mathlib.Core.Logic.{⊎-elim, _↔_, _≢_}
+use mathlib.Core.Bool.{true, not}
+use mathlib.Core.List.{List}
+use lib.ListN.{length, getD-replicate}
+use lib.Dec.{ltb, leb, eqb}
+use Rattle.facts.specs.declared.Checked.{Checked}
+use Rattle.facts.specs.declared.Checked.the-variants.{Passed, Refused as Failed}
+use Rattle.facts.specs.Sums.{any}
+use Rattle.facts.specs.Refusals.{Fails, _or_, Each, First}
+use Rattle.facts.proofs.Sums.{any-some}
+use Rattle.facts.proofs.Reflect.{reflect, iff-sum, iff-pair, iff-trans, iff-some, less, most, same, unlike, both, either}
+use Rattle.facts.proofs.Refusals.{InRow, UpTo, Within, After, rows-before, one-row, within-one, within-or, within-before, first-check, first-then, first-after, first-scan, scan-rows, exact}
+use Rattle.netlist.specs.declared.Record.{Record}
+use Rattle.netlist.specs.Kinds.{width, slots, unused, topLevel, mappedLimit, output, buffer, arity}
+use Rattle.netlist.specs.Records.{Netlist, netlist, recordCount, blank, slot, fanin, feeds}
+use Rattle.netlist.specs.Checks.{ragged}
+use Rattle.netlist.proofs.Refusals.{input-first, input-rows}
+use Rattle.verifier.specs.declared.Verified.the-variants.{Refused}
+use Rattle.verifier.specs.Legal.{capacityOf}
+use Rattle.verifier.specs.Walking.{Placed}
+use Rattle.verifier.specs.Trace.{driver}
+use Rattle.verifier.specs.Checks.{badLength, badEmpty, differs, noBuffer, changed, foreign, badName, notOneLower, strays, placeChecks, traceCheck, feedCheck, legalChecks, mappedChecks, verifyChecks, verified, bufferCount}
+use Rattle.verifier.specs.Refusals.{BadLength, Changed, Foreign, BadNames, Unbalanced, Strays, KeepFails, SlotsFail, PlaceFails, TraceFails, FeedFails, LegalFails, MappedFails, VerifyFails, RefusedExactly}
+use Rattle.verifier.proofs.Trace.{driver-traces, traces-driver}
+use Rattle.verifier.proofs.Checks.{placed}
+
+length-is : (records : ℕ) (bytes : List ℕ) → (badLength records bytes ≡ true) ↔ BadLength records bytes
+length-is records bytes =
+    iff-trans (either (ragged bytes) _)
+    (iff-sum (unlike (length bytes % width) 0) (iff-trans (either _ _) (iff-sum (less (recordCount bytes) records) (less mappedLimit (recordCount bytes)))))
+
+-- a slot that a kind does not use differs
+empty-is :
+    (kind : ℕ) (a r : Record) →
+    (any (badEmpty kind a r) slots ≡ true) ↔ ((j : ℕ) × (j < slots) × ((arity kind ≤ j) × (slot r j ≢ slot a j)))
+empty-is kind a r =
+    iff-trans (any-some (badEmpty kind a r) slots)
+    (iff-some slots _ _ (λ j. iff-trans (both (leb (arity kind) j) (not (eqb (slot r j) (slot a j)))) (iff-pair (most (arity kind) j) (unlike (slot r j) (slot a j)))))
+
+changed-is : (n : Netlist) (k : ℕ) (r : Record) → (changed n k r ≡ true) ↔ Changed n k r
+changed-is n k r =
+    let a = n .at k in
+    iff-trans (both (ltb k (n .size)) (differs a r))
+    (iff-pair (less k (n .size))
+    (iff-trans (either (not (eqb (r .kind) (a .kind))) _)
+    (iff-sum (unlike (r .kind) (a .kind))
+    (iff-trans (either (not (eqb (r .inversion) (a .inversion))) _)
+    (iff-sum (unlike (r .inversion) (a .inversion))
+    (iff-trans (either (not (eqb (r .level) (a .level))) _)
+    (iff-sum (unlike (r .level) (a .level)) (empty-is (a .kind) a r))))))))
+
+foreign-is : (n : Netlist) (k : ℕ) (r : Record) → (foreign n k r ≡ true) ↔ Foreign n k r
+foreign-is n k r =
+    iff-trans (both (leb (n .size) k) (noBuffer r))
+    (iff-pair (most (n .size) k)
+    (iff-trans (either (not (eqb (r .kind) buffer)) _)
+    (iff-sum (unlike (r .kind) buffer)
+    (iff-trans (either (not (eqb (r .inversion) 0)) _)
+    (iff-sum (unlike (r .inversion) 0)
+    (iff-trans (either (ltb topLevel (r .level)) _)
+    (iff-sum (less topLevel (r .level)) (iff-trans (empty-is buffer blank r) unused-slots))))))))
+  where
+    unused-slots :
+        ((j : ℕ) × (j < slots) × ((arity buffer ≤ j) × (slot r j ≢ slot blank j)))
+        ↔ ((j : ℕ) × (j < slots) × ((arity buffer ≤ j) × (slot r j ≢ unused)))
+    unused-slots = (
+      λ x. (x .0, x .1, (x .2 .0, λ e. x .2 .1 (e ∙ sym (getD-replicate slots (x .0) unused unused (x .1))))),
+      λ x. (x .0, x .1, (x .2 .0, λ e. x .2 .1 (e ∙ getD-replicate slots (x .0) unused unused (x .1)))),
+    )
+
+names-are : (m : Netlist) (r : Record) → (any (badName m r) (arity (r .kind)) ≡ true) ↔ BadNames m r
+names-are m r =
+    iff-trans (any-some (badName m r) (arity (r .kind)))
+    (iff-some (arity (r .kind)) _ _ (λ j.
+    iff-trans (either (leb (m .size) (slot r j)) (eqb (m .at (slot r j) .kind) output))
+    (iff-sum (most (m .size) (slot r j)) (same (m .at (slot r j) .kind) output))))
+
+levels-are : (m : Netlist) (r : Record) → (any (notOneLower m r) (arity (r .kind)) ≡ true) ↔ Unbalanced m r
+levels-are m r =
+    iff-trans (any-some (notOneLower m r) (arity (r .kind)))
+    (iff-some (arity (r .kind)) _ _ (λ j. unlike (r .level) (suc (m .at (slot r j) .level))))
+
+strays-are :
+    (n m : Netlist) (k : ℕ) → n .size ≤ m .size → Placed n m → k < n .size →
+    (any (strays m (n .at k) (m .at k)) (arity (n .at k .kind)) ≡ true) ↔ Strays n m k
+strays-are n m k whole p l = iff-trans (any-some (strays m (n .at k) (m .at k)) (arity (n .at k .kind))) (
+  λ x. (x .0, x .1, (driver m (fanin m k (x .0)), driver-traces m (p .named) (p .balanced) (fanin m k (x .0)) (at (x .0) (x .1)), unlike (driver m (fanin m k (x .0))) (fanin n k (x .0)) .0 (x .2))),
+  λ x. (x .0, x .1, unlike (driver m (fanin m k (x .0))) (fanin n k (x .0)) .1 (λ e. x .2 .2 (sym (traces-driver m (p .named) (p .balanced) (x .2 .0) (fanin m k (x .0)) (at (x .0) (x .1)) (x .2 .1)) ∙ e))),
+)
+  where
+    at : (j : ℕ) → j < arity (n .at k .kind) → fanin m k j < m .size
+    at j u = p .named k j (omega arith) (rw (p .kinds k l) u)
+
+-- 12 to 15 stand at one place of one row
+keep-within : (n m : Netlist) (k : ℕ) → Within 9 k 12 13 (KeepFails n m k)
+keep-within n m k = within-or 9 k 12 12 13 13 (within-one 12 k _) (within-one 13 k _) (omega arith) (omega arith) (omega arith)
+
+slots-within : (m : Netlist) (k : ℕ) → Within 9 k 14 15 (SlotsFail m k)
+slots-within m k = within-or 9 k 14 14 15 15 (within-one 14 k _) (within-one 15 k _) (omega arith) (omega arith) (omega arith)
+
+place-within : (n m : Netlist) (k : ℕ) → Within 9 k 12 15 (PlaceFails n m k)
+place-within n m k = within-or 9 k 12 13 14 15 (keep-within n m k) (slots-within m k) (omega arith) (omega arith) (omega arith)
+
+place-first : (n m : Netlist) (k : ℕ) → First (PlaceFails n m k) (placeChecks n m k)
+place-first n m k =
+    first-then (within-before 9 k 12 13 14 15 (keep-within n m k) (slots-within m k) (omega arith))
+    (first-then (within-before 9 k 12 12 13 13 (within-one 12 k _) (within-one 13 k _) (omega arith))
+    (first-check 12 k (changed-is n k (m .at k)))
+    (first-check 13 k (foreign-is n k (m .at k))))
+    (first-then (within-before 9 k 14 14 15 15 (within-one 14 k _) (within-one 15 k _) (omega arith))
+    (first-check 14 k (names-are m (m .at k)))
+    (first-check 15 k (levels-are m (m .at k))))
+
+module _ (n : Netlist) (s : ℕ) (m : Netlist) where
+  places-row : InRow 9 (Each (m .size) (PlaceFails n m))
+  places-row = scan-rows (PlaceFails n m) 9 12 15 (m .size) (place-within n m)
+
+  traces-row : InRow 10 (Each (n .size) (TraceFails n m))
+  traces-row = scan-rows (TraceFails n m) 10 16 16 (n .size) (λ k. within-one 16 k _)
+
+  feeds-row : InRow 11 (Each (m .size) (FeedFails s m))
+  feeds-row = scan-rows (FeedFails s m) 11 17 17 (m .size) (λ k. within-one 17 k _)
+
+  later-rows : After 9 (Each (n .size) (TraceFails n m) or Each (m .size) (FeedFails s m))
+  later-rows a p = ⊎-elim (λ f. omega (arith, traces-row a p f)) (λ f. omega (arith, feeds-row a p f))
+
+  legal-rows : After 8 (LegalFails n s m)
+  legal-rows a p = ⊎-elim (λ f. omega (arith, places-row a p f)) (λ f. omega (arith, later-rows a p f))
+
+  legal-first : n .size ≤ m .size → First (LegalFails n s m) (legalChecks n s m)
+  unfolding legalChecks
+  legal-first whole =
+      first-after (rows-before 9 (λ a p f. omega (arith, places-row a p f)) later-rows)
+      (first-scan (placeChecks n m) (PlaceFails n m) 9 12 15 (place-within n m) (m .size) (λ k l. place-first n m k))
+      (λ e.
+      first-then (rows-before 10 (λ a p f. omega (arith, traces-row a p f)) (λ a p f. omega (arith, feeds-row a p f)))
+      (first-scan (traceCheck n m) (TraceFails n m) 10 16 16 (λ k. within-one 16 k _) (n .size)
+      (λ k l. first-check 16 k (strays-are n m k whole (placed n m whole e) l)))
+      (first-scan (feedCheck s m) (FeedFails s m) 11 17 17 (λ k. within-one 17 k _) (m .size)
+      (λ k l. first-check 17 k (less (capacityOf s (m .at k .kind)) (feeds m k)))))
+
+module _ (n : Netlist) (s : ℕ) (bytes : List ℕ) where
+  length-row : InRow 8 (Fails 11 0 (BadLength (n .size) bytes))
+  length-row = one-row 11 0 (BadLength (n .size) bytes)
+
+  mapped-rows : After 4 (MappedFails n s bytes)
+  mapped-rows a p =
+      ⊎-elim (λ f. omega (arith, length-row a p f)) (λ f. omega (arith, legal-rows n s (netlist bytes) a p f))
+
+  mapped-first : First (MappedFails n s bytes) (mappedChecks n s bytes)
+  unfolding mappedChecks
+  mapped-first =
+      first-after (rows-before 8 (λ a p f. omega (arith, length-row a p f)) (legal-rows n s (netlist bytes)))
+      (first-check 11 0 (length-is (n .size) bytes))
+      (λ e. legal-first n s (netlist bytes) (let f = simp reflect at e in f .1 .0))
+
+pub verify-first : (source : List ℕ) (s : ℕ) (mapped : List ℕ) → First (VerifyFails source s mapped) (verifyChecks source s mapped)
+unfolding verifyChecks
+verify-first source s mapped =
+    first-then (rows-before 4 (input-rows s source) (mapped-rows (netlist source) s mapped))
+    (input-first s source)
+    (mapped-first (netlist source) s mapped)
+
+-- the conditions of 1 to 7 and 11 to 17 stand in the table's rows up to 11
+pub verify-rows : (source : List ℕ) (s : ℕ) (mapped : List ℕ) → UpTo 11 (VerifyFails source s mapped)
+verify-rows source s mapped a p =
+    let n = netlist source in
+    let m = netlist mapped in
+    ⊎-elim
+    (λ f. omega (arith, input-rows s source a p f))
+    (⊎-elim
+    (λ f. omega (arith, length-row n s mapped a p f))
+    (⊎-elim
+    (λ f. omega (arith, places-row n s m a p f))
+    (⊎-elim (λ f. omega (arith, traces-row n s m a p f)) (λ f. omega (arith, feeds-row n s m a p f)))))
+
+refused-checked : (a : Checked) (buffers number place : ℕ) → (verified buffers a ≡ Refused number place) ↔ (a ≡ Failed number place)
+refused-checked Passed buffers number place = (λ e. cc, λ e. cc)
+refused-checked (Failed n p) buffers number place = (λ e. cc, λ e. cc)
+
+-- the verifier refuses exactly by the first of 1 to 7 and 11 to 17 whose condition holds
+pub refused-exactly : RefusedExactly
+refused-exactly source s mapped number place =
+    iff-trans (refused-checked (verifyChecks source s mapped) (bufferCount (netlist mapped)) number place)
+    (exact (verify-first source s mapped) .refused number place)

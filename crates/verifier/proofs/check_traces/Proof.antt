@@ -1,0 +1,68 @@
+-- `check_traces` meets its contract: the answer from k on is the answer, and the drivers that are known are right.
+use borrow.Author.Needs.{needs}
+use Prim.Native.Nat.{_-_}
+use Rattle.netlist.specs.Records.{netlist}
+use Rattle.verifier.proofs.Walking.{Tracing, tracing-start, tracing-end, tracing-walkable, tracing-more, tracing-stop}
+use Rattle.verifier.proofs.check_traces.Statement.{statement}
+use Rattle.verifier.proofs.check_traces.Tie as tie
+
+abbrev Inv-loop : tie.InvT-loop
+Inv-loop source mapped n drivers₀ k₀ drivers k = Tracing (netlist source) (netlist mapped) n drivers k
+
+abbrev μ-loop : tie.MeasureT-loop
+μ-loop source mapped n drivers₀ k₀ drivers k = n - k
+
+loop-holds : tie.Need-loop-holds Inv-loop μ-loop
+loop-holds c = search tracing-start
+
+cast-record-at : tie.Need-cast-record-at Inv-loop μ-loop
+cast-record-at c = search needs
+
+record-at-requires : tie.Need-record-at-requires Inv-loop μ-loop
+record-at-requires c κs = search needs
+
+cast-record-at-2 : tie.Need-cast-record-at-2 Inv-loop μ-loop
+cast-record-at-2 c = search needs
+
+record-at-requires-2 : tie.Need-record-at-requires-2 Inv-loop μ-loop
+record-at-requires-2 c κs = search needs
+
+arity-requires : tie.Need-arity-requires Inv-loop μ-loop
+arity-requires c κs = search needs
+
+any-strays-requires : tie.Need-any-strays-requires Inv-loop μ-loop
+any-strays-requires c κs = search tracing-walkable
+
+returns : tie.Need-returns Inv-loop μ-loop
+returns c = search tracing-stop
+
+add-k : tie.Need-add-k Inv-loop μ-loop
+add-k c = search needs
+
+loop-less : tie.Need-loop-less Inv-loop μ-loop
+loop-less c = search needs
+
+loop-again : tie.Need-loop-again Inv-loop μ-loop
+loop-again c = search tracing-more
+
+returns-2 : tie.Need-returns-2 Inv-loop μ-loop
+returns-2 c = search tracing-end
+
+pub check-traces-spec : {M : Type 1} → statement M
+check-traces-spec =
+    tie.close
+    (tie.spec
+    Inv-loop
+    μ-loop
+    loop-holds
+    cast-record-at
+    record-at-requires
+    cast-record-at-2
+    record-at-requires-2
+    arity-requires
+    any-strays-requires
+    returns
+    add-k
+    loop-less
+    loop-again
+    returns-2)

@@ -1,0 +1,27 @@
+-- `no_buffer` meets its contract: each return follows from the tests that led there.
+use borrow.Author.Needs.{needs}
+use Rattle.verifier.proofs.Checks.{kind-no-buffer, inversion-no-buffer, level-no-buffer, slots-no-buffer}
+use Rattle.verifier.proofs.no_buffer.Statement.{statement}
+use Rattle.verifier.proofs.no_buffer.Tie as tie
+
+returns : tie.Need-returns
+returns c = search kind-no-buffer
+
+returns-2 : tie.Need-returns-2
+returns-2 c = search inversion-no-buffer
+
+returns-3 : tie.Need-returns-3
+returns-3 c = search level-no-buffer
+
+blank-requires : tie.Need-blank-requires
+blank-requires c κs = search needs
+
+bad-empty-requires : tie.Need-bad-empty-requires
+bad-empty-requires c κs = search needs
+
+returns-4 : tie.Need-returns-4
+returns-4 c = search slots-no-buffer
+
+pub no-buffer-spec : {M : Type 1} → statement M
+no-buffer-spec =
+    tie.close (tie.spec returns returns-2 returns-3 blank-requires bad-empty-requires returns-4)

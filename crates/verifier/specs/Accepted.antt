@@ -1,0 +1,26 @@
+-- Demand 2: the verifier accepts exactly the legal mapped netlists within document 01's sizes, and answers their number of buffers.
+use Prim.Native.Nat.{ℕ, _≤_, _%_}
+use mathlib.Core.Path.{_≡_}
+use mathlib.Core.Logic.{_↔_}
+use mathlib.Core.List.{List}
+use lib.ListN.{length}
+use Rattle.netlist.specs.Kinds.{width, mappedLimit}
+use Rattle.netlist.specs.Records.{netlist, recordCount}
+use Rattle.netlist.specs.Source.{Source}
+use Rattle.verifier.specs.declared.Verified.the-variants.{Buffers}
+use Rattle.verifier.specs.Legal.{Legal}
+use Rattle.verifier.specs.Checks.{bufferCount, verifyAnswer}
+
+-- the mapped bytes are a legal netlist of the source bytes, within document 01's sizes
+pub record Accepted (source : List ℕ) (s : ℕ) (mapped : List ℕ) : Type 0 where
+  pub capacity : (2 ≤ s) × (s ≤ 4)
+  pub isSource : Source source
+  pub whole : length mapped % width ≡ 0
+  pub fits : recordCount mapped ≤ mappedLimit
+  pub legal : Legal (netlist source) s (netlist mapped)
+
+abbrev pub AcceptedExactly : Type 0
+AcceptedExactly =
+    (source : List ℕ) (s : ℕ) (mapped : List ℕ) (buffers : ℕ) →
+    (verifyAnswer source s mapped ≡ Buffers buffers)
+    ↔ (Accepted source s mapped × (buffers ≡ bufferCount (netlist mapped)))

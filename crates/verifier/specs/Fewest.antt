@@ -1,0 +1,71 @@
+-- Demand 3: no legal mapped netlist has fewer buffers than the fewest of `fanout`, in all, on a net or at a level of a net.
+use Prim.Native.Nat.{ℕ, _+_, _≤_, _<_}
+use mathlib.Core.Path.{_≡_}
+use mathlib.Core.Bool.{Bool, true, _&&_}
+use mathlib.Core.Logic.{_↔_}
+use mathlib.Core.List.{List}
+use lib.Dec.{eqb}
+use Rattle.facts.specs.Sums.{sum, count}
+use Rattle.netlist.specs.Kinds.{buffer}
+use Rattle.netlist.specs.Records.{Netlist, netlist, fanin}
+use Rattle.netlist.specs.Source.{IsSource}
+use Rattle.fanout.specs.Nets.{row, buffersAt, hasTree, fewest}
+use Rattle.fanout.specs.Answer.{driverCapacity}
+use Rattle.verifier.specs.declared.Verified.the-variants.{Buffers}
+use Rattle.verifier.specs.Legal.{Legal, Traces}
+use Rattle.verifier.specs.Trace.{driver}
+use Rattle.verifier.specs.Checks.{isBuffer, bufferCount, verifyAnswer}
+
+-- record x is a buffer on the net of d: its slot, traced back through buffers, ends there
+abbrev pub onNet : Netlist → ℕ → ℕ → Bool
+onNet m d x = isBuffer m x && eqb (driver m (fanin m x 0)) d
+
+-- and it stands at a level
+abbrev pub onNetAt : Netlist → ℕ → ℕ → ℕ → Bool
+onNetAt m d level x = onNet m d x && eqb (m .at x .level) level
+
+-- the buffers on d's net, and those of them at a level
+unfoldable pub buffersOn : Netlist → ℕ → ℕ
+buffersOn m d = count (onNet m d) (m .size)
+
+unfoldable pub buffersOnAt : Netlist → ℕ → ℕ → ℕ
+buffersOnAt m d level = count (onNetAt m d level) (m .size)
+
+-- in a legal mapped netlist that is the trace of document 01
+abbrev pub OnNetExactly : Type 0
+OnNetExactly =
+    (n : Netlist) (s : ℕ) (m : Netlist) → Legal n s m → (d x : ℕ) → x < m .size →
+    (onNet m d x ≡ true) ↔ ((m .at x .kind ≡ buffer) × Traces m d (fanin m x 0))
+
+-- the source n's nets have trees for splitters of capacity s, and m has at least the fewest buffers of each
+pub record NoFewer (n : Netlist) (s : ℕ) (m : Netlist) : Type 0 where
+  pub trees : (d : ℕ) → d < n .size → hasTree driverCapacity s (row n d) ≡ true
+  pub atLevels : (d k : ℕ) → d < n .size → 1 ≤ k → buffersAt s (row n d) k ≤ buffersOnAt m d (n .at d .level + k)
+  pub onNets : (d : ℕ) → d < n .size → fewest s (row n d) ≤ buffersOn m d
+  pub inAll : sum (λ d. fewest s (row n d)) (n .size) ≤ bufferCount m
+  -- a netlist with the fewest buffers on every net has no more records
+  pub fits : n .size + sum (λ d. fewest s (row n d)) (n .size) ≤ m .size
+
+-- of every legal mapped netlist
+abbrev pub NoneFewer : Type 0
+NoneFewer = (n : Netlist) (s : ℕ) (m : Netlist) → 0 < s → IsSource n → Legal n s m → NoFewer n s m
+
+-- of every netlist that the verifier accepts
+abbrev pub NoneAcceptedFewer : Type 0
+NoneAcceptedFewer =
+    (source : List ℕ) (s : ℕ) (mapped : List ℕ) (buffers : ℕ) →
+    verifyAnswer source s mapped ≡ Buffers buffers →
+    NoFewer (netlist source) s (netlist mapped)
+
+-- m has no more buffers than other: in all, on each net of the source n, and at each level of each net
+pub record NoMore (n m other : Netlist) : Type 0 where
+  pub inAll : bufferCount m ≤ bufferCount other
+  pub onNets : (d : ℕ) → d < n .size → buffersOn m d ≤ buffersOn other d
+  pub atLevels : (d level : ℕ) → d < n .size → buffersOnAt m d level ≤ buffersOnAt other d level
+
+-- a legal netlist with the fewest buffers in all has no more than any legal one, anywhere
+abbrev pub LeastEverywhere : Type 0
+LeastEverywhere =
+    (n : Netlist) (s : ℕ) (m other : Netlist) → 0 < s → IsSource n → Legal n s m → Legal n s other →
+    bufferCount m ≤ sum (λ d. fewest s (row n d)) (n .size) →
+    NoMore n m other
