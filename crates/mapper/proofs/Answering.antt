@@ -1,0 +1,252 @@
+-- Laws of the mapper's answer: gates, share and junctions, and which check refuses.
+use Prim.Native.Nat.{ℕ, _+_, _*_, _≤_, _<_, _/_}
+use mathlib.Core.Path.{_≡_, refl, sym, _∙_, ap, ap₂}
+use mathlib.Core.Bool.{Bool, true, false, cond}
+use mathlib.Core.List.{List}
+use native.Mathlib.Omega.{arith}
+use native.Mathlib.Numerals.{add-one}
+use mir.Val.{Fits}
+use mir.Syntax.{w16, w32, w64}
+use lib.ListN.{length, replicate}
+use borrow.Author.Tests.{eq-eqb, ne-eqb, lt-ltb, le-ltb, not-false}
+use Rattle.facts.specs.declared.Checked.{Checked}
+use Rattle.facts.specs.declared.Checked.the-variants.{Passed, Refused}
+use Rattle.facts.specs.Checks.{check, _andThen_}
+use Rattle.facts.specs.Sums.{bit, sum, count}
+use Rattle.facts.proofs.Sums.{count-le}
+use Rattle.facts.proofs.Reflect.{check-passed, scan-passed}
+use Rattle.netlist.specs.Kinds.{width, slots, sourceLimit, mappedLimit, isGate}
+use Rattle.netlist.specs.Records.{Netlist, netlist, recordCount, depth}
+use Rattle.netlist.specs.Checks.{inputChecks}
+use Rattle.netlist.specs.Source.{IsSource}
+use Rattle.netlist.proofs.Source.{input-passed}
+use Rattle.mapper.specs.declared.Mapping.{Mapping}
+use Rattle.mapper.specs.Bytes.{bytesOf, onto}
+use Rattle.mapper.specs.Mapped.{treeSize, mappedSize, mapped, Ready}
+use Rattle.mapper.specs.Answer.{gatePrice, bufferPrice, gates, share, junctions, figures, answerOf, areaOf, refusal, noTree, treeCheck, treesBelow, treeChecks, tooLarge, tooShort, sourceMaps, mapChecks, mapAnswer, mapArea}
+use Rattle.mapper.specs.declared.Sizing.{Sizing}
+use Rattle.mapper.specs.declared.Sizing.the-variants.{Total, Refuses}
+use Rattle.mapper.specs.Chains.{Hung, Linked, sizingOf, slotEnd, Counted}
+use Rattle.mapper.proofs.Chains.{link-start}
+use Rattle.mapper.proofs.Counting.{total-small, refusing, counting}
+
+-- the share, where the whole is 0 and where it is not
+pub share-none : (part whole : ℕ) → whole ≡ 0 → 0 ≡ share part whole
+share-none part whole e = ap (λ (b : Bool). cond b 0 (100 * part / whole)) (sym (eq-eqb whole 0 e))
+
+pub share-some : (part whole : ℕ) → (whole ≡ 0 → ⊥) → 100 * part / whole ≡ share part whole
+share-some part whole e = ap (λ (b : Bool). cond b 0 (100 * part / whole)) (sym (ne-eqb whole 0 e))
+
+-- the gates below record i
+pub record Gating (n : Netlist) (found i : ℕ) : Type 0 where
+  pub within : i ≤ n .size
+  pub gates : found ≡ count (λ k. isGate (n .at k .kind)) i
+
+module _ (n : Netlist) where
+  pub gates-start : Gating n 0 0
+  unfolding count sum
+  gates-start = record { within = omega arith; gates = refl }
+
+  module _ (N found i : ℕ) (h : Gating n found i) (size : N ≡ n .size) where
+    pub gates-fit : (b : Bool) (x : ℕ) → N ≤ sourceLimit → i < N → x ≡ bit b → Fits w32 (found + x)
+    gates-fit b x few l e = omega (arith, h .gates, count-le (λ k. isGate (n .at k .kind)) i, one b)
+      where
+        one : (b : Bool) → bit b ≤ 1
+        one true = omega arith
+        one false = omega arith
+
+    pub gates-more : (b : Bool) (x kind : ℕ) → i < N → kind ≡ n .at i .kind → b ≡ isGate kind → x ≡ bit b → Gating n (found + x) (i + 1)
+    unfolding count sum
+    gates-more b x kind l e f g =
+        record {
+          within = omega arith;
+          gates = rw (add-one i) (ap₂ _+_ (h .gates) (g ∙ ap bit (f ∙ ap isGate e)));
+        }
+
+    pub gates-end : N ≤ i → found ≡ Rattle.mapper.specs.Answer.gates n
+    unfolding Rattle.mapper.specs.Answer.gates
+    gates-end l = let e : i ≡ n .size = omega (arith, h .within) in h .gates ∙ ap (count (λ k. isGate (n .at k .kind))) e
+
+-- the numbers of an accepted source
+module _ (n : Netlist) (N bs g : ℕ) (size : N ≡ n .size) (few : N ≤ sourceLimit) (b : bs ≤ mappedLimit) (e : g ≡ gates n) where
+  gates-few : g ≤ sourceLimit
+  unfolding gates
+  gates-few = omega (arith, count-le (λ k. isGate (n .at k .kind)) (n .size))
+
+  pub gates-price : Fits w32 (gatePrice * g)
+  gates-price = omega (arith, gates-few)
+
+  pub all-price : Fits w32 (gatePrice * g + bufferPrice * bs)
+  all-price = omega (arith, gates-few)
+
+  pub accepted : (D part : ℕ) → D ≡ depth n → part ≡ share (bufferPrice * bs) (gatePrice * g + bufferPrice * bs) →
+      record {
+        number = 0;
+        place = 0;
+        size = N + bs;
+        buffers = bs;
+        depth = D;
+        junctions = gatePrice * g + bufferPrice * bs;
+        share = part;
+      } ≡ figures n bs
+  accepted D part f h = cc
+
+-- no sink hangs yet
+pub hung-start : (n : Netlist) (s : ℕ) (parents : List ℕ) → length parents ≡ slots * sourceLimit → Hung n s parents 0
+hung-start n s parents e = record { size = e; at = λ y a b c. absurd (omega arith) }
+
+-- the answer and the area that the checks leave
+module _ (bytes : List ℕ) (s : ℕ) (area : List ℕ) where
+  answer-is : (a : Checked) → mapChecks bytes s area ≡ a → answerOf a (netlist bytes) s ≡ mapAnswer bytes s area
+  unfolding mapAnswer
+  answer-is a e = ap (λ (a : Checked). answerOf a (netlist bytes) s) (sym e)
+
+  area-is : (a : Checked) → mapChecks bytes s area ≡ a → areaOf a (netlist bytes) s area ≡ mapArea bytes s area
+  unfolding mapArea
+  area-is a e = ap (λ (a : Checked). areaOf a (netlist bytes) s area) (sym e)
+
+  -- 1 to 7
+  input-refuses : (number place : ℕ) → inputChecks s bytes ≡ Refused number place → mapChecks bytes s area ≡ Refused number place
+  unfolding mapChecks sourceMaps
+  input-refuses number place e = rw e refl
+
+  pub refused-input : (number place : ℕ) (a : Checked) (r : Mapping) → a ≡ inputChecks s bytes → a ≡ Refused number place → r ≡ refusal number place →
+      r ≡ mapAnswer bytes s area
+  refused-input number place a r e f g = g ∙ answer-is (Refused number place) (input-refuses number place (sym e ∙ f))
+
+  pub kept-input : (number place : ℕ) (a : Checked) → a ≡ inputChecks s bytes → a ≡ Refused number place → area ≡ mapArea bytes s area
+  kept-input number place a e f = area-is (Refused number place) (input-refuses number place (sym e ∙ f))
+
+  module _ (i : inputChecks s bytes ≡ Passed) where
+    -- 8
+    trees-refuse : (number place : ℕ) → treeChecks (netlist bytes) s ≡ Refused number place → mapChecks bytes s area ≡ Refused number place
+    unfolding mapChecks sourceMaps
+    trees-refuse number place e = rw (i, e) refl
+
+    pub refused-tree : (number place m total : ℕ) (z : Sizing) (r : Mapping) → m ≡ recordCount bytes →
+        z ≡ sizingOf (treesBelow (netlist bytes) s m) total → z ≡ Refuses number place → r ≡ refusal number place →
+        r ≡ mapAnswer bytes s area
+    refused-tree number place m total z r size e f g =
+        g ∙ answer-is (Refused number place) (trees-refuse number place (refusing bytes s number place m total z size e f))
+
+    pub kept-tree : (number place m total : ℕ) (z : Sizing) → m ≡ recordCount bytes → z ≡ sizingOf (treesBelow (netlist bytes) s m) total →
+        z ≡ Refuses number place → area ≡ mapArea bytes s area
+    kept-tree number place m total z size e f =
+        area-is (Refused number place) (trees-refuse number place (refusing bytes s number place m total z size e f))
+
+-- what 1 to 7 show
+module _ (bytes : List ℕ) (s : ℕ) (i : inputChecks s bytes ≡ Passed) where
+  pub input-source : IsSource (netlist bytes)
+  input-source = input-passed s bytes i .isSource .isSource
+
+  pub input-capacity : (2 ≤ s) × (s ≤ 4)
+  input-capacity = (input-passed s bytes i .low, input-passed s bytes i .high)
+
+  -- the chains before any slot is linked
+  module _ (N : ℕ) (size : N ≡ recordCount bytes) where
+    pub input-end : Fits w16 (slots * N)
+    input-end = omega (arith, input-source .few)
+
+    pub input-unlinked : (next : List ℕ) → length next ≡ slots * sourceLimit →
+        Linked (netlist bytes) (replicate sourceLimit (slots * N)) next (slots * N)
+    input-unlinked next l =
+        rw size (link-start (netlist bytes) (replicate sourceLimit (slotEnd (netlist bytes))) next refl l (input-source .few))
+
+    -- the trees are counted
+    module _ (total : ℕ) (z : Sizing) (e : z ≡ sizingOf (treesBelow (netlist bytes) s N) (sum (treeSize (netlist bytes) s) N))
+        (f : z ≡ Total total) where
+      pub counted-all : (first next : List ℕ) → Linked (netlist bytes) first next 0 → Counted bytes s N first next (slots * N) total
+      counted-all first next l =
+          let c = counting (netlist bytes) s N total z e f in
+          record {
+            input = i;
+            trees = ap (treesBelow (netlist bytes) s) (sym size) ∙ c .0;
+            chained = record { source = input-source; linked = l; stop = ap (λ (k : ℕ). slots * k) size };
+            records = size;
+            buffers = c .1 ∙ ap (sum (treeSize (netlist bytes) s)) size;
+          }
+
+-- what 1 to 9 show
+pub passed-ready : (bytes : List ℕ) (s : ℕ) → inputChecks s bytes ≡ Passed → treeChecks (netlist bytes) s ≡ Passed →
+    mappedSize (netlist bytes) s ≤ mappedLimit → Ready (netlist bytes) s
+passed-ready bytes s i t l =
+    record {
+      source = input-source bytes s i;
+      low = input-capacity bytes s i .0;
+      high = input-capacity bytes s i .1;
+      trees = λ d b.
+          not-false _
+          (check-passed 8 d (noTree (netlist bytes) s d) .0 (scan-passed (treeCheck (netlist bytes) s) (recordCount bytes) .0 t d b));
+      fits = l;
+    }
+
+-- 9, 10 and acceptance
+module _ (bytes : List ℕ) (s N : ℕ) (first next : List ℕ) (end total : ℕ) (h : Counted bytes s N first next end total) where
+  -- the total of all trees cannot overflow
+  pub total-fits : Fits w64 (N + total)
+  total-fits =
+      omega (
+        arith,
+        h .records,
+        h .buffers,
+        total-small (netlist bytes) s (input-source bytes s (h .input)) (input-capacity bytes s (h .input) .0),
+        input-source bytes s (h .input) .few,
+      )
+
+  pub counted-ready : N + total ≤ mappedLimit → Ready (netlist bytes) s
+  counted-ready l = passed-ready bytes s (h .input) (h .trees) (omega (arith, h .records, h .buffers))
+
+  module _ (area : List ℕ) where
+    late : mapChecks bytes s area
+        ≡ (check 9 0 (tooLarge (netlist bytes) s) andThen check 10 0 (tooShort (netlist bytes) s area))
+    unfolding mapChecks sourceMaps
+    late = rw (h .input, h .trees) refl
+
+    -- 9
+    large : mappedLimit < N + total → mapChecks bytes s area ≡ Refused 9 0
+    large l =
+        late
+        ∙ ap (λ (b : Bool). check 9 0 b andThen check 10 0 (tooShort (netlist bytes) s area))
+        (lt-ltb mappedLimit (mappedSize (netlist bytes) s) (omega (arith, h .records, h .buffers)))
+
+    pub refused-large : (r : Mapping) → mappedLimit < N + total → r ≡ refusal 9 0 → r ≡ mapAnswer bytes s area
+    refused-large r l e = e ∙ answer-is bytes s area (Refused 9 0) (large l)
+
+    pub kept-large : mappedLimit < N + total → area ≡ mapArea bytes s area
+    kept-large l = area-is bytes s area (Refused 9 0) (large l)
+
+    module _ (l : N + total ≤ mappedLimit) where
+      small : mapChecks bytes s area ≡ check 10 0 (tooShort (netlist bytes) s area)
+      small =
+          late
+          ∙ ap (λ (b : Bool). check 9 0 b andThen check 10 0 (tooShort (netlist bytes) s area))
+          (le-ltb mappedLimit (mappedSize (netlist bytes) s) (omega (arith, h .records, h .buffers)))
+
+      -- 10
+      short : length area < width * (N + total) → mapChecks bytes s area ≡ Refused 10 0
+      short b =
+          small
+          ∙ ap (check 10 0)
+          (lt-ltb (length area) (width * mappedSize (netlist bytes) s) (omega (arith, h .records, h .buffers)))
+
+      pub refused-short : (r : Mapping) → length area < width * (N + total) → r ≡ refusal 10 0 → r ≡ mapAnswer bytes s area
+      refused-short r b e = e ∙ answer-is bytes s area (Refused 10 0) (short b)
+
+      pub kept-short : length area < width * (N + total) → area ≡ mapArea bytes s area
+      kept-short b = area-is bytes s area (Refused 10 0) (short b)
+
+      module _ (b : width * (N + total) ≤ length area) where
+        passes : mapChecks bytes s area ≡ Passed
+        passes =
+            small
+            ∙ ap (check 10 0)
+            (le-ltb (length area) (width * mappedSize (netlist bytes) s) (omega (arith, h .records, h .buffers)))
+
+        pub mapped-room : width * mappedSize (netlist bytes) s ≤ length area
+        mapped-room = omega (arith, h .records, h .buffers)
+
+        pub mapped-answer : (r : Mapping) → r ≡ figures (netlist bytes) total → r ≡ mapAnswer bytes s area
+        mapped-answer r e = e ∙ ap (figures (netlist bytes)) (h .buffers) ∙ answer-is bytes s area Passed passes
+
+        pub mapped-area : (after : List ℕ) → after ≡ onto (bytesOf (mapped (netlist bytes) s)) area → after ≡ mapArea bytes s area
+        mapped-area after e = e ∙ area-is bytes s area Passed passes

@@ -1,0 +1,168 @@
+-- Laws of the chains of sinks: the first sink from a slot on, and the arrays that link each sink to the next.
+use Prim.Native.Nat.{ℕ, zero, suc, _+_, _-_, _*_, _≤_, _<_, _/_, _%_}
+use mathlib.Core.Path.{_≡_, refl, sym, _∙_, ap, subst}
+use mathlib.Core.Bool.{Bool, true, false, cond}
+use mathlib.Core.List.{List}
+use native.Mathlib.Omega.{arith}
+use native.Mathlib.Numerals.{add-one}
+use native.Mathlib.Decide.{decLt, ℕ-discrete}
+use lib.ListN.{length, getD, set, replicate, length-set, length-replicate, getD-replicate}
+use lib.Seq.{getD-set-same, getD-set-other}
+use borrow.Author.Tests.{lt-ltb, le-ltb, eq-eqb, ne-eqb}
+use Rattle.facts.specs.Sums.{count, seek}
+use Rattle.facts.proofs.Bools.{and-i, true-false}
+use Rattle.facts.proofs.Sums.{count-false}
+use Rattle.netlist.specs.Kinds.{slots, sourceLimit, arity}
+use Rattle.netlist.specs.Records.{Netlist}
+use Rattle.netlist.specs.Source.{IsSource}
+use Rattle.mapper.specs.Chains.{slotEnd, usedSlot, faninSlot, namesSlot, nextSink, Linked}
+
+-- what holds only where p does is counted nowhere on the way to the first p
+seek-count : (p q : ℕ → Bool) (y m : ℕ) → ((z : ℕ) → q z ≡ true → p z ≡ true) → count q (seek p y m) ≡ count q y
+unfolding seek
+seek-count p q y zero h = refl
+seek-count p q y (suc m) h = go (p y) refl (seek-count p q (suc y) m h)
+  where
+    no-q : (b : Bool) → q y ≡ b → p y ≡ false → q y ≡ false
+    no-q true e f = absurd (true-false (p y) (h y e) f)
+    no-q false e f = e
+
+    go : (b : Bool) → p y ≡ b → count q (seek p (suc y) m) ≡ count q (suc y) → count q (cond b y (seek p (suc y) m)) ≡ count q y
+    go true e r = refl
+    go false e r = r ∙ count-false q y (no-q (q y) refl e)
+
+-- the first p stands within the range, and p holds there
+seek-within : (p : ℕ → Bool) (y m : ℕ) → (y ≤ seek p y m) × (seek p y m ≤ y + m)
+unfolding seek
+seek-within p y zero = omega arith
+seek-within p y (suc m) = go (p y) (seek-within p (suc y) m)
+  where
+    go : (b : Bool) → (suc y ≤ seek p (suc y) m) × (seek p (suc y) m ≤ suc y + m) →
+        (y ≤ cond b y (seek p (suc y) m)) × (cond b y (seek p (suc y) m) ≤ y + suc m)
+    go true h = omega arith
+    go false h = omega arith
+
+seek-true : (p : ℕ → Bool) (y m : ℕ) → seek p y m < y + m → p (seek p y m) ≡ true
+unfolding seek
+seek-true p y zero l = absurd (omega arith)
+seek-true p y (suc m) l = go (p y) refl l (seek-true p (suc y) m)
+  where
+    go : (b : Bool) → p y ≡ b → cond b y (seek p (suc y) m) < y + suc m →
+        (seek p (suc y) m < suc y + m → p (seek p (suc y) m) ≡ true) → p (cond b y (seek p (suc y) m)) ≡ true
+    go true e l r = e
+    go false e l r = r (omega arith)
+
+module _ (n : Netlist) (d : ℕ) where
+  pub next-end : nextSink n d (slotEnd n) ≡ slotEnd n
+  unfolding nextSink seek
+  next-end = let e : slotEnd n - slotEnd n ≡ 0 = omega arith in ap (seek (namesSlot n d) (slotEnd n)) e
+
+  next-turn : (y : ℕ) → y < slotEnd n → nextSink n d y ≡ cond (namesSlot n d y) y (nextSink n d (suc y))
+  unfolding nextSink seek
+  next-turn y l = let e : slotEnd n - y ≡ suc (slotEnd n - suc y) = omega arith in rw e refl
+
+  pub next-here : (y : ℕ) → y < slotEnd n → namesSlot n d y ≡ true → nextSink n d y ≡ y
+  next-here y l e = next-turn y l ∙ rw e refl
+
+  pub next-skip : (y : ℕ) → y < slotEnd n → namesSlot n d y ≡ false → nextSink n d y ≡ nextSink n d (suc y)
+  next-skip y l e = next-turn y l ∙ rw e refl
+
+  -- the next sink stands further on, and is one unless it is the end
+  pub next-within : (y : ℕ) → y ≤ slotEnd n → (y ≤ nextSink n d y) × (nextSink n d y ≤ slotEnd n)
+  unfolding nextSink
+  next-within y l = omega (arith, seek-within (namesSlot n d) y (slotEnd n - y))
+
+  pub next-names : (y : ℕ) → y ≤ slotEnd n → nextSink n d y < slotEnd n → namesSlot n d (nextSink n d y) ≡ true
+  unfolding nextSink
+  next-names y l h = seek-true (namesSlot n d) y (slotEnd n - y) (omega arith)
+
+  -- a count of d's sinks does not change on the way to the next one
+  pub next-count : (q : ℕ → Bool) (y : ℕ) → ((z : ℕ) → q z ≡ true → namesSlot n d z ≡ true) → count q (nextSink n d y) ≡ count q y
+  unfolding nextSink
+  next-count q y h = seek-count (namesSlot n d) q y (slotEnd n - y) h
+
+module _ (n : Netlist) (first next : List ℕ) where
+  -- no slot is linked yet: every first sink is the end
+  pub link-start : first ≡ replicate sourceLimit (slotEnd n) → length next ≡ slots * sourceLimit → n .size ≤ sourceLimit → Linked n first next (slotEnd n)
+  link-start e f l =
+      record {
+        firsts = λ d ld. rw e (getD-replicate sourceLimit d (slotEnd n) 0 (omega arith) ∙ sym (next-end n d));
+        nexts = λ y a b u. absurd (omega arith);
+        drivers = ap length e ∙ length-replicate sourceLimit (slotEnd n);
+        sinks = f;
+      }
+
+  -- an unused slot links nothing
+  pub link-unused : (x : ℕ) → Linked n first next (x + 1) → x < slotEnd n → usedSlot n x ≡ false → Linked n first next x
+  link-unused x h l u =
+      record {
+        firsts = λ d ld. h .firsts d ld ∙ ap (nextSink n d) (add-one x) ∙ sym (next-skip n d x l (rw u refl));
+        nexts = λ y a b v. h .nexts y (further y a v) b v;
+        drivers = h .drivers;
+        sinks = h .sinks;
+      }
+    where
+      further : (y : ℕ) → x ≤ y → usedSlot n y ≡ true → x + 1 ≤ y
+      further y a v =
+          elim (decLt x y) [
+            | yes b ↦ omega arith
+            | no b ↦ (let e : y ≡ x = omega arith in absurd (true-false (usedSlot n x) (subst (λ (z : ℕ). usedSlot n z ≡ true) e v) u))
+          ]
+
+  -- a used slot comes before what its driver had first
+  pub link-used : (x t : ℕ) → Linked n first next (x + 1) → x < slotEnd n → n .size ≤ sourceLimit → t ≡ faninSlot n x → t < n .size →
+      usedSlot n x ≡ true → Linked n (set first t x) (set next x (getD first t 0)) x
+  link-used x t h l few e ld u =
+      record {
+        firsts = λ d m. at-driver d m (ℕ-discrete d t);
+        nexts = λ y a b v. at-slot y a b v (ℕ-discrete y x);
+        drivers = length-set first t x ∙ h .drivers;
+        sinks = length-set next x (getD first t 0) ∙ h .sinks;
+      }
+    where
+      at-driver : (d : ℕ) → d < n .size → Dec (d ≡ t) → getD (set first t x) d 0 ≡ nextSink n d x
+      at-driver d m (yes f) =
+          rw f
+          (getD-set-same first t x 0 (omega (arith, h .drivers))
+          ∙ sym (next-here n t x l (and-i (usedSlot n x) _ u (eq-eqb _ t (sym e)))))
+      at-driver d m (no f) =
+          getD-set-other first t d x 0 f
+          ∙ h .firsts d m
+          ∙ ap (nextSink n d) (add-one x)
+          ∙ sym (next-skip n d x l (rw u (ne-eqb (faninSlot n x) d (λ g. f (sym g ∙ sym e)))))
+
+      at-slot : (y : ℕ) → x ≤ y → y < slotEnd n → usedSlot n y ≡ true → Dec (y ≡ x) →
+          getD (set next x (getD first t 0)) y 0 ≡ nextSink n (faninSlot n y) (suc y)
+      at-slot y a b v (yes f) =
+          rw f
+          (getD-set-same next x (getD first t 0) 0 (omega (arith, h .sinks))
+          ∙ h .firsts t ld
+          ∙ ap (nextSink n t) (add-one x)
+          ∙ ap (λ (d : ℕ). nextSink n d (suc x)) e)
+      at-slot y a b v (no f) = getD-set-other next x y (getD first t 0) 0 f ∙ h .nexts y (omega arith) b v
+
+-- one slot, as the code links it: kind and arity of its record, and the driver t that it names
+module _ (n : Netlist) (x kind a : ℕ) (s : IsSource n) (l : x < slotEnd n) (k : kind ≡ n .at (x / slots) .kind) (b : a ≡ arity kind) where
+  uses : x % slots < a → x % slots < arity (n .at (x / slots) .kind)
+  uses u = omega (arith, ap arity k)
+
+  named-driver : (t : ℕ) → x % slots < a → t ≡ faninSlot n x → t < n .size
+  named-driver t u e = omega (arith, s .earlier (x / slots) (x % slots) (omega arith) (uses u))
+
+  pub link-room : (t : ℕ) → x % slots < a → t ≡ faninSlot n x → t < sourceLimit
+  link-room t u e = omega (arith, named-driver t u e, s .few)
+
+  pub link-taken : (first next : List ℕ) (t : ℕ) → Linked n first next (x + 1) → x % slots < a → t ≡ faninSlot n x →
+      Linked n (set first t x) (set next x (getD first t 0)) x
+  link-taken first next t h u e = link-used n first next x t h l (s .few) e (named-driver t u e) (lt-ltb _ _ (uses u))
+
+  pub link-left : (first next : List ℕ) → Linked n first next (x + 1) → a ≤ x % slots → Linked n first next x
+  link-left first next h u = link-unused n first next x h l (le-ltb (x % slots) (arity (n .at (x / slots) .kind)) (omega (arith, ap arity k)))
+
+-- from slot to slot downwards
+module _ (n : Netlist) (first next : List ℕ) where
+  pub linked-below : (x : ℕ) → 0 < x → Linked n first next x → Linked n first next (x - 1 + 1)
+  linked-below x l h = let e : x ≡ x - 1 + 1 = omega arith in subst (λ (y : ℕ). Linked n first next y) e h
+
+  pub linked-end : (x : ℕ) → x ≤ 0 → Linked n first next x → Linked n first next 0
+  linked-end x l h = let e : x ≡ 0 = omega arith in subst (λ (y : ℕ). Linked n first next y) e h

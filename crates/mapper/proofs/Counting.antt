@@ -1,0 +1,118 @@
+-- Laws of counting all trees: the checks from driver d on are the checks, and the total is that of the drivers before d.
+use Prim.Native.Nat.{ℕ, suc, _+_, _*_, _≤_, _<_}
+use mathlib.Core.Path.{_≡_, refl, sym, _∙_, ap}
+use mathlib.Core.Bool.{Bool, not}
+use mathlib.Core.List.{List}
+use native.Mathlib.Omega.{arith}
+use native.Mathlib.Numerals.{add-one}
+use mir.Val.{Fits}
+use mir.Syntax.{w64}
+use lib.ListN.{drop, replicate, length-drop}
+use lib.Seq.{getD-drop}
+use borrow.Author.Tests.{le-leb, lt-leb}
+use Rattle.facts.specs.declared.Checked.{Checked}
+use Rattle.facts.specs.declared.Checked.the-variants.{Passed, Refused}
+use Rattle.facts.specs.Checks.{check}
+use Rattle.facts.specs.Sums.{sum}
+use Rattle.facts.proofs.Sums.{sum-mono, sum-const}
+use Rattle.facts.proofs.Loops.{Scanning, scan-start, scan-more, scan-stop, scan-end}
+use Rattle.netlist.specs.Kinds.{slots, topLevel, sourceLimit}
+use Rattle.netlist.specs.Records.{Netlist, netlist, recordCount}
+use Rattle.netlist.specs.Source.{IsSource}
+use Rattle.fanout.specs.Nets.{row, nodesAt, buffers}
+use Rattle.fanout.proofs.Nets.{row-length}
+use Rattle.mapper.specs.declared.Tree.{Tree}
+use Rattle.mapper.specs.declared.Sizing.{Sizing}
+use Rattle.mapper.specs.declared.Sizing.the-variants.{Total, Refuses}
+use Rattle.fanout.specs.Answer.{driverCapacity}
+use Rattle.mapper.specs.Mapped.{netRow, treeSize, bufferTotal}
+use Rattle.mapper.specs.Answer.{treeCheck, treesBelow, treeChecks}
+use Rattle.mapper.specs.Chains.{Chained, Measured, sizingOf}
+use Rattle.mapper.proofs.Measuring.{row-small, net-buffers}
+use Rattle.mapper.proofs.Walking.{buffers-small}
+
+-- the most buffers of a net, far above what is reached
+abbrev pub most : ℕ
+most = 2 * (slots * sourceLimit) * suc topLevel
+
+pub record Counting (n : Netlist) (s m : ℕ) (row : List ℕ) (total d : ℕ) : Type 0 where
+  pub checks : Scanning (treeCheck n s) m d
+  pub before : total ≡ sum (treeSize n s) d
+  pub small : total ≤ most * d
+  pub clear : row ≡ replicate (suc topLevel) 0
+
+module _ (n : Netlist) (s : ℕ) where
+  pub count-start : (m : ℕ) → Counting n s m (replicate (suc topLevel) 0) 0 0
+  unfolding sum
+  count-start m =
+      record { checks = scan-start (treeCheck n s) m; before = refl; small = omega arith; clear = refl }
+
+  tree-small : (d : ℕ) → IsSource n → 2 ≤ s → d < n .size → treeSize n s d ≤ most
+  tree-small d i l b =
+      omega (
+        arith,
+        net-buffers n s d 1 i (omega arith) b,
+        buffers-small s (slots * sourceLimit) (drop 1 (row n d)) l
+            (λ k. omega (arith, getD-drop 1 (row n d) k 0, row-small n d (1 + k) i)),
+        length-drop 1 (row n d),
+        row-length n d,
+      )
+
+  -- the sum of all trees cannot overflow
+  pub total-small : IsSource n → 2 ≤ s → bufferTotal n s ≤ most * n .size
+  total-small i l =
+      omega (
+        arith,
+        sum-mono (treeSize n s) (λ d. most) (n .size) (λ d b. tree-small d i l b),
+        sum-const most (n .size),
+      )
+
+  module _ (row : List ℕ) (total d m : ℕ) (h : Counting n s m row total d) (size : m ≤ n .size) where
+    pub count-end : m ≤ d → Total total ≡ sizingOf (treesBelow n s m) (sum (treeSize n s) m)
+    count-end l =
+        let e : d ≡ m = omega (arith, h .checks .within) in
+        ap Total (h .before ∙ ap (sum (treeSize n s)) e)
+        ∙ ap (λ (a : Checked). sizingOf a (sum (treeSize n s) m)) (scan-end (treeCheck n s) m d (h .checks) (omega arith))
+
+    module _ (first next : List ℕ) (end : ℕ) (t : Tree) (chained : Chained n first next end) (c : (2 ≤ s) × (s ≤ 4)) (l : d < m)
+        (g : Measured n s d t) where
+      -- a net's buffers are few enough to add
+      pub count-fits : Fits w64 (total + t .buffers)
+      count-fits = omega (arith, h .small, g .buffers, tree-small d (chained .source) (c .0) (omega arith), chained .source .few)
+
+      pub count-stop : driverCapacity < t .nodes → Refuses 8 d ≡ sizingOf (treesBelow n s m) (sum (treeSize n s) m)
+      count-stop f =
+          ap (λ (a : Checked). sizingOf a (sum (treeSize n s) m))
+          (scan-stop (treeCheck n s) m d 8 d (treeCheck n s d) (h .checks) (omega arith) refl
+          (ap (λ (b : Bool). check 8 d (not b)) (lt-leb (nodesAt s (netRow n d) 1) driverCapacity (omega (arith, g .nodes)))))
+
+      pub count-more : (after : List ℕ) → after ≡ replicate (suc topLevel) 0 → t .nodes ≤ driverCapacity →
+          Counting n s m after (total + t .buffers) (d + 1)
+      unfolding sum
+      count-more after e f =
+          record {
+            checks =
+                scan-more (treeCheck n s) m d (treeCheck n s d) (h .checks) (omega arith) refl
+                (ap (λ (b : Bool). check 8 d (not b)) (le-leb (nodesAt s (netRow n d) 1) driverCapacity (omega (arith, g .nodes))));
+            before = rw (add-one d) (omega (arith, h .before, g .buffers));
+            small = omega (arith, h .small, g .buffers, tree-small d (chained .source) (c .0) (omega arith));
+            clear = e;
+          }
+
+-- what an answer of the count says
+pub refusing : (bytes : List ℕ) (s number place m total : ℕ) (z : Sizing) → m ≡ recordCount bytes →
+    z ≡ sizingOf (treesBelow (netlist bytes) s m) total → z ≡ Refuses number place → treeChecks (netlist bytes) s ≡ Refused number place
+refusing bytes s number place m total z size e f =
+    ap (treesBelow (netlist bytes) s) (sym size) ∙ go (treesBelow (netlist bytes) s m) (sym e ∙ f)
+  where
+    go : (a : Checked) → sizingOf a total ≡ Refuses number place → a ≡ Refused number place
+    go Passed g = let z : _≡_ {A = ℕ} 0 1 = cc in absurd (omega arith)
+    go (Refused n′ p′) g = cc
+
+pub counting : (n : Netlist) (s m total : ℕ) (z : Sizing) → z ≡ sizingOf (treesBelow n s m) (sum (treeSize n s) m) → z ≡ Total total →
+    (treesBelow n s m ≡ Passed) × (total ≡ sum (treeSize n s) m)
+counting n s m total z e f = go (treesBelow n s m) (sym e ∙ f)
+  where
+    go : (a : Checked) → sizingOf a (sum (treeSize n s) m) ≡ Total total → (a ≡ Passed) × (total ≡ sum (treeSize n s) m)
+    go Passed g = (refl, cc)
+    go (Refused number place) g = let z : _≡_ {A = ℕ} 0 1 = cc in absurd (omega arith)

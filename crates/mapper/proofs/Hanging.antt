@@ -1,0 +1,251 @@
+-- Laws of hanging the sinks of one driver along its chain: those below slot p hang on their parents.
+use Prim.Native.Nat.{ℕ, zero, suc, _+_, _-_, _*_, _≤_, _<_, _/_, _%_}
+use mathlib.Core.Path.{_≡_, refl, sym, _∙_, ap, ap₂, subst}
+use mathlib.Core.Bool.{Bool, true}
+use mathlib.Core.List.{List}
+use native.Mathlib.Omega.{arith}
+use native.Mathlib.Decide.{decLt, ℕ-discrete}
+use mir.Val.{Fits}
+use mir.Syntax.{w32}
+use lib.ListN.{length, getD, set, length-set}
+use lib.Seq.{getD-set-same, getD-set-other}
+use borrow.Author.Tests.{ltb-true, eq-eqb, eqb-true}
+use Rattle.facts.specs.Sums.{count}
+use Rattle.facts.proofs.Bools.{and-l, and-r, and-i}
+use Rattle.facts.proofs.Sums.{count-append, count-cong, count-more, count₂-flat, rank-lt}
+use Rattle.netlist.specs.Kinds.{slots, topLevel, arity}
+use Rattle.netlist.specs.Records.{Netlist}
+use Rattle.fanout.specs.Nets.{sinkAt, nodesAt}
+use Rattle.mapper.specs.Mapped.{netRow, buffersOf, treeSize, parent, rank, sinkNumber, sinkParent, Ready}
+use Rattle.mapper.specs.Chains.{slotEnd, usedSlot, faninSlot, namesSlot, nextSink, sinksBelow, Hung, Hangable, Noded}
+use Rattle.facts.proofs.Blocks.{block-before}
+use Rattle.mapper.proofs.Mapped.{tree-sum}
+use Rattle.mapper.proofs.Nodes.{pos, IsNode, nodes-split, source-node, parent-inside}
+use Rattle.mapper.proofs.Chains.{next-within, next-count}
+use Rattle.mapper.proofs.Filling.{sinks-all, sinks-skip, sinks-none, sinks-below, sinks-here, sinks-other, OnChain, on-chain, chain-first, chain-next, chain-level}
+use Rattle.mapper.proofs.Planting.{parent-from}
+
+-- a rank by slot number
+rank-flat : (f : ℕ → ℕ → Bool) (p : ℕ) → rank f (p / slots) (p % slots) ≡ count (λ z. f (z / slots) (z % slots)) p
+unfolding rank
+rank-flat f p =
+    omega (
+      arith,
+      count₂-flat f slots (p / slots) (omega arith),
+      count-append flat (slots * (p / slots)) (p % slots),
+      count-cong (f (p / slots)) (λ y. flat (slots * (p / slots) + y)) (p % slots) (λ y l. sym (ap₂ f (record-of y l) (slot-of y l))),
+      ap (count flat) all,
+    )
+  where
+    flat : ℕ → Bool
+    flat z = f (z / slots) (z % slots)
+
+    all : slots * (p / slots) + p % slots ≡ p
+    all = omega arith
+
+    record-of : (y : ℕ) → y < p % slots → (slots * (p / slots) + y) / slots ≡ p / slots
+    record-of y l = omega arith
+
+    slot-of : (y : ℕ) → y < p % slots → (slots * (p / slots) + y) % slots ≡ y
+    slot-of y l = omega arith
+
+-- no sink of d stands between a slot and the next sink
+next-none : (n : Netlist) (d y z : ℕ) → y ≤ z → z < nextSink n d y → namesSlot n d z ≡ true → ⊥
+next-none n d y z a b e =
+    omega (
+      arith,
+      next-count n d (namesSlot n d) y (λ x h. h),
+      rank-lt (namesSlot n d) z (nextSink n d y) b e,
+      count-more (namesSlot n d) y z a,
+    )
+
+-- how far slot p stands above d, and its number where d is the driver that it names
+abbrev away : Netlist → ℕ → ℕ → ℕ
+away n p d = n .at (p / slots) .level - n .at d .level
+
+abbrev numbered : Netlist → ℕ → ℕ → ℕ → ℕ
+numbered n s p d = buffersOf n s d (away n p d) + rank (sinkAt n d (away n p d)) (p / slots) (p % slots)
+
+abbrev flatNumbered : Netlist → ℕ → ℕ → ℕ → ℕ
+flatNumbered n s p d = buffersOf n s d (away n p d) + sinksBelow n d (away n p d) p
+
+-- a sink's node and parent
+module _ (n : Netlist) (s : ℕ) (r : Ready n s) (d p : ℕ) (l : p < slotEnd n) (named : namesSlot n d p ≡ true) where
+  driven : faninSlot n p ≡ d
+  driven = eqb-true (faninSlot n p) d (and-r (usedSlot n p) _ named)
+
+  uses : p % slots < arity (n .at (p / slots) .kind)
+  uses = ltb-true _ _ (and-l (usedSlot n p) _ named)
+
+  number-flat : numbered n s p d ≡ flatNumbered n s p d
+  unfolding sinksBelow
+  number-flat = ap (λ (x : ℕ). buffersOf n s d (away n p d) + x) (rank-flat (sinkAt n d (away n p d)) p)
+
+  sink-node : IsNode n s r d (away n p d) (flatNumbered n s p d)
+  unfolding sinkNumber
+  sink-node =
+      subst (IsNode n s r d (away n p d)) number-flat
+      (subst (λ (d : ℕ). IsNode n s r d (away n p d) (numbered n s p d)) driven
+      (source-node n s r (p / slots) (p % slots) (omega arith) uses))
+
+  sink-parent : sinkParent n s (p / slots) (p % slots) ≡ parent n s d (away n p d) (flatNumbered n s p d)
+  unfolding sinkNumber
+  sink-parent =
+      ap (λ (d : ℕ). parent n s d (away n p d) (numbered n s p d)) driven ∙ ap (parent n s d (away n p d)) number-flat
+
+-- d's sinks below slot p hang on their parents, and are counted behind the buffers of their distances
+pub record Hanging (n : Netlist) (s d p : ℕ) (counts parents : List ℕ) : Type 0 where
+  pub chain : OnChain n d p
+  pub size : length counts ≡ suc topLevel
+  pub counted : (k : ℕ) → 1 ≤ k → k ≤ topLevel → getD counts k 0 ≡ buffersOf n s d k + sinksBelow n d k p
+  pub hung : Hung n s parents d
+  pub here : (y : ℕ) → y < p → y < slotEnd n → namesSlot n d y ≡ true → getD parents y 0 ≡ sinkParent n s (y / slots) (y % slots)
+
+module _ (n : Netlist) (s d : ℕ) (first next : List ℕ) (end : ℕ) (counts₀ base parents₀ : List ℕ)
+    (h : Hangable n s d first next end counts₀ base parents₀) where
+  pub hang-start : (p : ℕ) → p ≡ getD first d 0 → Hanging n s d p counts₀ parents₀
+  hang-start p e =
+      record {
+        chain = subst (OnChain n d) (sym g) (on-chain n d 0 (omega arith));
+        size = h .rowed .size;
+        counted = λ k a b. omega (arith, h .rowed .at k a b, ap (sinksBelow n d k) g, sinks-skip n d k 0, sinks-none n d k);
+        hung = h .hung;
+        here = λ y a b c. absurd (next-none n d 0 y (omega arith) (omega (arith, g)) c);
+      }
+    where
+      g : p ≡ nextSink n d 0
+      g = chain-first n first next end d (h .chained) p (h .driver) e
+
+  module _ (p : ℕ) (counts parents : List ℕ) (f : Hanging n s d p counts parents) where
+    module _ (l : p < end) (up low : ℕ) (eu : up ≡ n .at (p / slots) .level) (el : low ≡ n .at d .level) where
+      in-chain : p < slotEnd n
+      in-chain = omega (arith, h .chained .stop)
+
+      named : namesSlot n d p ≡ true
+      named = f .chain .sink in-chain
+
+      above : n .at d .level < n .at (p / slots) .level
+      above = chain-level n first next end d (h .chained) p (f .chain) in-chain
+
+      pub hang-above : low ≤ up
+      hang-above = omega (arith, above)
+
+      pub hang-near : up - low < suc topLevel
+      hang-near = omega (arith, h .chained .source .levels (p / slots) (omega (arith, in-chain)))
+
+      next-is : (q : ℕ) → q ≡ getD next p 0 → q ≡ nextSink n d (suc p)
+      next-is q e = chain-next n first next end d (h .chained) p q (f .chain) in-chain e
+
+      pub hang-less : (q : ℕ) → q ≡ getD next p 0 → end - q < end - p
+      hang-less q e = omega (arith, next-is q e, next-within n d (suc p) in-chain, h .chained .stop)
+
+      away-is : up - low ≡ away n p d
+      away-is = omega arith
+
+      number-is : getD counts (up - low) 0 ≡ buffersOf n s d (up - low) + sinksBelow n d (up - low) p
+      number-is = f .counted (up - low) (omega (arith, above)) (omega (arith, hang-near))
+
+      node : IsNode n s (h .ready) d (up - low) (getD counts (up - low) 0)
+      node =
+          rw (number-is, away-is) (sink-node n s (h .ready) d p in-chain named)
+
+      on-base : parent n s d (up - low) (getD counts (up - low) 0) ≡ getD base (up - low) 0 + getD counts (up - low) 0 / s
+      on-base =
+          parent-from n s (h .ready) d (up - low) (getD counts (up - low) 0) node
+          ∙ ap (λ (x : ℕ). x + getD counts (up - low) 0 / s)
+          (sym (h .based .at (up - low) (node .above) (omega (arith, node .number))))
+
+      hangs-on : sinkParent n s (p / slots) (p % slots) ≡ getD base (up - low) 0 + getD counts (up - low) 0 / s
+      hangs-on = sink-parent n s (h .ready) d p in-chain named ∙ by-level ∙ on-base
+        where
+          by-level : parent n s d (away n p d) (flatNumbered n s p d) ≡ parent n s d (up - low) (getD counts (up - low) 0)
+          by-level = rw (number-is, away-is) refl
+
+      pub hang-parent : getD base (up - low) 0 + getD counts (up - low) 0 / s < 65536
+      hang-parent =
+          omega (arith, on-base, parent-inside n s (h .ready) d (up - low) (getD counts (up - low) 0) node, h .ready .fits)
+
+      pub hang-fits : Fits w32 (getD counts (up - low) 0 + 1)
+      hang-fits =
+          omega (
+            arith,
+            number-is,
+            sinks-below n d (up - low) p,
+            in-chain,
+            h .ready .source .few,
+            block-before (buffersOf n s d) (up - low) (suc topLevel) hang-near,
+            tree-sum n s (pos n s (h .ready)) d,
+            block-before (treeSize n s) d (n .size) (h .driver),
+            h .ready .fits,
+          )
+
+      pub hang-more : (q t : ℕ) → q ≡ getD next p 0 → t ≡ getD base (up - low) 0 + getD counts (up - low) 0 / s →
+          Hanging n s d q (set counts (up - low) (getD counts (up - low) 0 + 1)) (set parents p t)
+      hang-more q t e g =
+          record {
+            chain = subst (OnChain n d) (sym (next-is q e)) (on-chain n d (suc p) in-chain);
+            size = length-set counts (up - low) _ ∙ f .size;
+            counted = λ k a b. at k a b (ℕ-discrete k (up - low))
+                ∙ ap (λ (x : ℕ). buffersOf n s d k + x) (sym (ap (sinksBelow n d k) (next-is q e) ∙ sinks-skip n d k (suc p)));
+            hung = record { size = length-set parents p t ∙ f .hung .size; at = others };
+            here = λ y a b c. below y a b c (ℕ-discrete y p);
+          }
+        where
+          at : (k : ℕ) → 1 ≤ k → k ≤ topLevel → Dec (k ≡ up - low) →
+              getD (set counts (up - low) (getD counts (up - low) 0 + 1)) k 0 ≡ buffersOf n s d k + sinksBelow n d k (suc p)
+          at k a b (yes x) =
+              rw x
+              (getD-set-same counts (up - low) _ 0 (omega (arith, f .size, hang-near))
+              ∙ omega (arith, number-is, subst (λ (k : ℕ). sinksBelow n d k (suc p) ≡ suc (sinksBelow n d k p)) (sym away-is) (sinks-here n d p named above)))
+          at k a b (no x) =
+              getD-set-other counts (up - low) k _ 0 x
+              ∙ f .counted k a b
+              ∙ ap (λ (x : ℕ). buffersOf n s d k + x) (sym (sinks-other n d p named above k (λ y. x (y ∙ sym away-is))))
+
+          others : (y : ℕ) → y < slotEnd n → usedSlot n y ≡ true → faninSlot n y < d → getD (set parents p t) y 0 ≡ sinkParent n s (y / slots) (y % slots)
+          others y a u b =
+              getD-set-other parents p y t 0
+              (λ x. omega (arith, ap (faninSlot n) x, eqb-true (faninSlot n p) d (and-r (usedSlot n p) _ named)))
+              ∙ f .hung .at y a u b
+
+          below : (y : ℕ) → y < q → y < slotEnd n → namesSlot n d y ≡ true → Dec (y ≡ p) →
+              getD (set parents p t) y 0 ≡ sinkParent n s (y / slots) (y % slots)
+          below y a b c (yes x) =
+              rw x
+              (getD-set-same parents p t 0 (omega (arith, f .hung .size, in-chain, h .ready .source .few))
+              ∙ g
+              ∙ sym hangs-on)
+          below y a b c (no x) =
+              getD-set-other parents p y t 0 x
+              ∙ elim (decLt y p) [
+                | yes m ↦ f .here y m b c
+                | no m ↦ absurd (next-none n d (suc p) y (omega arith) (omega (arith, next-is q e)) c)
+              ]
+
+    last : end ≤ p → p ≡ slotEnd n
+    last l = omega (arith, f .chain .within, h .chained .stop)
+
+    pub hang-hung : end ≤ p → Hung n s parents (d + 1)
+    hang-hung l =
+        record {
+          size = f .hung .size;
+          at = λ y a u b.
+              elim (decLt (faninSlot n y) d) [
+                | yes m ↦ f .hung .at y a u m
+                | no m ↦ f .here y (omega (arith, last l)) a (and-i (usedSlot n y) _ u (eq-eqb (faninSlot n y) d (omega arith)))
+              ];
+        }
+
+    pub hang-noded : end ≤ p → Noded n s d counts
+    hang-noded l = record { size = f .size; at = all }
+      where
+        all : (k : ℕ) → 1 ≤ k → k ≤ topLevel → getD counts k 0 ≡ nodesAt s (netRow n d) k
+        all zero a b = absurd (omega arith)
+        all (suc k) a b =
+            omega (
+              arith,
+              f .counted (suc k) a b,
+              ap (sinksBelow n d (suc k)) (last l),
+              sinks-all n d (suc k),
+              nodes-split n s (h .ready) d k (h .driver) b,
+            )

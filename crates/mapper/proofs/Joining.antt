@@ -1,0 +1,106 @@
+-- Laws of writing records one after the other: the first j of n are written.
+use Prim.Native.Nat.{ℕ, _+_, _*_, _≤_, _<_, _/_}
+use mathlib.Core.Path.{_≡_, refl, sym, _∙_, ap, ap₂}
+use mathlib.Core.Bool.{cond}
+use mathlib.Core.List.{List, _++_}
+use native.Mathlib.Omega.{arith}
+use native.Mathlib.Nat.{add-zero, zero-add, div-le-self}
+use native.Mathlib.Numerals.{add-one}
+use lib.ListN.{length, take, drop, take-append-drop}
+use lib.Dec.{ltb}
+use borrow.Author.Tests.{lt-ltb, le-ltb}
+use Rattle.netlist.specs.declared.Record.{Record}
+use Rattle.netlist.specs.Kinds.{width, arity}
+use Rattle.netlist.specs.Records.{recordAt}
+use Rattle.mapper.specs.Bytes.{joined, encode, encoded, put}
+use Rattle.mapper.specs.Mapped.{bufferOf}
+use Rattle.mapper.specs.Chains.{levelRecord, relinked, relinkedAt}
+use Rattle.mapper.proofs.Bytes.{length-joined, length-encode}
+use Rattle.mapper.proofs.Area.{length-put, put-behind}
+
+-- records f 0 to f (j - 1) are written from record at on
+pub record Joining (area₀ : List ℕ) (at : ℕ) (f : ℕ → Record) (n : ℕ) (area : List ℕ) (j : ℕ) : Type 0 where
+  pub within : j ≤ n
+  pub long : length area ≡ length area₀
+  pub bytes : area ≡ put area₀ (width * at) (encoded f j)
+
+module _ (area₀ : List ℕ) (at : ℕ) (f : ℕ → Record) (n : ℕ) where
+  pub join-start : Joining area₀ at f n area₀ 0
+  unfolding encoded joined
+  join-start =
+      record {
+        within = omega arith;
+        long = refl;
+        bytes =
+            sym (ap (λ (k : ℕ). take (width * at) area₀ ++ drop k area₀) (add-zero (width * at)) ∙ take-append-drop (width * at) area₀);
+      }
+
+  module _ (area : List ℕ) (j : ℕ) (h : Joining area₀ at f n area j) where
+    pub join-room : width * (at + n) ≤ length area₀ → j < n → width * (at + j) + width ≤ length area
+    join-room room l = omega (arith, h .long)
+
+    pub join-end : n ≤ j → area ≡ put area₀ (width * at) (encoded f n)
+    join-end l =
+        let e : j ≡ n = omega (arith, h .within) in
+        h .bytes ∙ ap (λ (k : ℕ). put area₀ (width * at) (encoded f k)) e
+
+    pub join-more : (r : Record) (after : List ℕ) → width * (at + n) ≤ length area₀ → j < n → r ≡ f j →
+        after ≡ put area (width * (at + j)) (encode r) → Joining area₀ at f n after (j + 1)
+    unfolding encoded joined
+    join-more r after room l e g =
+        record {
+          within = omega arith;
+          long =
+              ap length g
+              ∙ length-put area (width * (at + j)) (encode r) (omega (arith, h .long, length-encode r))
+              ∙ h .long;
+          bytes =
+              g
+              ∙ ap₂ (λ (xs : List ℕ) (k : ℕ). put xs k (encode r)) (h .bytes) place
+              ∙ put-behind area₀ (width * at) so-far (encode r) (omega (arith, long-so-far))
+              ∙ ap (λ (r : Record). put area₀ (width * at) (so-far ++ encode r)) e
+              ∙ ap (λ (k : ℕ). put area₀ (width * at) (encoded f k)) (sym (add-one j));
+        }
+      where
+        so-far : List ℕ
+        so-far = encoded f j
+
+        long-so-far : length so-far ≡ width * j
+        long-so-far = length-joined (λ j. encode (f j)) width (λ j. length-encode (f j)) j
+
+        place : width * (at + j) ≡ width * at + length so-far
+        place = omega (arith, long-so-far)
+
+-- buffer j of a distance: what it hangs on, and its record
+pub level-parent : (base s n j : ℕ) → j < n → base + n < 65536 → base + j / s < 65536
+level-parent base s n j l b = omega (arith, div-le-self j s)
+
+module _ (area₀ : List ℕ) (s at level base n : ℕ) (area : List ℕ) (j : ℕ) (h : Joining area₀ at (levelRecord s level base) n area j) where
+  pub level-more : (fanin : ℕ) (r : Record) (after : List ℕ) → width * (at + n) ≤ length area₀ → j < n → fanin ≡ base + j / s →
+      r ≡ bufferOf level fanin → after ≡ put area (width * (at + j)) (encode r) →
+      Joining area₀ at (levelRecord s level base) n after (j + 1)
+  unfolding levelRecord
+  level-more fanin r after room l e f g =
+      join-more area₀ at (levelRecord s level base) n area j h r after room l (f ∙ ap (bufferOf level) e) g
+
+-- record i of the source: read, rewired and written
+pub new-used : (j a kind x y : ℕ) → a ≡ arity kind → j < a → x ≡ cond (ltb j (arity kind)) x y
+new-used j a kind x y e l = rw (← e, lt-ltb j a l) refl
+
+pub new-kept : (j a kind x y z : ℕ) → a ≡ arity kind → a ≤ j → z ≡ y → z ≡ cond (ltb j (arity kind)) x y
+new-kept j a kind x y z e l f = rw (← e, le-ltb j a l) f
+
+module _ (bytes parents area₀ : List ℕ) (n : ℕ) (area : List ℕ) (i : ℕ) (h : Joining area₀ 0 (relinkedAt bytes parents) n area i) where
+  pub source-room : width * n ≤ length area₀ → i < n → width * i + width ≤ length area
+  source-room room l = omega (arith, h .long)
+
+  pub source-more : (r t : Record) (after : List ℕ) → width * n ≤ length area₀ → i < n → r ≡ recordAt bytes i → t ≡ relinked r parents i →
+      after ≡ put area (width * i) (encode t) → Joining area₀ 0 (relinkedAt bytes parents) n after (i + 1)
+  unfolding relinkedAt
+  source-more r t after room l e f g =
+      join-more area₀ 0 (relinkedAt bytes parents) n area i h t after (omega arith) l
+      (f ∙ ap (λ (r : Record). relinked r parents i) e)
+      (g ∙ ap (λ (k : ℕ). put area (width * k) (encode t)) (sym (zero-add i)))
+
+  pub source-end : n ≤ i → area ≡ put area₀ 0 (encoded (relinkedAt bytes parents) n)
+  source-end l = join-end area₀ 0 (relinkedAt bytes parents) n area i h l

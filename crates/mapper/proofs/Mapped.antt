@@ -1,0 +1,144 @@
+-- The mapped netlist by index: which record stands at each index, and what each used slot of it names.
+use Prim.Native.Nat.{ℕ, suc, _+_, _-_, _≤_, _<_}
+use mathlib.Core.Path.{_≡_, refl, sym, _∙_, ap}
+use mathlib.Core.Bool.{Bool, true, false, cond}
+use mathlib.Core.List.{[]}
+use native.Mathlib.Omega.{arith}
+use native.Mathlib.Nat.{add-sub-cancel-left}
+use native.Mathlib.Decide.{decLt}
+use lib.ListN.{length}
+use borrow.Author.Tests.{lt-ltb, le-ltb}
+use Rattle.facts.specs.Sums.{sum}
+use Rattle.facts.specs.Blocks.{block}
+use Rattle.netlist.specs.Kinds.{topLevel, isDriver}
+use Rattle.netlist.specs.Records.{Netlist, blank}
+use Rattle.fanout.proofs.Nets.{fewest-sum, row-length}
+use Rattle.mapper.specs.Mapped.{netRow, buffersOf, treeSize, blockStart, mappedSize, place, bufferRecord, rewired, bufferAt, mappedAt}
+use Rattle.facts.proofs.Blocks.{InBlock, block-at, in-block, block-before}
+use Rattle.facts.proofs.Sums.{sum-first}
+
+-- no more distances than levels
+row-short : (n : Netlist) (d : ℕ) → length (netRow n d) ≤ suc topLevel
+unfolding netRow
+row-short n d = go (isDriver (n .at d .kind))
+  where
+    go : (b : Bool) → length (cond b (Rattle.fanout.specs.Nets.row n d) []) ≤ suc topLevel
+    go true = omega (arith, row-length n d)
+    go false = omega arith
+
+module _ (n : Netlist) (s : ℕ) (pos : 0 < s) where
+  -- a tree's buffers, distance by distance
+  pub tree-sum : (d : ℕ) → treeSize n s d ≡ sum (buffersOf n s d) (suc topLevel)
+  unfolding buffersOf
+  tree-sum d = fewest-sum s (netRow n d) topLevel pos (row-short n d) ∙ omega (arith, sum-first (buffersOf n s d) topLevel)
+
+  -- the buffers up to the j-th of distance k are d's
+  pub within-tree : (d k j : ℕ) → k ≤ topLevel → j < buffersOf n s d k → sum (buffersOf n s d) k + j < treeSize n s d
+  within-tree d k j l b = omega (arith, tree-sum d, block-before (buffersOf n s d) k (suc topLevel) (omega arith))
+
+  pub place-inside : (d k j : ℕ) → d < n .size → k ≤ topLevel → j < buffersOf n s d k → place n s d k j < mappedSize n s
+  place-inside d k j ld l b = omega (arith, within-tree d k j l b, block-before (treeSize n s) d (n .size) ld)
+
+  buffer-at : (d k j : ℕ) → d < n .size → k ≤ topLevel → j < buffersOf n s d k →
+      bufferAt n s (sum (treeSize n s) d + (sum (buffersOf n s d) k + j)) ≡ bufferRecord n s d k j
+  unfolding bufferAt
+  buffer-at d k j ld l b =
+      rw (
+        block-at (treeSize n s) (n .size) d (sum (buffersOf n s d) k + j) ld (within-tree d k j l b),
+        add-sub-cancel-left (sum (treeSize n s) d) (sum (buffersOf n s d) k + j),
+        block-at (buffersOf n s d) (suc topLevel) k j (omega arith) b,
+        add-sub-cancel-left (sum (buffersOf n s d) k) j,
+      ) refl
+
+  -- below N stand the source's records
+  pub at-source : (x : ℕ) → x < n .size → mappedAt n s x ≡ rewired n s x
+  unfolding mappedAt
+  at-source x l = rw (lt-ltb x (n .size) l) refl
+
+  -- at place d k j stands the buffer at level d + k that hangs on its parent
+  pub at-place : (d k j : ℕ) → d < n .size → k ≤ topLevel → j < buffersOf n s d k →
+      mappedAt n s (place n s d k j) ≡ bufferRecord n s d k j
+  unfolding mappedAt
+  at-place d k j ld l b =
+      rw (le-ltb (place n s d k j) (n .size) (omega arith), lt-ltb (place n s d k j) (mappedSize n s) (place-inside d k j ld l b))
+      (let e : place n s d k j - n .size ≡ sum (treeSize n s) d + (sum (buffersOf n s d) k + j) = omega arith in
+      ap (bufferAt n s) e ∙ buffer-at d k j ld l b)
+
+  -- one index is one place
+  pub place-driver : (d k j d′ k′ j′ : ℕ) → d < n .size → k ≤ topLevel → j < buffersOf n s d k →
+      d′ < n .size → k′ ≤ topLevel → j′ < buffersOf n s d′ k′ → place n s d k j ≡ place n s d′ k′ j′ → d ≡ d′
+  place-driver d k j d′ k′ j′ ld l b ld′ l′ b′ e =
+      let y : sum (treeSize n s) d + (sum (buffersOf n s d) k + j) ≡ sum (treeSize n s) d′ + (sum (buffersOf n s d′) k′ + j′) = omega arith in
+      sym (block-at (treeSize n s) (n .size) d _ ld (within-tree d k j l b))
+      ∙ ap (λ (y : ℕ). block (treeSize n s) y (n .size)) y
+      ∙ block-at (treeSize n s) (n .size) d′ _ ld′ (within-tree d′ k′ j′ l′ b′)
+
+  pub place-distance : (d k j k′ j′ : ℕ) → k ≤ topLevel → j < buffersOf n s d k → k′ ≤ topLevel → j′ < buffersOf n s d k′ →
+      place n s d k j ≡ place n s d k′ j′ → k ≡ k′
+  place-distance d k j k′ j′ l b l′ b′ e =
+      let z : sum (buffersOf n s d) k + j ≡ sum (buffersOf n s d) k′ + j′ = omega arith in
+      sym (block-at (buffersOf n s d) (suc topLevel) k j (omega arith) b)
+      ∙ ap (λ (z : ℕ). block (buffersOf n s d) z (suc topLevel)) z
+      ∙ block-at (buffersOf n s d) (suc topLevel) k′ j′ (omega arith) b′
+
+  -- from M on stands nothing
+  pub at-end : (x : ℕ) → mappedSize n s ≤ x → mappedAt n s x ≡ blank
+  unfolding mappedAt
+  at-end x l = rw (le-ltb x (n .size) (omega arith), le-ltb x (mappedSize n s) l) refl
+
+  -- every record from N on has its place
+  pub record Placed (x : ℕ) : Type 0 where
+    pub d : ℕ
+    pub k : ℕ
+    pub j : ℕ
+    pub driver : d < n .size
+    pub near : k ≤ topLevel
+    pub number : j < buffersOf n s d k
+    pub index : x ≡ place n s d k j
+
+  pub placed : (x : ℕ) → n .size ≤ x → x < mappedSize n s → Placed x
+  placed x l b =
+      record {
+        d = d;
+        k = k;
+        j = z - sum (buffersOf n s d) k;
+        driver = f .below;
+        near = omega (arith, g .below);
+        number = omega (arith, g .from, g .before);
+        index = omega (arith, f .from, g .from);
+      }
+    where
+      y : ℕ
+      y = x - n .size
+
+      f : InBlock (treeSize n s) y (n .size) (block (treeSize n s) y (n .size))
+      f = in-block (treeSize n s) y (n .size) (omega arith)
+
+      d : ℕ
+      d = block (treeSize n s) y (n .size)
+
+      z : ℕ
+      z = y - sum (treeSize n s) d
+
+      g : InBlock (buffersOf n s d) z (suc topLevel) (block (buffersOf n s d) z (suc topLevel))
+      g = in-block (buffersOf n s d) z (suc topLevel) (omega (arith, tree-sum d, f .from, f .before))
+
+      k : ℕ
+      k = block (buffersOf n s d) z (suc topLevel)
+
+  -- a buffer stands in the block of its own driver and in no other
+  pub in-own-block : (x : ℕ) (p : Placed x) → (blockStart n s (p .d) ≤ x) × (x < blockStart n s (suc (p .d)))
+  unfolding sum
+  in-own-block x p = omega (arith, p .index, within-tree (p .d) (p .k) (p .j) (p .near) (p .number))
+
+  pub block-driver : (x d : ℕ) (p : Placed x) → blockStart n s d ≤ x → x < blockStart n s (suc d) → p .d ≡ d
+  unfolding sum
+  block-driver x d p a b =
+      elim (decLt (p .d) d) [
+        | yes l ↦ absurd (omega (arith, in-own-block x p, block-before (treeSize n s) (p .d) d l))
+        | no g ↦
+            elim (decLt d (p .d)) [
+              | yes l ↦ absurd (omega (arith, in-own-block x p, block-before (treeSize n s) d (p .d) l))
+              | no h ↦ omega arith
+            ]
+      ]

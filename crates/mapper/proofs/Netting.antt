@@ -1,0 +1,140 @@
+-- Laws of writing one net: what each step leaves is what the next one asks.
+use Prim.Native.Nat.{ℕ, zero, suc, _+_, _*_, _≤_, _<_}
+use mathlib.Core.Path.{_≡_, refl, sym, _∙_, ap, ap₂, subst}
+use mathlib.Core.List.{List}
+use native.Mathlib.Omega.{arith}
+use native.Mathlib.Numerals.{add-one}
+use native.Mathlib.Decide.{decLt}
+use lib.ListN.{length, getD, drop, replicate, List·getD-eq-default}
+use lib.Seq.{getD-drop}
+use Rattle.facts.specs.Sums.{sum}
+use Rattle.netlist.specs.Kinds.{width, topLevel}
+use Rattle.netlist.specs.Records.{Netlist}
+use Rattle.fanout.specs.Nets.{row, up, buffersAt}
+use Rattle.mapper.specs.declared.Tree.{Tree}
+use Rattle.mapper.specs.Bytes.{written}
+use Rattle.mapper.specs.Mapped.{buffersOf, treeSize, blockStart, mappedSize, mapped, Ready}
+use Rattle.mapper.specs.Chains.{Chained, Filled, Walkable, Walked, Stale, Net, Hung, Noded, Writable, Wrote}
+use Rattle.mapper.proofs.Area.{written-none, written-more, written-length}
+use Rattle.facts.proofs.Blocks.{block-before}
+use Rattle.mapper.proofs.Nodes.{pos, nodes-none}
+use Rattle.mapper.proofs.Measuring.{walkable, net-nodes}
+
+module _ (n : Netlist) (s d : ℕ) (first next : List ℕ) (end : ℕ) (r : Ready n s) (h : Chained n first next end) (top : ℕ)
+    (counts : List ℕ) (f : Filled n d counts top) where
+  pub net-walkable : Walkable s counts top
+  net-walkable = walkable n first next end s d top counts h (r .low, r .high) f
+
+  -- after the walk the row holds the tree's buffers
+  rowed : (after : List ℕ) (t : Tree) (w : Walked s counts after t) → d < n .size →
+      (k : ℕ) → 1 ≤ k → k ≤ topLevel → getD after k 0 ≡ buffersOf n s d k
+  unfolding buffersOf
+  rowed after t w ld zero a b = absurd (omega arith)
+  rowed after t w ld (suc k) a b =
+      w .at (suc k) a
+      ∙ ap (λ (r : List ℕ). buffersAt s r (suc k)) (f .counted)
+      ∙ ap (up s) (sym (net-nodes n s d (suc (suc k)) (h .source) (pos n s r) ld))
+
+  pub net-grown : (after : List ℕ) (t : Tree) → Walked s counts after t → d < n .size → Net n s d after top
+  net-grown after t w ld =
+      record {
+        ready = r;
+        driver = ld;
+        rowed = record { size = w .size; at = rowed after t w ld };
+        near = f .near;
+        beyond = λ k l.
+            net-nodes n s d k (h .source) (pos n s r) ld
+            ∙ nodes-none s (drop k (row n d)) (pos n s r)
+            (λ x.
+            getD-drop k (row n d) x 0
+            ∙ ap (λ (r : List ℕ). getD r (k + x) 0) (sym (f .counted))
+            ∙ f .beyond (k + x) (omega arith));
+      }
+
+module _ (n : Netlist) (s d top : ℕ) (counts : List ℕ) (g : Net n s d counts top) where
+  pub net-stale : (left : List ℕ) → Noded n s d left → Stale left top
+  net-stale left e =
+      record {
+        size = e .size;
+        near = g .near;
+        beyond = λ k l.
+            elim (decLt topLevel k) [
+              | yes m ↦ List·getD-eq-default left 0 {n = k} (omega (arith, e .size))
+              | no m ↦ e .at k (omega arith) (omega arith) ∙ g .beyond k l
+            ];
+      }
+
+sum-last : (f : ℕ → ℕ) (n : ℕ) → sum f n + f n ≡ sum f (n + 1)
+unfolding sum
+sum-last f n = rw (add-one n) refl
+
+-- the nets of the drivers below d are written
+pub record Netting (n : Netlist) (s : ℕ) (area₀ : List ℕ) (d at : ℕ) (counts base parents area : List ℕ) : Type 0 where
+  pub within : d ≤ n .size
+  pub start : at ≡ blockStart n s d
+  pub clear : counts ≡ replicate (suc topLevel) 0
+  pub room : length base ≡ suc topLevel
+  pub hung : Hung n s parents d
+  pub long : length area ≡ length area₀
+  pub bytes : area ≡ written (mapped n s) (n .size) (sum (treeSize n s) d) area₀
+
+module _ (n : Netlist) (s : ℕ) (area₀ : List ℕ) (r : Ready n s) (fits : width * mappedSize n s ≤ length area₀) where
+  pub nets-start : (N : ℕ) (parents base : List ℕ) → N ≡ n .size → length base ≡ suc topLevel → Hung n s parents 0 →
+      Netting n s area₀ 0 N (replicate (suc topLevel) 0) base parents area₀
+  unfolding sum
+  nets-start N parents base e b h =
+      record {
+        within = omega arith;
+        start = omega arith;
+        clear = refl;
+        room = b;
+        hung = h;
+        long = refl;
+        bytes = sym (written-none (mapped n s) (n .size) 0 area₀);
+      }
+
+  module _ (d at N : ℕ) (counts base parents area : List ℕ) (h : Netting n s area₀ d at counts base parents area) (size : N ≡ n .size) where
+    pub nets-writable : (first next : List ℕ) (end : ℕ) → Chained n first next end → d < N →
+        Writable n s d at first next end counts base parents area
+    nets-writable first next end c l =
+        record {
+          ready = r;
+          chained = c;
+          driver = omega arith;
+          start = h .start;
+          clear = h .clear;
+          room = h .room;
+          hung = h .hung;
+          long = omega (arith, h .long);
+        }
+
+    pub nets-more : (after : ℕ) (counts′ base′ parents′ area′ : List ℕ) → d < N →
+        Wrote n s d at area counts′ base′ parents′ area′ after → Netting n s area₀ (d + 1) after counts′ base′ parents′ area′
+    nets-more after counts′ base′ parents′ area′ l w =
+        record {
+          within = omega arith;
+          start = w .start;
+          clear = w .clear;
+          room = w .room;
+          hung = w .hung;
+          long = ap length (w .bytes) ∙ written-length (mapped n s) at (treeSize n s d) area (omega (arith, inside, h .long)) ∙ h .long;
+          bytes =
+              w .bytes
+              ∙ ap₂ (λ (xs : List ℕ) (i : ℕ). written (mapped n s) i (treeSize n s d) xs) (h .bytes) (h .start)
+              ∙ written-more (mapped n s) (n .size) (sum (treeSize n s) d) area₀ (treeSize n s d) (omega (arith, inside, h .start))
+              ∙ ap (λ (c : ℕ). written (mapped n s) (n .size) c area₀) so-far;
+        }
+      where
+        inside : at + treeSize n s d ≤ mappedSize n s
+        inside = omega (arith, h .start, block-before (treeSize n s) d (n .size) (omega arith))
+
+        so-far : sum (treeSize n s) d + treeSize n s d ≡ sum (treeSize n s) (d + 1)
+        so-far = sum-last (treeSize n s) d
+
+    pub nets-hung : N ≤ d → Hung n s parents (n .size)
+    nets-hung l = let e : d ≡ n .size = omega (arith, h .within) in subst (Hung n s parents) e (h .hung)
+
+    pub nets-bytes : N ≤ d → area ≡ written (mapped n s) (n .size) (sum (treeSize n s) (n .size)) area₀
+    nets-bytes l =
+        let e : d ≡ n .size = omega (arith, h .within) in
+        h .bytes ∙ ap (λ (d : ℕ). written (mapped n s) (n .size) (sum (treeSize n s) d) area₀) e

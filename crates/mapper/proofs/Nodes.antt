@@ -1,0 +1,353 @@
+-- Of a source that is ready, each used slot of the mapped netlist is a node of a tree and hangs on its parent:
+-- named, balanced, no output, traced, kept.
+use Prim.Native.Nat.{ℕ, zero, suc, _+_, _-_, _≤_, _<_, _/_}
+use mathlib.Core.Path.{_≡_, refl, _∙_, ap, subst, subst⁻¹}
+use mathlib.Core.Logic.{_≢_}
+use mathlib.Core.Bool.{Bool, true, false, cond}
+use mathlib.Core.List.{List, [], _∷_}
+use native.Mathlib.Omega.{arith}
+use native.Mathlib.Decide.{decLt}
+use lib.ListN.{getD, drop, List·getD-eq-default}
+use lib.Seq.{getD-drop}
+use borrow.Author.Tests.{lt-ltb, le-ltb, ltb-true, le-leb, leb-false, eq-eqb, eqb-true}
+use Rattle.facts.proofs.Bools.{and-l, and-r, and-i}
+use Rattle.facts.proofs.Sums.{count₂-none}
+use Rattle.netlist.specs.declared.Record.{Record}
+use Rattle.netlist.specs.Kinds.{slots, unused, topLevel, output, buffer, arity, isDriver}
+use Rattle.netlist.specs.Records.{Netlist, slot, used, fanin, names}
+use Rattle.netlist.specs.Source.{IsSource}
+use Rattle.netlist.proofs.Checks.{arity-slots}
+use Rattle.fanout.specs.Nets.{row, sinks, sinkAt, up, nodes, buffers, nodesAt, buffersAt}
+use Rattle.fanout.proofs.Nets.{div-up, up-zero, nodes-at, row-length, row-at}
+use Rattle.mapper.specs.Mapped.{netRow, buffersOf, mappedSize, place, parent, bufferRecord, rank, distance, sinkNumber, sinkParent, rewired, mappedAt, Ready}
+use Rattle.netlist.proofs.Lists.{getD-tabulate}
+use Rattle.mapper.proofs.Lists.{getD-replicated}
+use Rattle.mapper.proofs.Blocks.{rank-below}
+use Rattle.mapper.proofs.Mapped.{at-source, at-place, place-inside, Placed, placed}
+
+-- a row without sinks has no nodes and no buffers
+pub nodes-none : (s : ℕ) (r : List ℕ) → 0 < s → ((x : ℕ) → getD r x 0 ≡ 0) → nodes s r ≡ 0
+unfolding nodes
+nodes-none s [] p h = refl
+nodes-none s (here ∷ further) p h =
+    omega (arith, ap (up s) (nodes-none s further p (λ x. h (suc x))), up-zero s p, h 0)
+
+pub buffers-none : (s : ℕ) (r : List ℕ) → 0 < s → ((x : ℕ) → getD r x 0 ≡ 0) → buffers s r ≡ 0
+unfolding buffers
+buffers-none s [] p h = refl
+buffers-none s (here ∷ further) p h =
+    omega (
+      arith,
+      ap (up s) (nodes-none s further p (λ x. h (suc x))),
+      up-zero s p,
+      buffers-none s further p (λ x. h (suc x)),
+    )
+
+-- what a sink is
+pub record IsSink (n : Netlist) (d k i j : ℕ) : Type 0 where
+  pub inUse : j < arity (n .at i .kind)
+  pub driver : fanin n i j ≡ d
+  pub level : n .at i .level ≡ n .at d .level + k
+
+pub sink-facts : (n : Netlist) (d k i j : ℕ) → sinkAt n d k i j ≡ true → IsSink n d k i j
+sink-facts n d k i j e =
+    record {
+      inUse = ltb-true j _ (and-l (used n i j) _ (and-l (names n d i j) _ e));
+      driver = eqb-true _ d (and-r (used n i j) _ (and-l (names n d i j) _ e));
+      level = eqb-true _ _ (and-r (names n d i j) _ e);
+    }
+
+pub is-sink : (n : Netlist) (d k i j : ℕ) → IsSink n d k i j → sinkAt n d k i j ≡ true
+is-sink n d k i j h =
+    and-i (names n d i j) _ (and-i (used n i j) _ (lt-ltb j _ (h .inUse)) (eq-eqb _ d (h .driver))) (eq-eqb _ _ (h .level))
+
+-- an output has no sinks
+pub no-sinks : (n : Netlist) (d k : ℕ) → IsSource n → n .at d .kind ≡ output → sinks n d k ≡ 0
+unfolding sinks
+no-sinks n d k i e =
+    count₂-none (sinkAt n d k) slots (n .size)
+    (λ i′ j l b t.
+    let h = sink-facts n d k i′ j t in
+    i .noOutput i′ j l (h .inUse) (ap (λ (x : ℕ). n .at x .kind) (h .driver) ∙ e))
+
+module _ (n : Netlist) (s : ℕ) (r : Ready n s) where
+  pub pos : 0 < s
+  pos = omega (arith, r .low)
+
+  -- what is no output drives
+  pub drives : (d : ℕ) → d < n .size → n .at d .kind ≢ output → isDriver (n .at d .kind) ≡ true
+  drives d l h = le-leb (n .at d .kind) _ (omega (arith, r .source .kinds d l))
+
+  -- the nodes at a distance: its buffers and its sinks
+  pub nodes-split : (d k : ℕ) → d < n .size → suc k ≤ topLevel →
+      nodesAt s (netRow n d) (suc k) ≡ buffersOf n s d (suc k) + sinks n d (suc k)
+  unfolding netRow buffersOf nodes
+  nodes-split d k ld l = go (isDriver (n .at d .kind)) refl
+    where
+      go : (b : Bool) → isDriver (n .at d .kind) ≡ b →
+          nodesAt s (cond b (row n d) []) (suc k) ≡ buffersAt s (cond b (row n d) []) (suc k) + sinks n d (suc k)
+      go true e = omega (arith, nodes-at s (row n d) (suc k) pos, row-at n d (suc k) l)
+      go false e =
+          omega (
+            arith,
+            up-zero s pos,
+            no-sinks n d (suc k) (r .source) (omega (arith, leb-false (n .at d .kind) _ e, r .source .kinds d ld)),
+          )
+
+  -- a node of d's tree at distance k
+  pub record IsNode (d k q : ℕ) : Type 0 where
+    pub driver : d < n .size
+    pub above : 1 ≤ k
+    pub near : k ≤ topLevel
+    pub number : q < nodesAt s (netRow n d) k
+
+  -- node q at a distance from 2 on hangs on a buffer
+  pub hangs : (d k q : ℕ) → IsNode d (suc (suc k)) q → q / s < buffersOf n s d (suc k)
+  unfolding buffersOf
+  hangs d k q h = div-up s q _ pos (h .number)
+
+  -- a parent stands one level nearer
+  pub parent-level : (d k q : ℕ) → IsNode d k q → n .at d .level + k ≡ suc (mappedAt n s (parent n s d k q) .level)
+  unfolding parent rewired bufferRecord
+  parent-level d zero q h = absurd (omega (arith, h .above))
+  parent-level d (suc zero) q h = rw (at-source n s pos d (h .driver)) (omega arith)
+  parent-level d (suc (suc k)) q h =
+      rw (at-place n s pos d (suc k) (q / s) (h .driver) (omega (arith, h .near)) (hangs d k q h)) (omega arith)
+
+  pub parent-inside : (d k q : ℕ) → IsNode d k q → parent n s d k q < mappedSize n s
+  unfolding parent
+  parent-inside d zero q h = absurd (omega (arith, h .above))
+  parent-inside d (suc zero) q h = omega (arith, h .driver)
+  parent-inside d (suc (suc k)) q h = place-inside n s pos d (suc k) (q / s) (h .driver) (omega (arith, h .near)) (hangs d k q h)
+
+  pub parent-kind : (d k q : ℕ) → IsNode d k q → n .at d .kind ≢ output → mappedAt n s (parent n s d k q) .kind ≢ output
+  unfolding parent rewired bufferRecord
+  parent-kind d zero q h g = absurd (omega (arith, h .above))
+  parent-kind d (suc zero) q h g = rw (at-source n s pos d (h .driver)) g
+  parent-kind d (suc (suc k)) q h g =
+      rw (at-place n s pos d (suc k) (q / s) (h .driver) (omega (arith, h .near)) (hangs d k q h)) (omega arith)
+
+  -- whatever holds of the driver, and of a buffer where it holds of the buffer's fanin, holds of every parent in its tree
+  pub parent-traced : (P : ℕ → Type 0) (d k q : ℕ) → IsNode d k q → P d →
+      ((x : ℕ) → mappedAt n s x .kind ≡ buffer → P (slot (mappedAt n s x) 0) → P x) → P (parent n s d k q)
+  unfolding parent bufferRecord
+  parent-traced P d zero q h p back = p
+  parent-traced P d (suc zero) q h p back = p
+  parent-traced P d (suc (suc k)) q h p back =
+      back (place n s d (suc k) (q / s)) (ap (λ (x : Record). x .kind) e)
+      (subst⁻¹ P (ap (λ (x : Record). slot x 0) e) (parent-traced P d (suc k) (q / s) inner p back))
+    where
+      e : mappedAt n s (place n s d (suc k) (q / s)) ≡ bufferRecord n s d (suc k) (q / s)
+      e = at-place n s pos d (suc k) (q / s) (h .driver) (omega (arith, h .near)) (hangs d k q h)
+
+      inner : IsNode d (suc k) (q / s)
+      inner =
+          record {
+            driver = h .driver;
+            above = omega arith;
+            near = omega (arith, h .near);
+            number = omega (arith, nodes-split d k (h .driver) (omega (arith, h .near)), hangs d k q h);
+          }
+
+  -- a buffer is a node of its tree
+  pub buffer-node : (d k j : ℕ) → d < n .size → k ≤ topLevel → j < buffersOf n s d k → IsNode d k j
+  unfolding buffersOf
+  buffer-node d zero j ld l b = absurd (omega arith)
+  buffer-node d (suc k) j ld l b =
+      record { driver = ld; above = omega arith; near = l; number = omega (arith, nodes-split d k ld l) }
+
+  -- an output has no buffer
+  pub buffer-drives : (d k j : ℕ) → j < buffersOf n s d k → n .at d .kind ≢ output
+  unfolding buffersOf netRow nodes
+  buffer-drives d zero j b e = omega arith
+  buffer-drives d (suc k) j b e =
+      omega (arith, rw (ap isDriver e) at b, up-zero s pos)
+
+  -- no sink stands above the top level
+  row-far : (d x : ℕ) → topLevel < n .at d .level + x → getD (netRow n d) x 0 ≡ 0
+  unfolding netRow sinks
+  row-far d x l = go (isDriver (n .at d .kind))
+    where
+      none : sinks n d x ≡ 0
+      none =
+          count₂-none (sinkAt n d x) slots (n .size)
+          (λ i j a b t. omega (arith, sink-facts n d x i j t .level, r .source .levels i a))
+
+      go : (b : Bool) → getD (cond b (row n d) []) x 0 ≡ 0
+      go true =
+          elim (decLt topLevel x) [
+            | yes h ↦ List·getD-eq-default (row n d) 0 {n = x} (omega (arith, row-length n d))
+            | no h ↦ row-at n d x (omega arith) ∙ none
+          ]
+      go false = List·getD-eq-default [] 0 {n = x} (omega arith)
+
+  -- a buffer stands on a level: some sink stands further on
+  pub buffer-level : (d k j : ℕ) → j < buffersOf n s d k → n .at d .level + k ≤ topLevel
+  unfolding buffersOf
+  buffer-level d zero j b = absurd (omega arith)
+  buffer-level d (suc k) j b =
+      elim (decLt topLevel (n .at d .level + suc k)) [
+        | yes h ↦ absurd (omega (arith, ap (up s) (none-from (suc (suc k)) (omega arith)), up-zero s pos))
+        | no h ↦ omega arith
+      ]
+    where
+      none-from : (k : ℕ) → topLevel < n .at d .level + k → nodesAt s (netRow n d) k ≡ 0
+      none-from k h =
+          nodes-none s (drop k (netRow n d)) pos
+          (λ x. getD-drop k (netRow n d) x 0 ∙ row-far d (k + x) (omega arith))
+
+  -- a used slot of the mapped netlist and the node that it is
+  pub record SlotNode (i j : ℕ) : Type 0 where
+    pub d : ℕ
+    pub k : ℕ
+    pub q : ℕ
+    pub node : IsNode d k q
+    pub drives : n .at d .kind ≢ output
+    pub level : mappedAt n s i .level ≡ n .at d .level + k
+    pub fanin : slot (mappedAt n s i) j ≡ parent n s d k q
+
+  -- a source's used slot is a sink of its fanin, at its distance
+  pub source-sink : (i j : ℕ) → i < n .size → j < arity (n .at i .kind) → IsSink n (fanin n i j) (distance n i j) i j
+  source-sink i j l b =
+      record { inUse = b; driver = refl; level = omega (arith, r .source .lower i j l b) }
+
+  pub source-node : (i j : ℕ) → i < n .size → j < arity (n .at i .kind) → IsNode (fanin n i j) (distance n i j) (sinkNumber n s i j)
+  unfolding sinkNumber sinks
+  source-node i j l b = record {
+    driver = omega (arith, r .source .earlier i j l b);
+    above = omega (arith, r .source .lower i j l b);
+    near = omega (arith, r .source .levels i l);
+    number = go (distance n i j) refl;
+  }
+    where
+      go : (k : ℕ) → k ≡ distance n i j →
+          buffersOf n s (fanin n i j) (distance n i j) + rank (sinkAt n (fanin n i j) (distance n i j)) i j
+          < nodesAt s (netRow n (fanin n i j)) (distance n i j)
+      go zero e = absurd (omega (arith, r .source .lower i j l b))
+      go (suc k) e = rw (← e) (omega (
+        arith,
+        nodes-split (fanin n i j) k (omega (arith, r .source .earlier i j l b)) (omega (arith, r .source .levels i l)),
+        rank-below (sinkAt n (fanin n i j) (suc k)) i j (n .size) l (omega (arith, arity-slots (n .at i .kind))) (rw e (is-sink n _ _ i j (source-sink i j l b))),
+      ))
+
+  -- the slots of a source's record in the mapped netlist
+  slot-at : (i j : ℕ) → i < n .size → j < slots →
+      slot (mappedAt n s i) j ≡ cond (used n i j) (sinkParent n s i j) (fanin n i j)
+  unfolding rewired
+  slot-at i j l b = rw (at-source n s pos i l) (getD-tabulate (λ j. cond (used n i j) (sinkParent n s i j) (fanin n i j)) slots j unused b)
+
+  pub slot-used : (i j : ℕ) → i < n .size → j < arity (n .at i .kind) → slot (mappedAt n s i) j ≡ sinkParent n s i j
+  slot-used i j l b =
+      slot-at i j l (omega (arith, arity-slots (n .at i .kind)))
+      ∙ ap (λ (c : Bool). cond c (sinkParent n s i j) (fanin n i j)) (lt-ltb j (arity (n .at i .kind)) b)
+
+  pub slot-kept : (i j : ℕ) → i < n .size → arity (n .at i .kind) ≤ j → j < slots → slot (mappedAt n s i) j ≡ fanin n i j
+  slot-kept i j l a b =
+      slot-at i j l b
+      ∙ ap (λ (c : Bool). cond c (sinkParent n s i j) (fanin n i j)) (le-ltb j (arity (n .at i .kind)) a)
+
+  -- outside its used slots a source's record is kept
+  pub kind-kept : (i : ℕ) → i < n .size → mappedAt n s i .kind ≡ n .at i .kind
+  unfolding rewired
+  kind-kept i l = rw (at-source n s pos i l) refl
+
+  pub inversion-kept : (i : ℕ) → i < n .size → mappedAt n s i .inversion ≡ n .at i .inversion
+  unfolding rewired
+  inversion-kept i l = rw (at-source n s pos i l) refl
+
+  pub level-kept : (i : ℕ) → i < n .size → mappedAt n s i .level ≡ n .at i .level
+  unfolding rewired
+  level-kept i l = rw (at-source n s pos i l) refl
+
+  -- a record that has a place is the buffer of that place
+  pub at-placed : (i : ℕ) (p : Placed n s pos i) → mappedAt n s i ≡ bufferRecord n s (p .d) (p .k) (p .j)
+  at-placed i p = ap (mappedAt n s) (p .index) ∙ at-place n s pos (p .d) (p .k) (p .j) (p .driver) (p .near) (p .number)
+
+  -- every used slot of the mapped netlist is a node
+  pub slot-node : (i j : ℕ) → i < mappedSize n s → j < arity (mappedAt n s i .kind) → SlotNode i j
+  unfolding bufferRecord
+  slot-node i j l b = elim (decLt i (n .size)) [ yes h ↦ below h | no h ↦ from (placed n s pos i (omega arith) l) ]
+    where
+      below : i < n .size → SlotNode i j
+      below h =
+          let u : j < arity (n .at i .kind) = subst (λ (k : ℕ). j < arity k) (kind-kept i h) b in
+          record {
+            d = fanin n i j;
+            k = distance n i j;
+            q = sinkNumber n s i j;
+            node = source-node i j h u;
+            drives = r .source .noOutput i j h u;
+            level = level-kept i h ∙ source-sink i j h u .level;
+            fanin = slot-used i j h u;
+          }
+
+      first : (x : Record) → mappedAt n s i ≡ x → x .kind ≡ buffer → j ≡ 0
+      first x e f = omega (arith, subst (λ (k : ℕ). j < arity k) (ap (λ (x : Record). x .kind) e ∙ f) b)
+
+      from : Placed n s pos i → SlotNode i j
+      from p =
+          let e = at-placed i p in
+          record {
+            d = p .d;
+            k = p .k;
+            q = p .j;
+            node = buffer-node (p .d) (p .k) (p .j) (p .driver) (p .near) (p .number);
+            drives = buffer-drives (p .d) (p .k) (p .j) (p .number);
+            level = ap (λ (x : Record). x .level) e;
+            fanin = ap (λ (x : Record). slot x j) e ∙ ap (slot (bufferRecord n s (p .d) (p .k) (p .j))) (first _ e refl);
+          }
+
+  -- every used slot names a record of the netlist
+  pub named : (i j : ℕ) → i < mappedSize n s → j < arity (mappedAt n s i .kind) → slot (mappedAt n s i) j < mappedSize n s
+  named i j l b =
+      let h = slot-node i j l b in
+      rw (h .fanin) (parent-inside (h .d) (h .k) (h .q) (h .node))
+
+  -- a used slot names no output
+  pub no-output : (i j : ℕ) → i < mappedSize n s → j < arity (mappedAt n s i .kind) →
+      mappedAt n s (slot (mappedAt n s i) j) .kind ≢ output
+  no-output i j l b =
+      let h = slot-node i j l b in
+      rw (h .fanin) (parent-kind (h .d) (h .k) (h .q) (h .node) (h .drives))
+
+  -- every fanin stands exactly one level lower
+  pub balanced : (i j : ℕ) → i < mappedSize n s → j < arity (mappedAt n s i .kind) →
+      mappedAt n s i .level ≡ suc (mappedAt n s (slot (mappedAt n s i) j) .level)
+  balanced i j l b =
+      let h = slot-node i j l b in
+      rw (h .fanin) (h .level ∙ parent-level (h .d) (h .k) (h .q) (h .node))
+
+  -- each slot of a source's record, traced back through buffers, ends at the fanin that the source names
+  pub traced : (P : ℕ → Type 0) (i j : ℕ) → i < n .size → j < arity (n .at i .kind) → P (fanin n i j) →
+      ((x : ℕ) → mappedAt n s x .kind ≡ buffer → P (slot (mappedAt n s x) 0) → P x) → P (slot (mappedAt n s i) j)
+  traced P i j l b p back =
+      rw (slot-used i j l b) (parent-traced P _ _ _ (source-node i j l b) p back)
+
+  -- from N on stand buffers
+  pub buffer-kind : (i : ℕ) → n .size ≤ i → i < mappedSize n s → mappedAt n s i .kind ≡ buffer
+  unfolding bufferRecord
+  buffer-kind i a l = rw (at-placed i (placed n s pos i a l)) refl
+
+  pub buffer-inversion : (i : ℕ) → n .size ≤ i → i < mappedSize n s → mappedAt n s i .inversion ≡ 0
+  unfolding bufferRecord
+  buffer-inversion i a l = rw (at-placed i (placed n s pos i a l)) refl
+
+  pub buffer-low : (i : ℕ) → n .size ≤ i → i < mappedSize n s → mappedAt n s i .level ≤ topLevel
+  unfolding bufferRecord
+  buffer-low i a l =
+      let p = placed n s pos i a l in
+      rw (at-placed i p) (buffer-level (p .d) (p .k) (p .j) (p .number))
+
+  pub buffer-empty : (i j : ℕ) → n .size ≤ i → i < mappedSize n s → arity buffer ≤ j → slot (mappedAt n s i) j ≡ unused
+  unfolding bufferRecord
+  buffer-empty i zero a l b = absurd (omega arith)
+  buffer-empty i (suc j) a l b = rw (at-placed i (placed n s pos i a l)) (getD-replicated (slots - 1) j unused)
+
+  -- a buffer, traced back through buffers, ends at its tree's driver
+  pub buffer-traced : (P : ℕ → Type 0) (i : ℕ) → n .size ≤ i → i < mappedSize n s → (p : Placed n s pos i) → P (p .d) →
+      ((x : ℕ) → mappedAt n s x .kind ≡ buffer → P (slot (mappedAt n s x) 0) → P x) → P i
+  unfolding bufferRecord
+  buffer-traced P i a l p base back =
+      back i (buffer-kind i a l)
+      (subst⁻¹ P (ap (λ (x : Record). slot x 0) (at-placed i p))
+      (parent-traced P (p .d) (p .k) (p .j) (buffer-node (p .d) (p .k) (p .j) (p .driver) (p .near) (p .number)) base back))

@@ -1,0 +1,213 @@
+-- Laws of writing one tree: the buffers at distances below k are written.
+use Prim.Native.Nat.{ℕ, zero, suc, _+_, _-_, _*_, _≤_, _<_, _/_}
+use mathlib.Core.Path.{_≡_, refl, sym, _∙_, ap, ap₂}
+use mathlib.Core.List.{List}
+use native.Mathlib.Omega.{arith}
+use native.Mathlib.Nat.{zero-div, div-eq-of-lt}
+use native.Mathlib.Numerals.{add-one}
+use native.Mathlib.Decide.{decLt, ℕ-discrete}
+use mir.Val.{Fits}
+use mir.Syntax.{w16, w64}
+use lib.ListN.{length, getD, set, length-set}
+use lib.Seq.{getD-set-same, getD-set-other}
+use borrow.Author.Tests.{leb-true}
+use Rattle.facts.specs.Sums.{sum}
+use Rattle.facts.proofs.Sums.{sum-none, sum-append, sum-more}
+use Rattle.netlist.specs.Kinds.{width, topLevel}
+use Rattle.netlist.specs.Records.{Netlist}
+use Rattle.fanout.specs.Nets.{up, nodesAt}
+use Rattle.fanout.proofs.Nets.{up-zero}
+use Rattle.mapper.specs.Bytes.{encoded, recs, put, written}
+use Rattle.fanout.specs.Answer.{driverCapacity}
+use Rattle.mapper.specs.Mapped.{netRow, buffersOf, treeSize, blockStart, mappedSize, place, parent, bufferOf, bufferRecord, mappedAt, mapped, Ready}
+use Rattle.mapper.specs.Chains.{levelRecord, Net, Based}
+use Rattle.facts.proofs.Blocks.{block-before}
+use Rattle.mapper.proofs.Mapped.{tree-sum, at-place}
+use Rattle.mapper.proofs.Nodes.{pos, IsNode, buffer-node}
+use Rattle.mapper.proofs.Area.{encoded-cong, written-none, written-more, written-length}
+
+module _ (n : Netlist) (s : ℕ) (r : Ready n s) where
+  -- node q hangs q / s records behind what the first node hangs on
+  pub parent-from : (d k q : ℕ) → IsNode n s r d k q → parent n s d k q ≡ parent n s d k 0 + q / s
+  unfolding parent
+  parent-from d zero q h = absurd (omega (arith, h .above))
+  parent-from d (suc zero) q h =
+      omega (arith, div-eq-of-lt {n = q} {m = s} (omega (arith, h .number, leb-true (nodesAt s (netRow n d) 1) driverCapacity (r .trees d (h .driver)), r .low)))
+  parent-from d (suc (suc k)) q h = omega (arith, zero-div s)
+
+  -- the buffers of a distance
+  level-records : (d k : ℕ) → d < n .size → k ≤ topLevel →
+      encoded (levelRecord s (n .at d .level + k) (parent n s d k 0)) (buffersOf n s d k) ≡ recs (mapped n s) (place n s d k 0) (buffersOf n s d k)
+  unfolding levelRecord bufferRecord
+  level-records d k ld l =
+      encoded-cong _ _ (buffersOf n s d k)
+      (λ j b.
+      ap (bufferOf (n .at d .level + k)) (sym (parent-from d k j (buffer-node n s r d k j ld l b)))
+      ∙ sym (at-place n s (pos n s r) d k j ld l b)
+      ∙ ap (mappedAt n s) (next j))
+    where
+      next : (j : ℕ) → place n s d k j ≡ place n s d k 0 + j
+      next j = omega arith
+
+-- the first node of a distance hangs on the first buffer one level nearer, which stands before the distance's own
+module _ (n : Netlist) (s d : ℕ) (ld : d < n .size) where
+  parent-next : (k : ℕ) → 1 ≤ k → parent n s d (suc k) 0 ≡ place n s d k 0
+  unfolding parent
+  parent-next zero l = absurd (omega arith)
+  parent-next (suc k) l = ap (place n s d (suc k)) (zero-div s)
+
+  parent-before : (k : ℕ) → 1 ≤ k → parent n s d k 0 ≤ place n s d k 0
+  unfolding parent
+  parent-before zero l = absurd (omega arith)
+  parent-before (suc zero) l = omega arith
+  parent-before (suc (suc k)) l = omega (arith, zero-div s, sum-more (buffersOf n s d) (suc k) (suc (suc k)) (omega arith))
+
+-- distances below k are written
+pub record Planting (n : Netlist) (s d start top : ℕ) (area₀ base area : List ℕ) (at from k : ℕ) : Type 0 where
+  pub above : 1 ≤ k
+  pub within : k ≤ suc top
+  pub here : at ≡ start + sum (buffersOf n s d) k
+  pub hung : from ≡ parent n s d k 0
+  pub size : length base ≡ suc topLevel
+  pub based : (x : ℕ) → 1 ≤ x → x < k → getD base x 0 ≡ parent n s d x 0
+  pub long : length area ≡ length area₀
+  pub bytes : area ≡ written (mapped n s) start (sum (buffersOf n s d) k) area₀
+
+module _ (n : Netlist) (s d start top : ℕ) (counts area₀ : List ℕ) (h : Net n s d counts top) (e : start ≡ blockStart n s d)
+    (room : width * mappedSize n s ≤ length area₀) where
+  at-one : sum (buffersOf n s d) 1 ≡ 0
+  unfolding sum buffersOf
+  at-one = refl
+
+  pub plant-start : (base : List ℕ) → length base ≡ suc topLevel → Planting n s d start top area₀ base area₀ start d 1
+  unfolding parent
+  plant-start base b =
+      record {
+        above = omega arith;
+        within = omega arith;
+        here = omega (arith, at-one);
+        hung = refl;
+        size = b;
+        based = λ x l m. absurd (omega arith);
+        long = refl;
+        bytes = sym (ap (λ (c : ℕ). written (mapped n s) start c area₀) at-one ∙ written-none (mapped n s) start 0 area₀);
+      }
+
+  pub plant-driver : Fits w16 d
+  plant-driver = omega (arith, h .driver, h .ready .source .few)
+
+  module _ (base area : List ℕ) (at from k : ℕ) (p : Planting n s d start top area₀ base area at from k) where
+    -- what is written of the tree stays within M
+    up-to : (k : ℕ) → k ≤ suc topLevel → start + sum (buffersOf n s d) k ≤ mappedSize n s
+    up-to k l =
+        omega (
+          arith,
+          sum-more (buffersOf n s d) k (suc topLevel) l,
+          tree-sum n s (pos n s (h .ready)) d,
+          block-before (treeSize n s) d (n .size) (h .driver),
+        )
+
+    module _ (l : k ≤ top) where
+      counted : getD counts k 0 ≡ buffersOf n s d k
+      counted = h .rowed .at k (p .above) (omega (arith, h .near))
+
+      next-sum : sum (buffersOf n s d) (suc k) ≡ sum (buffersOf n s d) k + buffersOf n s d k
+      unfolding sum
+      next-sum = refl
+
+      pub plant-near : k < suc topLevel
+      plant-near = omega (arith, h .near)
+
+      ends : at + getD counts k 0 ≤ mappedSize n s
+      ends = omega (arith, p .here, counted, next-sum, up-to (suc k) (omega (arith, h .near)))
+
+      pub plant-room : width * (at + getD counts k 0) ≤ length area
+      plant-room = omega (arith, ends, p .long)
+
+      from-before : from ≤ at
+      from-before = omega (arith, p .hung, parent-before n s d (h .driver) k (p .above), p .here)
+
+      pub plant-parents : from + getD counts k 0 < 65536
+      plant-parents = omega (arith, ends, from-before, h .ready .fits)
+
+      pub plant-fits : Fits w16 at
+      plant-fits = omega (arith, ends, h .ready .fits)
+
+      pub plant-next : (c : ℕ) → c ≡ getD counts k 0 → Fits w64 (at + c)
+      plant-next c m = omega (arith, ends, h .ready .fits)
+
+      pub plant-level : (low : ℕ) → low ≡ n .at d .level → Fits w16 (low + k)
+      plant-level low f = omega (arith, h .near, h .ready .source .levels d (h .driver))
+
+      pub plant-more : (low c : ℕ) (after : List ℕ) → low ≡ n .at d .level → c ≡ getD counts k 0 →
+          after ≡ put area (width * at) (encoded (levelRecord s (low + k) from) (getD counts k 0)) →
+          Planting n s d start top area₀ (set base k from) after (at + c) at (k + 1)
+      plant-more low c after f m g =
+          record {
+            above = omega arith;
+            within = omega arith;
+            here = rw (add-one k) (omega (arith, p .here, counted, next-sum));
+            hung = rw (add-one k) (at-place-k ∙ sym (parent-next n s d (h .driver) k (p .above)));
+            size = length-set base k from ∙ p .size;
+            based = λ x a b. at-distance x a b (ℕ-discrete x k);
+            long =
+                ap length g
+                ∙ ap (λ (l : List ℕ). length (put area (width * at) l)) level-bytes
+                ∙ written-length (mapped n s) at (getD counts k 0) area plant-room ∙ p .long;
+            bytes =
+                g
+                ∙ ap (put area (width * at)) level-bytes
+                ∙ ap₂ (λ (xs : List ℕ) (i : ℕ). written (mapped n s) i (getD counts k 0) xs) (p .bytes) (p .here)
+                ∙ written-more (mapped n s) start (sum (buffersOf n s d) k) area₀ (getD counts k 0) (omega (arith, ends, p .here))
+                ∙ ap (λ (c : ℕ). written (mapped n s) start c area₀) so-far;
+          }
+        where
+          at-place-k : at ≡ place n s d k 0
+          at-place-k = omega (arith, p .here)
+
+          so-far : sum (buffersOf n s d) k + getD counts k 0 ≡ sum (buffersOf n s d) (k + 1)
+          so-far = rw (add-one k) (omega (arith, counted, next-sum))
+
+          level-bytes : encoded (levelRecord s (low + k) from) (getD counts k 0) ≡ recs (mapped n s) at (getD counts k 0)
+          level-bytes =
+              rw (f, p .hung, counted, at-place-k) (level-records n s (h .ready) d k (h .driver) (omega (arith, h .near)))
+
+          at-distance : (x : ℕ) → 1 ≤ x → x < k + 1 → Dec (x ≡ k) → getD (set base k from) x 0 ≡ parent n s d x 0
+          at-distance x a b (yes q) = rw q (getD-set-same base k from 0 (omega (arith, p .size, h .near)) ∙ p .hung)
+          at-distance x a b (no q) = getD-set-other base k x from 0 q ∙ p .based x a (omega arith)
+
+    no-buffers : (k : ℕ) → top < k → buffersOf n s d k ≡ 0
+    unfolding buffersOf
+    no-buffers zero l = refl
+    no-buffers (suc k) l = ap (up s) (h .beyond (suc (suc k)) (omega arith)) ∙ up-zero s (pos n s (h .ready))
+
+    whole : top < k → sum (buffersOf n s d) k ≡ treeSize n s d
+    whole l =
+        omega (
+          arith,
+          tree-sum n s (pos n s (h .ready)) d,
+          ap (sum (buffersOf n s d)) rest,
+          sum-append (buffersOf n s d) k (suc topLevel - k),
+          sum-none (λ x. buffersOf n s d (k + x)) (suc topLevel - k) (λ x b. no-buffers (k + x) (omega arith)),
+        )
+      where
+        rest : k + (suc topLevel - k) ≡ suc topLevel
+        rest = omega (arith, p .within, h .near)
+
+    pub plant-end : top < k → at ≡ blockStart n s (d + 1)
+    unfolding sum
+    plant-end l = rw (add-one d) (omega (arith, p .here, whole l))
+
+    pub plant-based : top < k → Based n s d base
+    plant-based l =
+        record {
+          size = p .size;
+          at = λ x a b.
+              elim (decLt x k) [
+                | yes m ↦ p .based x a m
+                | no m ↦ absurd (omega (arith, h .beyond x (omega arith)))
+              ];
+        }
+
+    pub plant-bytes : top < k → area ≡ written (mapped n s) start (treeSize n s d) area₀
+    plant-bytes l = p .bytes ∙ ap (λ (c : ℕ). written (mapped n s) start c area₀) (whole l)

@@ -1,0 +1,165 @@
+-- Laws of the block view: where a block begins, when there is none, and that its part lies within the area.
+use Prim.Native.Nat.{ℕ, suc, _+_, _-_, _*_, _≤_, _<_}
+use mathlib.Core.Path.{_≡_, refl, sym, _∙_, ap, ap₂}
+use mathlib.Core.Bool.{Bool, true, false, cond}
+use mathlib.Core.List.{List, []}
+use native.Mathlib.Omega.{arith}
+use native.Mathlib.Numerals.{add-one}
+use mir.Val.{Fits}
+use mir.Syntax.{w64}
+use lib.ListN.{length, take, drop}
+use borrow.Author.Tests.{le-leb, lt-leb, le-ltb, lt-ltb}
+use Rattle.facts.specs.declared.Checked.{Checked}
+use Rattle.facts.specs.declared.Checked.the-variants.{Passed, Refused}
+use Rattle.facts.specs.Checks.{check}
+use Rattle.facts.specs.Sums.{sum}
+use Rattle.facts.proofs.Sums.{sum-more}
+use Rattle.facts.proofs.Reflect.{scan-passed}
+use Rattle.netlist.specs.declared.Record.{Record}
+use Rattle.netlist.specs.Kinds.{width, mappedLimit, isDriver}
+use Rattle.netlist.specs.Records.{netlist, recordCount, recordAt}
+use Rattle.netlist.specs.Checks.{inputChecks}
+use Rattle.netlist.proofs.Records.{record-past}
+use Rattle.mapper.specs.declared.Sizing.{Sizing}
+use Rattle.mapper.specs.declared.Sizing.the-variants.{Total, Refuses}
+use Rattle.mapper.specs.declared.Ends.{Ends}
+use Rattle.mapper.specs.Mapped.{treeSize, blockStart, mappedSize}
+use Rattle.mapper.specs.Answer.{treeCheck, treesBelow, treeChecks, tooLarge, sourceMaps}
+use Rattle.mapper.specs.Chains.{sizingOf, Counted, Maps}
+use Rattle.mapper.specs.View.{noEnds, ownEnds, endsOf, blockEnds, between}
+use Rattle.mapper.proofs.Answering.{input-capacity}
+use Rattle.mapper.proofs.Counting.{total-small, refusing, counting}
+
+module _ (bytes : List ℕ) (s d : ℕ) where
+  ends-are : (a : Checked) → sourceMaps bytes s ≡ a → endsOf a (netlist bytes) s d ≡ blockEnds bytes s d
+  unfolding blockEnds
+  ends-are a e = ap (λ (a : Checked). endsOf a (netlist bytes) s d) (sym e)
+
+  -- 1 to 7
+  input-refuses : (number place : ℕ) → inputChecks s bytes ≡ Refused number place → sourceMaps bytes s ≡ Refused number place
+  unfolding sourceMaps
+  input-refuses number place e = rw e refl
+
+  pub ends-input : (number place : ℕ) (a : Checked) (r : Ends) → a ≡ inputChecks s bytes → a ≡ Refused number place → r ≡ noEnds →
+      r ≡ blockEnds bytes s d
+  ends-input number place a r e f g = g ∙ ends-are (Refused number place) (input-refuses number place (sym e ∙ f))
+
+  module _ (i : inputChecks s bytes ≡ Passed) where
+    -- 8
+    trees-refuse : (number place : ℕ) → treeChecks (netlist bytes) s ≡ Refused number place → sourceMaps bytes s ≡ Refused number place
+    unfolding sourceMaps
+    trees-refuse number place e = rw (i, e) refl
+
+    pub ends-tree : (number place m total : ℕ) (z : Sizing) (r : Ends) → m ≡ recordCount bytes →
+        z ≡ sizingOf (treesBelow (netlist bytes) s m) total → z ≡ Refuses number place → r ≡ noEnds → r ≡ blockEnds bytes s d
+    ends-tree number place m total z r size e f g =
+        g ∙ ends-are (Refused number place) (trees-refuse number place (refusing bytes s number place m total z size e f))
+
+-- 9
+module _ (bytes : List ℕ) (s N : ℕ) (first next : List ℕ) (end total : ℕ) (h : Counted bytes s N first next end total) where
+  late : sourceMaps bytes s ≡ check 9 0 (tooLarge (netlist bytes) s)
+  unfolding sourceMaps
+  late = rw (h .input, h .trees) refl
+
+  pub ends-large : (d : ℕ) (r : Ends) → mappedLimit < N + total → r ≡ noEnds → r ≡ blockEnds bytes s d
+  ends-large d r l e =
+      e
+      ∙ ends-are bytes s d (Refused 9 0)
+      (late ∙ ap (check 9 0) (lt-ltb mappedLimit (mappedSize (netlist bytes) s) (omega (arith, h .records, h .buffers))))
+
+  pub ends-maps : N + total ≤ mappedLimit → Maps bytes s N first next end
+  ends-maps l =
+      record {
+        maps = late ∙ ap (check 9 0) (le-ltb mappedLimit (mappedSize (netlist bytes) s) (omega (arith, h .records, h .buffers)));
+        capacity = input-capacity bytes s (h .input);
+        trees = h .trees;
+        chained = h .chained;
+        records = h .records;
+      }
+
+module _ (bytes : List ℕ) (s N : ℕ) (first next : List ℕ) (end : ℕ) (h : Maps bytes s N first next end) where
+  module _ (m : ℕ) (l : m ≤ N) (z : Sizing) (e : z ≡ sizingOf (treesBelow (netlist bytes) s m) (sum (treeSize (netlist bytes) s) m)) where
+    -- where a block begins
+    pub start-is : (total : ℕ) → z ≡ Total total → N + total ≡ blockStart (netlist bytes) s m
+    start-is total f = omega (arith, counting (netlist bytes) s m total z e f .1, h .records)
+
+    pub start-fits : (total : ℕ) → z ≡ Total total → Fits w64 (N + total)
+    start-fits total f =
+        omega (
+          arith,
+          counting (netlist bytes) s m total z e f .1,
+          sum-more (treeSize (netlist bytes) s) m (recordCount bytes) (omega (arith, h .records)),
+          total-small (netlist bytes) s (h .chained .source) (h .capacity .0),
+          h .records,
+          h .chained .source .few,
+        )
+
+    -- the trees before m were counted
+    pub start-never : (number place : ℕ) → z ≡ Refuses number place → 0 ≡ blockStart (netlist bytes) s m
+    start-never number place f = absurd (go (treesBelow (netlist bytes) s m) passed (sym e ∙ f))
+      where
+        passed : treesBelow (netlist bytes) s m ≡ Passed
+        passed =
+            scan-passed (treeCheck (netlist bytes) s) m .1
+            (λ k b. scan-passed (treeCheck (netlist bytes) s) (recordCount bytes) .0 (h .trees) k (omega (arith, h .records)))
+
+        go : (a : Checked) → a ≡ Passed → sizingOf a (sum (treeSize (netlist bytes) s) m) ≡ Refuses number place → ⊥
+        go Passed p g = let z : _≡_ {A = ℕ} 0 1 = cc in omega arith
+        go (Refused n′ p′) p g = let z : _≡_ {A = ℕ} 0 1 = cc in omega arith
+
+  module _ (d : ℕ) where
+    maps-ends : cond (isDriver (recordAt bytes d .kind)) (ownEnds (netlist bytes) s d) noEnds
+        ≡ blockEnds bytes s d
+    maps-ends = ends-are bytes s d Passed (h .maps)
+
+    pub ends-past : (r : Ends) → N ≤ d → r ≡ noEnds → r ≡ blockEnds bytes s d
+    ends-past r l e =
+        e
+        ∙ ap (λ (x : Record). cond (isDriver (x .kind)) (ownEnds (netlist bytes) s d) noEnds) (sym (record-past bytes d (omega (arith, h .records))))
+        ∙ maps-ends
+
+    module _ (kind : ℕ) (b : Bool) (k : kind ≡ recordAt bytes d .kind) (e : b ≡ isDriver kind) where
+      pub ends-other : (r : Ends) → b ≡ false → r ≡ noEnds → r ≡ blockEnds bytes s d
+      ends-other r f g = g ∙ ap (λ (b : Bool). cond b (ownEnds (netlist bytes) s d) noEnds) (sym f ∙ e ∙ ap isDriver k) ∙ maps-ends
+
+      pub ends-driver : (x y : ℕ) → b ≡ true → x ≡ blockStart (netlist bytes) s d → y ≡ blockStart (netlist bytes) s (d + 1) →
+          record { from = x; to = y } ≡ blockEnds bytes s d
+      ends-driver x y f g i =
+          ap₂ (λ (x y : ℕ). record { from = x; to = y }) g (i ∙ ap (blockStart (netlist bytes) s) (add-one d))
+          ∙ ap (λ (b : Bool). cond b (ownEnds (netlist bytes) s d) noEnds) (sym f ∙ e ∙ ap isDriver k)
+          ∙ maps-ends
+
+-- a block ends behind its beginning
+ends-order : (bytes : List ℕ) (s d : ℕ) → blockEnds bytes s d .from ≤ blockEnds bytes s d .to
+unfolding blockEnds
+ends-order bytes s d = go (sourceMaps bytes s)
+  where
+    pick : (b : Bool) → cond b (ownEnds (netlist bytes) s d) noEnds .from
+        ≤ cond b (ownEnds (netlist bytes) s d) noEnds .to
+    pick true = omega (arith, sum-more (treeSize (netlist bytes) s) d (suc d) (omega arith))
+    pick false = omega arith
+
+    go : (a : Checked) → endsOf a (netlist bytes) s d .from ≤ endsOf a (netlist bytes) s d .to
+    go Passed = pick (isDriver (recordAt bytes d .kind))
+    go (Refused number place) = omega arith
+
+module _ (bytes area : List ℕ) (s d : ℕ) (e : Ends) (h : e ≡ blockEnds bytes s d) where
+  ordered : e .from ≤ e .to
+  ordered = rw h (ends-order bytes s d)
+
+  pub view-empty : (m : ℕ) → m ≡ recordCount area → m < e .to → [] ≡ between area (blockEnds bytes s d)
+  view-empty m c l =
+      ap (λ (b : Bool). cond b (take (width * e .to - width * e .from) (drop (width * e .from) area)) []) (sym (lt-leb (e .to) (recordCount area) (omega arith)))
+      ∙ ap (between area) h
+
+  module _ (m : ℕ) (c : m ≡ recordCount area) (l : e .to ≤ m) where
+    pub view-order : width * e .from ≤ width * e .to
+    view-order = omega (arith, ordered)
+
+    pub view-end : width * e .to ≤ length area
+    view-end = omega arith
+
+    pub view-part : take (width * e .to - width * e .from) (drop (width * e .from) area) ≡ between area (blockEnds bytes s d)
+    view-part =
+        ap (λ (b : Bool). cond b (take (width * e .to - width * e .from) (drop (width * e .from) area)) []) (sym (le-leb (e .to) (recordCount area) (omega arith)))
+        ∙ ap (between area) h

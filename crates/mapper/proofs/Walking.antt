@@ -1,0 +1,140 @@
+-- Laws of walking a row down in place: from distance k on the row holds the buffers.
+use Prim.Native.Nat.{ℕ, suc, _+_, _-_, _*_, _≤_, _<_, _/_}
+use mathlib.Core.Path.{_≡_, refl, sym, _∙_, ap}
+use mathlib.Core.List.{List, [], _∷_}
+use native.Mathlib.Omega.{arith}
+use native.Mathlib.Nat.{mul-le-mul-right, mul-suc}
+use native.Mathlib.Decide.{ℕ-discrete}
+use mir.Val.{Fits}
+use mir.Syntax.{w32}
+use lib.ListN.{length, getD, drop, set, length-set, length-drop}
+use lib.Seq.{getD-set-same, getD-set-other, getD-drop}
+use Rattle.netlist.specs.Kinds.{slots, topLevel, sourceLimit}
+use Rattle.fanout.specs.Nets.{up, nodes, buffers, nodesAt, buffersAt}
+use Rattle.fanout.proofs.Nets.{up-le, up-zero, nodes-at, buffers-from}
+use Rattle.mapper.specs.Chains.{Walkable, Walked}
+use Rattle.mapper.proofs.Nodes.{nodes-none, buffers-none}
+
+-- at most half of the nodes, rounded up
+up-half : (s m : ℕ) → 2 ≤ s → up s m ≤ (m + 1) / 2
+up-half s m l = up-le s m ((m + 1) / 2) (omega arith) (omega (arith, mul-le-mul-right {m = 2} {n = s} ((m + 1) / 2) l))
+
+-- entries of at most c give at most 2 c nodes at each distance
+nodes-small : (s c : ℕ) (r : List ℕ) → 2 ≤ s → ((k : ℕ) → getD r k 0 ≤ c) → nodes s r ≤ 2 * c
+unfolding nodes
+nodes-small s c [] l h = omega arith
+nodes-small s c (here ∷ further) l h =
+    omega (arith, up-half s (nodes s further) l, nodes-small s c further l (λ k. h (suc k)), h 0)
+
+pub buffers-small : (s c : ℕ) (r : List ℕ) → 2 ≤ s → ((k : ℕ) → getD r k 0 ≤ c) → buffers s r ≤ 2 * c * length r
+unfolding buffers
+buffers-small s c [] l h = omega arith
+buffers-small s c (here ∷ further) l h =
+    omega (
+      arith,
+      up-half s (nodes s further) l,
+      nodes-small s c further l (λ k. h (suc k)),
+      buffers-small s c further l (λ k. h (suc k)),
+      mul-suc (2 * c) (length further),
+    )
+
+-- at distance k: its nodes, the buffers from there on, and the row, whose entries are sinks below k and buffers from k on
+pub record Walking (s : ℕ) (counts row : List ℕ) (k nodes buffers : ℕ) : Type 0 where
+  pub from : 1 ≤ k
+  pub to : k ≤ suc topLevel
+  pub here : nodes ≡ nodesAt s counts k
+  pub further : buffers ≡ Rattle.fanout.specs.Nets.buffers s (drop k counts)
+  pub size : length row ≡ suc topLevel
+  pub below : (x : ℕ) → x < k → getD row x 0 ≡ getD counts x 0
+  pub above : (x : ℕ) → k ≤ x → getD row x 0 ≡ buffersAt s counts x
+
+module _ (s : ℕ) (counts : List ℕ) (top : ℕ) (w : Walkable s counts top) where
+  pos : 0 < s
+  pos = omega (arith, w .low)
+
+  none : (k x : ℕ) → top < k → getD (drop k counts) x 0 ≡ 0
+  none k x l = getD-drop k counts x 0 ∙ w .beyond (k + x) (omega arith)
+
+  pub walk-start : Walking s counts counts (top + 1) 0 0
+  walk-start =
+      record {
+        from = omega arith;
+        to = omega (arith, w .near);
+        here = sym (nodes-none s (drop (top + 1) counts) pos (λ x. none (top + 1) x (omega arith)));
+        further = sym (buffers-none s (drop (top + 1) counts) pos (λ x. none (top + 1) x (omega arith)));
+        size = w .size;
+        below = λ x l. refl;
+        above = λ x l.
+            w .beyond x (omega arith)
+            ∙ sym (ap (up s) (nodes-none s (drop (suc x) counts) pos (λ y. none (suc x) y (omega arith))) ∙ up-zero s pos);
+      }
+
+  small-from : (k x : ℕ) → getD (drop k counts) x 0 ≤ slots * sourceLimit
+  small-from k x = omega (arith, getD-drop k counts x 0, w .small (k + x))
+
+  module _ (row : List ℕ) (k nodes buffers : ℕ) (h : Walking s counts row k nodes buffers) where
+    pub walk-few : nodes ≤ 65535
+    walk-few = omega (arith, h .here, nodes-small s (slots * sourceLimit) (drop k counts) (w .low) (small-from k))
+
+    pub walk-end : k ≤ 1 → Walked s counts row (record { nodes = nodes; buffers = buffers })
+    walk-end l =
+        let e : k ≡ 1 = omega (arith, h .from) in
+        record {
+          nodes = h .here ∙ ap (nodesAt s counts) e;
+          buffers = h .further ∙ ap (λ (k : ℕ). Rattle.fanout.specs.Nets.buffers s (drop k counts)) e;
+          size = h .size;
+          at = λ x m. h .above x (omega arith);
+        }
+
+    module _ (l : 1 < k) (b : ℕ) (e : b ≡ up s nodes) where
+      pub walk-room : k - 1 < suc topLevel
+      walk-room = omega (arith, h .to)
+
+      next : k ≡ suc (k - 1)
+      next = omega arith
+
+      carried : b ≡ buffersAt s counts (k - 1)
+      carried = e ∙ ap (up s) (h .here ∙ ap (nodesAt s counts) next)
+
+      nodes-here : b + getD row (k - 1) 0 ≡ nodesAt s counts (k - 1)
+      nodes-here = omega (arith, carried, h .below (k - 1) (omega arith), nodes-at s counts (k - 1) pos)
+
+      all-buffers : buffers + b ≡ Rattle.fanout.specs.Nets.buffers s (drop (k - 1) counts)
+      all-buffers =
+          omega (
+            arith,
+            carried,
+            h .further,
+            ap (λ (k : ℕ). Rattle.fanout.specs.Nets.buffers s (drop k counts)) next,
+            buffers-from s counts (k - 1) pos,
+          )
+
+      pub walk-nodes : Fits w32 (b + getD row (k - 1) 0)
+      walk-nodes =
+          omega (arith, nodes-here, nodes-small s (slots * sourceLimit) (drop (k - 1) counts) (w .low) (small-from (k - 1)))
+
+      pub walk-buffers : Fits w32 (buffers + b)
+      walk-buffers =
+          omega (
+            arith,
+            all-buffers,
+            buffers-small s (slots * sourceLimit) (drop (k - 1) counts) (w .low) (small-from (k - 1)),
+            length-drop (k - 1) counts,
+            w .size,
+          )
+
+      pub walk-more : Walking s counts (set row (k - 1) b) (k - 1) (b + getD row (k - 1) 0) (buffers + b)
+      walk-more =
+          record {
+            from = omega arith;
+            to = omega (arith, h .to);
+            here = nodes-here;
+            further = all-buffers;
+            size = length-set row (k - 1) b ∙ h .size;
+            below = λ x m. getD-set-other row (k - 1) x b 0 (λ g. omega arith) ∙ h .below x (omega arith);
+            above = λ x m. at x m (ℕ-discrete x (k - 1));
+          }
+        where
+          at : (x : ℕ) → k - 1 ≤ x → Dec (x ≡ k - 1) → getD (set row (k - 1) b) x 0 ≡ buffersAt s counts x
+          at x m (yes g) = rw g (getD-set-same row (k - 1) b 0 (omega (arith, h .to, h .size)) ∙ carried)
+          at x m (no g) = getD-set-other row (k - 1) x b 0 g ∙ h .above x (omega arith)

@@ -1,0 +1,69 @@
+-- Laws of the whole area: the source's records as written are the mapped netlist's, and with the buffers behind them they are all of it.
+use Prim.Native.Nat.{ℕ, zero, suc, _+_, _*_, _≤_, _<_, _/_, _%_}
+use mathlib.Core.Path.{_≡_, refl, sym, _∙_, ap, ap₂}
+use mathlib.Core.Bool.{Bool, true, false, cond}
+use mathlib.Core.List.{List, [], _∷_, _++_}
+use native.Mathlib.Omega.{arith}
+use lib.ListN.{length, getD}
+use borrow.Author.Tests.{ltb-true}
+use Rattle.netlist.specs.declared.Record.{Record}
+use Rattle.netlist.specs.Kinds.{width, slots}
+use Rattle.netlist.specs.Records.{netlist, tabulate, used, fanin}
+use Rattle.mapper.specs.Bytes.{encoded, bytesOf, put, written, onto}
+use Rattle.mapper.specs.Mapped.{bufferTotal, mappedSize, sinkParent, rewired, mappedAt, mapped, Ready}
+use Rattle.mapper.specs.Chains.{Hung, relinkedAt}
+use Rattle.mapper.proofs.Mapped.{at-source}
+use Rattle.mapper.proofs.Nodes.{pos}
+use Rattle.mapper.proofs.Area.{written-all, encoded-cong}
+
+tabulate-cong : (f g : ℕ → ℕ) (n : ℕ) → ((i : ℕ) → i < n → f i ≡ g i) → tabulate f n ≡ tabulate g n
+tabulate-cong f g zero h = refl
+tabulate-cong f g (suc n) h = ap₂ (λ (l : List ℕ) (x : ℕ). l ++ (x ∷ [])) (tabulate-cong f g n (λ i l. h i (omega arith))) (h n (omega arith))
+
+-- a record with other slots
+abbrev withSlots : Record → List ℕ → Record
+withSlots r slots = record { kind = r .kind; inversion = r .inversion; level = r .level; slots = slots }
+
+module _ (bytes : List ℕ) (s : ℕ) (parents : List ℕ) (r : Ready (netlist bytes) s)
+    (h : Hung (netlist bytes) s parents (netlist bytes .size)) where
+  -- a slot as written is the slot of the mapped netlist
+  new-slot : (i j : ℕ) → i < netlist bytes .size → j < slots →
+      cond (used (netlist bytes) i j) (getD parents (slots * i + j) 0) (fanin (netlist bytes) i j)
+      ≡ cond (used (netlist bytes) i j) (sinkParent (netlist bytes) s i j) (fanin (netlist bytes) i j)
+  new-slot i j l b = go (used (netlist bytes) i j) refl
+    where
+      record-of : (slots * i + j) / slots ≡ i
+      record-of = omega arith
+
+      slot-of : (slots * i + j) % slots ≡ j
+      slot-of = omega arith
+
+      go : (u : Bool) → used (netlist bytes) i j ≡ u →
+          cond u (getD parents (slots * i + j) 0) (fanin (netlist bytes) i j)
+          ≡ cond u (sinkParent (netlist bytes) s i j) (fanin (netlist bytes) i j)
+      go false e = refl
+      go true e =
+          h .at (slots * i + j) (omega arith) (ap₂ (used (netlist bytes)) record-of slot-of ∙ e)
+          (omega (arith, r .source .earlier i j l (ltb-true j _ e), ap₂ (fanin (netlist bytes)) record-of slot-of))
+          ∙ ap₂ (sinkParent (netlist bytes) s) record-of slot-of
+
+  new-record : (i : ℕ) → i < netlist bytes .size → relinkedAt bytes parents i ≡ mappedAt (netlist bytes) s i
+  unfolding relinkedAt rewired
+  new-record i l =
+      ap (withSlots (netlist bytes .at i)) (tabulate-cong _ _ slots (λ j b. new-slot i j l b))
+      ∙ sym (at-source (netlist bytes) s (pos (netlist bytes) s r) i l)
+
+  -- buffers, then the source's records: all of the mapped netlist
+  pub whole-area : (N : ℕ) (area₀ area₁ area : List ℕ) → N ≡ netlist bytes .size → width * mappedSize (netlist bytes) s ≤ length area₀ →
+      area₁ ≡ written (mapped (netlist bytes) s) (netlist bytes .size) (bufferTotal (netlist bytes) s) area₀ →
+      area ≡ put area₁ 0 (encoded (relinkedAt bytes parents) N) → area ≡ onto (bytesOf (mapped (netlist bytes) s)) area₀
+  whole-area N area₀ area₁ area e room f g =
+      g
+      ∙ ap (put area₁ 0)
+      (ap (encoded (relinkedAt bytes parents)) e
+      ∙ encoded-cong _ _ (netlist bytes .size) (λ i l. new-record i l ∙ ap (mappedAt (netlist bytes) s) (from-zero i)))
+      ∙ ap (written (mapped (netlist bytes) s) 0 (netlist bytes .size)) f
+      ∙ written-all (mapped (netlist bytes) s) (netlist bytes .size) (bufferTotal (netlist bytes) s) area₀ (omega arith) refl
+    where
+      from-zero : (i : ℕ) → i ≡ 0 + i
+      from-zero i = omega arith

@@ -1,0 +1,79 @@
+-- The bytes of the mapped netlist hold it: its fields fit, and what is read of the bytes is the mapped netlist.
+use Prim.Native.Nat.{ℕ, _≤_, _<_}
+use mathlib.Core.Path.{_≡_, refl, _∙_, subst}
+use mathlib.Core.Bool.{Bool, true, false, cond}
+use native.Mathlib.Omega.{arith}
+use native.Mathlib.Decide.{decLt}
+use native.Mathlib.Nat.{pow-le-pow-right}
+use lib.ListN.{length, List·getD-eq-default}
+use Rattle.netlist.specs.Kinds.{slots, unused, isGate, arity, invertible}
+use Rattle.netlist.specs.Records.{Netlist, netlist, slot}
+use Rattle.netlist.proofs.Checks.{arity-slots}
+use Rattle.mapper.specs.Bytes.{bytesOf, Fits}
+use Rattle.mapper.specs.Mapped.{mappedSize, bufferRecord, rewired, mappedAt, mapped, Ready}
+use Rattle.mapper.proofs.Bytes.{netlist-bytes}
+use Rattle.mapper.proofs.Mapped.{at-source, at-end, placed}
+use Rattle.mapper.proofs.Nodes.{pos, kind-kept, inversion-kept, level-kept, slot-kept, named, at-placed, buffer-kind, buffer-inversion, buffer-low, buffer-empty}
+
+-- no kind inverts more slots than there are
+invertible-le : (kind : ℕ) → invertible kind ≤ slots
+invertible-le kind = go (isGate kind)
+  where
+    go : (b : Bool) → cond b (arity kind) 0 ≤ slots
+    go true = arity-slots kind
+    go false = omega arith
+
+module _ (n : Netlist) (s : ℕ) (r : Ready n s) where
+  slots-wide : (i : ℕ) → i < mappedSize n s → length (mappedAt n s i .slots) ≡ slots
+  unfolding rewired bufferRecord
+  slots-wide i l =
+      elim (decLt i (n .size)) [
+        | yes h ↦ (rw (at-source n s (pos n s r) i h) refl)
+        | no h ↦ (rw (at-placed n s r i (placed n s (pos n s r) i (omega arith) l)) refl)
+      ]
+
+  slot-fits : (i j : ℕ) → i < mappedSize n s → slot (mappedAt n s i) j < 65536
+  slot-fits i j l =
+      elim (decLt j (arity (mappedAt n s i .kind))) [
+        | yes h ↦ omega (arith, named n s r i j l h, r .fits)
+        | no h ↦
+            elim (decLt j slots) [
+              | yes w ↦ omega (arith, empty (omega arith) w)
+              | no w ↦ omega (arith, List·getD-eq-default (mappedAt n s i .slots) unused {n = j} (omega (arith, slots-wide i l)))
+            ]
+      ]
+    where
+      empty : arity (mappedAt n s i .kind) ≤ j → j < slots → slot (mappedAt n s i) j ≡ unused
+      empty a w =
+          elim (decLt i (n .size)) [
+            | yes h ↦
+                (let a′ : arity (n .at i .kind) ≤ j = subst (λ (k : ℕ). arity k ≤ j) (kind-kept n s r i h) a in
+                slot-kept n s r i j h a′ w ∙ r .source .empty i j h a′ w)
+            | no h ↦ buffer-empty n s r i j (omega arith) l (subst (λ (k : ℕ). arity k ≤ j) (buffer-kind n s r i (omega arith) l) a)
+          ]
+
+  -- every field fits its bytes
+  pub mapped-fits : (i : ℕ) → i < mappedSize n s → Fits (mappedAt n s i)
+  mapped-fits i l =
+      elim (decLt i (n .size)) [
+        | yes h ↦
+            record {
+              kind = omega (arith, kind-kept n s r i h, r .source .kinds i h);
+              inversion = omega (arith, inversion-kept n s r i h, r .source .inversions i h, pow-le-pow-right {n = 2} (omega arith) (invertible-le (n .at i .kind)));
+              level = omega (arith, level-kept n s r i h, r .source .levels i h);
+              slots = λ j. slot-fits i j l;
+              all = slots-wide i l;
+            }
+        | no h ↦
+            record {
+              kind = omega (arith, buffer-kind n s r i (omega arith) l);
+              inversion = omega (arith, buffer-inversion n s r i (omega arith) l);
+              level = omega (arith, buffer-low n s r i (omega arith) l);
+              slots = λ j. slot-fits i j l;
+              all = slots-wide i l;
+            }
+      ]
+
+  -- what is read of the bytes is the mapped netlist
+  pub mapped-read : netlist (bytesOf (mapped n s)) ≡ mapped n s
+  mapped-read = netlist-bytes (mapped n s) mapped-fits (at-end n s (pos n s r))

@@ -1,0 +1,59 @@
+-- `map_source` meets its contract: the chains, the trees, then 8 or what follows it.
+use Rattle.mapper.proofs.Answering.{input-source, input-capacity, input-end, input-unlinked, counted-all, refused-tree, kept-tree}
+use borrow.Author.Needs.{needs}
+use Rattle.mapper.proofs.map_source.Statement.{statement}
+use Rattle.mapper.proofs.map_source.Tie as tie
+
+record-count-requires : tie.Need-record-count-requires
+record-count-requires c κs = search needs
+
+mul-end : tie.Need-mul-end
+mul-end c = search needs
+
+cast-first : tie.Need-cast-first
+cast-first c = search input-end
+
+link-all-requires : tie.Need-link-all-requires
+link-all-requires c κs = (search input-source, (search needs, search (needs, input-unlinked)))
+
+count-trees-requires : tie.Need-count-trees-requires
+count-trees-requires c κs = (search (needs, input-source), (search input-capacity, search needs))
+
+enum-known-sizing : tie.Need-enum-known-sizing
+enum-known-sizing c = search needs
+
+map-trees-requires : tie.Need-map-trees-requires
+map-trees-requires c κs =
+    counted-all _ _ (search needs) _ (search needs) _ _ (search needs) (c .before .before .before .before .sizing .given .1) _ _ (search needs)
+
+enum-known-sizing-2 : tie.Need-enum-known-sizing-2
+enum-known-sizing-2 c = search needs
+
+refuse-requires : tie.Need-refuse-requires
+refuse-requires c κs = search needs
+
+same-length : tie.Need-same-length
+same-length c = search needs
+
+returns : tie.Need-returns
+returns c = search needs
+
+returns-2 : tie.Need-returns-2
+returns-2 c = (search refused-tree, search kept-tree)
+
+pub map-source-spec : {M : Type 1} → statement M
+map-source-spec =
+    tie.close
+    (tie.spec
+    record-count-requires
+    mul-end
+    cast-first
+    link-all-requires
+    count-trees-requires
+    enum-known-sizing
+    map-trees-requires
+    enum-known-sizing-2
+    refuse-requires
+    same-length
+    returns
+    returns-2)

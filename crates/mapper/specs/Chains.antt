@@ -1,0 +1,187 @@
+-- What the mapper's local arrays hold. Slots go by number: slot y is slot y % 3 of record y / 3.
+use Prim.Native.Nat.{ℕ, suc, _+_, _-_, _*_, _≤_, _<_, _/_, _%_}
+use mathlib.Core.Path.{_≡_}
+use mathlib.Core.Bool.{Bool, true, cond}
+use mathlib.Core.List.{List}
+use lib.ListN.{length, getD, replicate}
+use lib.Dec.{ltb}
+use Rattle.facts.specs.declared.Checked.{Checked}
+use Rattle.facts.specs.declared.Checked.the-variants.{Passed, Refused}
+use Rattle.facts.specs.Sums.{count, seek}
+use Rattle.netlist.specs.declared.Record.{Record}
+use Rattle.netlist.specs.Kinds.{width, slots, topLevel, sourceLimit, arity}
+use Rattle.netlist.specs.Records.{Netlist, netlist, tabulate, slot, recordCount, recordAt, used, fanin, names}
+use Rattle.netlist.specs.Checks.{inputChecks}
+use Rattle.netlist.specs.Source.{IsSource}
+use Rattle.fanout.specs.Nets.{row, sinkAt, nodesAt, buffersAt, fewest}
+use Rattle.mapper.specs.declared.Tree.{Tree}
+use Rattle.mapper.specs.declared.Sizing.{Sizing}
+use Rattle.mapper.specs.declared.Sizing.the-variants.{Total, Refuses}
+use Rattle.mapper.specs.Bytes.{written}
+use Rattle.mapper.specs.Answer.{treeChecks, sourceMaps}
+use Rattle.mapper.specs.Mapped.{netRow, buffersOf, treeSize, blockStart, bufferTotal, mappedSize, parent, bufferOf, sinkParent, mapped, Ready}
+
+-- one past the last slot
+abbrev pub slotEnd : Netlist → ℕ
+slotEnd n = slots * n .size
+
+-- slot y is used; the record that it names; whether it is used and names d
+abbrev pub usedSlot : Netlist → ℕ → Bool
+usedSlot n y = used n (y / slots) (y % slots)
+
+abbrev pub faninSlot : Netlist → ℕ → ℕ
+faninSlot n y = fanin n (y / slots) (y % slots)
+
+abbrev pub namesSlot : Netlist → ℕ → ℕ → Bool
+namesSlot n d y = names n d (y / slots) (y % slots)
+
+-- the first slot from y on that names d, or the end
+unfoldable pub nextSink : Netlist → ℕ → ℕ → ℕ
+nextSink n d y = seek (namesSlot n d) y (slotEnd n - y)
+
+-- how many sinks of d at distance k stand below slot y
+unfoldable pub sinksBelow : Netlist → ℕ → ℕ → ℕ → ℕ
+sinksBelow n d k y = count (λ z. sinkAt n d k (z / slots) (z % slots)) y
+
+-- the chains of the slots from x on: each driver's first sink, and after each sink its driver's next
+pub record Linked (n : Netlist) (first next : List ℕ) (x : ℕ) : Type 0 where
+  pub firsts : (d : ℕ) → d < n .size → getD first d 0 ≡ nextSink n d x
+  pub nexts : (y : ℕ) → x ≤ y → y < slotEnd n → usedSlot n y ≡ true →
+      getD next y 0 ≡ nextSink n (faninSlot n y) (suc y)
+  pub drivers : length first ≡ sourceLimit
+  pub sinks : length next ≡ slots * sourceLimit
+
+-- the chains of a source, with the slot where they end
+pub record Chained (n : Netlist) (first next : List ℕ) (end : ℕ) : Type 0 where
+  pub source : IsSource n
+  pub linked : Linked n first next 0
+  pub stop : end ≡ slotEnd n
+
+-- the row of d's net, and a distance beyond which it has no sinks
+pub record Filled (n : Netlist) (d : ℕ) (counts : List ℕ) (top : ℕ) : Type 0 where
+  pub counted : counts ≡ row n d
+  pub near : top ≤ topLevel
+  pub beyond : (k : ℕ) → top < k → getD counts k 0 ≡ 0
+
+-- a row that can be walked down from distance top: its entries are small, and zero beyond
+pub record Walkable (s : ℕ) (counts : List ℕ) (top : ℕ) : Type 0 where
+  pub low : 2 ≤ s
+  pub high : s ≤ 4
+  pub size : length counts ≡ suc topLevel
+  pub near : top ≤ topLevel
+  pub small : (k : ℕ) → getD counts k 0 ≤ slots * sourceLimit
+  pub beyond : (k : ℕ) → top < k → getD counts k 0 ≡ 0
+
+-- a row after the walk: the nodes at distance 1, the tree's buffers, and at each distance from 1 on the buffers there
+pub record Walked (s : ℕ) (counts after : List ℕ) (t : Tree) : Type 0 where
+  pub nodes : t .nodes ≡ nodesAt s counts 1
+  pub buffers : t .buffers ≡ fewest s counts
+  pub size : length after ≡ suc topLevel
+  pub at : (k : ℕ) → 1 ≤ k → getD after k 0 ≡ buffersAt s counts k
+
+-- a row to be cleared up to distance top
+pub record Stale (counts : List ℕ) (top : ℕ) : Type 0 where
+  pub size : length counts ≡ suc topLevel
+  pub near : top ≤ topLevel
+  pub beyond : (k : ℕ) → top < k → getD counts k 0 ≡ 0
+
+-- d's net: the nodes left at distance 1, and its buffers
+pub record Measured (n : Netlist) (s d : ℕ) (t : Tree) : Type 0 where
+  pub nodes : t .nodes ≡ nodesAt s (netRow n d) 1
+  pub buffers : t .buffers ≡ treeSize n s d
+
+-- the buffers of all trees, or check 8's refusal
+abbrev pub sizingOf : Checked → ℕ → Sizing
+sizingOf Passed total = Total total
+sizingOf (Refused number place) total = Refuses number place
+
+-- the row of d's net after the walk: the buffers at each distance
+pub record Rowed (n : Netlist) (s d : ℕ) (counts : List ℕ) : Type 0 where
+  pub size : length counts ≡ suc topLevel
+  pub at : (k : ℕ) → 1 ≤ k → k ≤ topLevel → getD counts k 0 ≡ buffersOf n s d k
+
+-- d's net to be written: no node stands beyond top
+pub record Net (n : Netlist) (s d : ℕ) (counts : List ℕ) (top : ℕ) : Type 0 where
+  pub ready : Ready n s
+  pub driver : d < n .size
+  pub rowed : Rowed n s d counts
+  pub near : top ≤ topLevel
+  pub beyond : (k : ℕ) → top < k → nodesAt s (netRow n d) k ≡ 0
+
+-- what the first node of each distance of d's tree hangs on
+pub record Based (n : Netlist) (s d : ℕ) (base : List ℕ) : Type 0 where
+  pub size : length base ≡ suc topLevel
+  pub at : (k : ℕ) → 1 ≤ k → 0 < nodesAt s (netRow n d) k → getD base k 0 ≡ parent n s d k 0
+
+-- what each sink of the drivers below d hangs on
+pub record Hung (n : Netlist) (s : ℕ) (parents : List ℕ) (d : ℕ) : Type 0 where
+  pub size : length parents ≡ slots * sourceLimit
+  pub at : (y : ℕ) → y < slotEnd n → usedSlot n y ≡ true → faninSlot n y < d →
+      getD parents y 0 ≡ sinkParent n s (y / slots) (y % slots)
+
+-- d's sinks to be hung
+pub record Hangable (n : Netlist) (s d : ℕ) (first next : List ℕ) (end : ℕ) (counts base parents : List ℕ) : Type 0 where
+  pub ready : Ready n s
+  pub chained : Chained n first next end
+  pub driver : d < n .size
+  pub rowed : Rowed n s d counts
+  pub based : Based n s d base
+  pub hung : Hung n s parents d
+
+-- the row of d's net once its sinks are hung: the nodes at each distance
+pub record Noded (n : Netlist) (s d : ℕ) (counts : List ℕ) : Type 0 where
+  pub size : length counts ≡ suc topLevel
+  pub at : (k : ℕ) → 1 ≤ k → k ≤ topLevel → getD counts k 0 ≡ nodesAt s (netRow n d) k
+
+-- buffer j at a level, of which s hang on each record from base on
+unfoldable pub levelRecord : ℕ → ℕ → ℕ → ℕ → Record
+levelRecord s level base j = bufferOf level (base + j / s)
+
+-- the arrays and the area before the net of d is written at record at
+pub record Writable (n : Netlist) (s d at : ℕ) (first next : List ℕ) (end : ℕ) (counts base parents area : List ℕ) : Type 0 where
+  pub ready : Ready n s
+  pub chained : Chained n first next end
+  pub driver : d < n .size
+  pub start : at ≡ blockStart n s d
+  pub clear : counts ≡ replicate (suc topLevel) 0
+  pub room : length base ≡ suc topLevel
+  pub hung : Hung n s parents d
+  pub long : width * mappedSize n s ≤ length area
+
+-- and after it
+pub record Wrote (n : Netlist) (s d at : ℕ) (area₀ counts base parents area : List ℕ) (next : ℕ) : Type 0 where
+  pub start : next ≡ blockStart n s (d + 1)
+  pub clear : counts ≡ replicate (suc topLevel) 0
+  pub room : length base ≡ suc topLevel
+  pub hung : Hung n s parents (d + 1)
+  pub bytes : area ≡ written (mapped n s) at (treeSize n s d) area₀
+
+-- record r of index i, its used slots as the array of parents has them
+abbrev pub relinked : Record → List ℕ → ℕ → Record
+relinked r parents i =
+    record {
+      kind = r .kind;
+      inversion = r .inversion;
+      level = r .level;
+      slots = tabulate (λ j. cond (ltb j (arity (r .kind))) (getD parents (slots * i + j) 0) (slot r j)) slots;
+    }
+
+-- record i of the source so
+unfoldable pub relinkedAt : List ℕ → List ℕ → ℕ → Record
+relinkedAt bytes parents i = relinked (recordAt bytes i) parents i
+
+-- a source that passes 1 to 8, its chains, and the buffers of all trees
+pub record Counted (bytes : List ℕ) (s size : ℕ) (first next : List ℕ) (end total : ℕ) : Type 0 where
+  pub input : inputChecks s bytes ≡ Passed
+  pub trees : treeChecks (netlist bytes) s ≡ Passed
+  pub chained : Chained (netlist bytes) first next end
+  pub records : size ≡ recordCount bytes
+  pub buffers : total ≡ bufferTotal (netlist bytes) s
+
+-- a source whose trees are counted and that is not too large
+pub record Maps (bytes : List ℕ) (s size : ℕ) (first next : List ℕ) (end : ℕ) : Type 0 where
+  pub maps : sourceMaps bytes s ≡ Passed
+  pub capacity : (2 ≤ s) × (s ≤ 4)
+  pub trees : treeChecks (netlist bytes) s ≡ Passed
+  pub chained : Chained (netlist bytes) first next end
+  pub records : size ≡ recordCount bytes

@@ -1,0 +1,6 @@
+pub mod Bytes
+pub mod Mapped
+pub mod Answer
+pub mod Chains
+pub mod View
+pub mod Promises

@@ -1,0 +1,39 @@
+-- The block view (document 01, 'Views'): the block of one driver's buffers as a part of the lent mapped netlist.
+use Prim.Native.Nat.{ℕ, suc, _*_, _-_}
+use mathlib.Core.Bool.{cond}
+use mathlib.Core.List.{List, []}
+use lib.ListN.{take, drop}
+use lib.Dec.{leb}
+use Rattle.facts.specs.declared.Checked.{Checked}
+use Rattle.facts.specs.declared.Checked.the-variants.{Passed, Refused}
+use Rattle.netlist.specs.Kinds.{width, isDriver}
+use Rattle.netlist.specs.Records.{Netlist, netlist, recordCount}
+use Rattle.mapper.specs.declared.Ends.{Ends}
+use Rattle.mapper.specs.Mapped.{blockStart}
+use Rattle.mapper.specs.Answer.{sourceMaps}
+
+-- no block
+abbrev pub noEnds : Ends
+noEnds = record { from = 0; to = 0 }
+
+-- the records of d's block: behind the source and the trees before it
+abbrev pub ownEnds : Netlist → ℕ → ℕ → Ends
+ownEnds n s d = record { from = blockStart n s d; to = blockStart n s (suc d) }
+
+-- what the checks leave of it; only drivers have one
+abbrev pub endsOf : Checked → Netlist → ℕ → ℕ → Ends
+endsOf Passed n s d = cond (isDriver (n .at d .kind)) (ownEnds n s d) noEnds
+endsOf (Refused number place) n s d = noEnds
+
+-- none where the source and the capacity meet 1 to 9, or the record is no driver
+unfoldable pub blockEnds : List ℕ → ℕ → ℕ → Ends
+blockEnds bytes s d = endsOf (sourceMaps bytes s) (netlist bytes) s d
+
+-- the records between two ends; none where the area ends before they do
+abbrev pub between : List ℕ → Ends → List ℕ
+between area e =
+    cond (leb (e .to) (recordCount area)) (take (width * e .to - width * e .from) (drop (width * e .from) area)) []
+
+-- the block view
+abbrev pub blockView : List ℕ → ℕ → List ℕ → ℕ → List ℕ
+blockView bytes s mapped d = between mapped (blockEnds bytes s d)
