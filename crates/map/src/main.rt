@@ -1,0 +1,55 @@
+// The program `map`: standard input is one byte for the capacity, then the source; the mapper's seven numbers go to standard output.
+ghost use mathlib.Core.Path.{_≡_};
+ghost use lib.ListN.{drop, getD};
+ghost use Rattle.mapper.specs.Answer.{mapAnswer};
+use libc::STDIN_FILENO;
+use libc::STDOUT_FILENO;
+
+// One byte and a source one byte longer than the longest.
+const INPUT_LIMIT: usize = 40971;
+
+const AREA: usize = 60000;
+
+fn print_number(x: u32) {
+    io::print_decimal(STDOUT_FILENO, x as u64);
+}
+
+fn print_space() {
+    io::write_all(STDOUT_FILENO, b" ");
+}
+
+// The line of a mapping: its numbers with single spaces.
+fn print_line(m: mapper::Mapping) {
+    print_number(m.number);
+    print_space();
+    print_number(m.place);
+    print_space();
+    print_number(m.size);
+    print_space();
+    print_number(m.buffers);
+    print_space();
+    print_number(m.depth);
+    print_space();
+    print_number(m.junctions);
+    print_space();
+    print_number(m.share);
+    io::write_all(STDOUT_FILENO, b"\n");
+}
+
+// The mapping of an input: its first byte is the capacity, a missing one counts as 0.
+fn map_input(input: &[u8], area: &mut [u8]) -> mapper::Mapping
+    ensures { λ r. ⌜ r ≡ mapAnswer (drop 1 (now (input .entry))) (getD (now (input .entry)) 0 0) (now (area .entry)) ⌝ }
+{
+    if input.len() == 0 {
+        return mapper::map_netlist(input, 0, area);
+    }
+    let capacity = facts::wide(input[0]) as u32;
+    mapper::map_netlist(&input[1..], capacity, area)
+}
+
+fn main() {
+    let mut input = [0u8; INPUT_LIMIT];
+    let mut area = [0u8; AREA];
+    let n = io::read_full(STDIN_FILENO, &mut input);
+    print_line(map_input(&input[..n], &mut area));
+}
