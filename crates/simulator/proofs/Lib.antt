@@ -1,0 +1,15 @@
+pub mod Areas
+pub mod Logic
+pub mod Waves
+pub mod Steps
+pub mod Outputs
+pub mod Calls
+pub mod Rows
+pub mod Values
+pub mod Writes
+pub mod Accepted
+pub mod Repeats
+pub mod Claims
+pub mod Checks
+pub mod Playing
+pub mod Refusals

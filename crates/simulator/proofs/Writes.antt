@@ -1,0 +1,371 @@
+-- Laws of loops that write an area from the front: what is written so far, then the rest as it was.
+use Prim.Native.Nat.{ℕ, zero, suc, _+_, _*_, _-_, _^_, _<_, _≤_}
+use mathlib.Core.Path.{_≡_, refl, sym, _∙_, ap, ap₂, subst, subst₂}
+use mathlib.Core.Bool.{Bool, false, not}
+use mathlib.Core.List.{List, [], _∷_, _++_, append-nil, append-assoc}
+use native.Mathlib.Omega.{arith}
+use native.Mathlib.Nat.{add-sub-of-le, add-zero, add-suc, sub-zero}
+use native.Mathlib.Numerals.{add-one}
+use native.Mathlib.Decide.{decLt}
+use lib.ListN.{length, getD, take, drop, set, length-append, length-set, length-drop, take-append-drop, drop-of-length-le, List·getD-eq-default, List·getD-append}
+use lib.Seq.{take-all, drop-cons, set-at, append-snoc, take-at, drop-at, drop-drop, drop-append-add, getD-take, getD-drop, length-take-le}
+use lib.Dec.{eqb}
+use Rattle.facts.specs.Sums.{bit, sum, count}
+use Rattle.netlist.specs.Kinds.{input}
+use Rattle.netlist.specs.Records.{Netlist, netlist, recordAt, recordCount, slot, fanin, tabulate}
+use Rattle.simulator.specs.Logic.{on, isInput, valueIn, next, values}
+use Rattle.simulator.specs.Step.{renewedBelow, older, stepped, Buffered, copied}
+use Rattle.netlist.proofs.Lists.{getD-tabulate}
+use Rattle.simulator.proofs.Areas.{on-bit, tabulate-cong}
+use Rattle.simulator.proofs.Logic.{next-cong}
+use Rattle.simulator.proofs.Steps.{length-below, length-older}
+use Rattle.simulator.proofs.Values.{bit-le}
+use Rattle.simulator.proofs.Waves.{next-buffer}
+
+-- the first bytes are new, the rest is as it was
+pub record Written (new : List ℕ) (k : ℕ) (area old : List ℕ) : Type 0 where
+  pub long : length new ≡ k
+  pub parts : area ≡ new ++ drop k old
+
+pub length-written : (new : List ℕ) (k : ℕ) (area old : List ℕ) → Written new k area old → k ≤ length old → length area ≡ length old
+length-written new k area old w h = ap length (w .parts) ∙ length-append new (drop k old) ∙ simp length-drop (omega (arith, w .long))
+
+-- one byte more
+pub written-more : (new : List ℕ) (k b : ℕ) (area old : List ℕ) → Written new k area old → k < length old →
+    Written (new ++ (b ∷ [])) (suc k) (set area k b) old
+written-more new k b area old w h =
+    record {
+      long = length-append new (b ∷ []) ∙ omega (arith, w .long);
+      parts =
+          ap (λ (l : List ℕ). set l k b) (w .parts ∙ ap (λ (l : List ℕ). new ++ l) (drop-cons old k 0 h))
+          ∙ set-at new (getD old k 0) (drop (suc k) old) b k (w .long)
+          ∙ sym (append-snoc new b (drop (suc k) old));
+    }
+
+-- what is read: the new bytes, or the rest past them
+pub take-written : (new : List ℕ) (k : ℕ) (area old : List ℕ) → Written new k area old → take k area ≡ new
+take-written new k area old w = ap (take k) (w .parts) ∙ take-at new (drop k old) k (w .long)
+
+pub drop-written : (new : List ℕ) (k m : ℕ) (area old : List ℕ) → Written new k area old → k ≤ m → drop m area ≡ drop m old
+drop-written new k m area old w h =
+    ap₂ drop (sym e) (w .parts)
+    ∙ drop-append-add new (drop k old) (m - k)
+    ∙ drop-drop (m - k) k old
+    ∙ ap (λ (n : ℕ). drop n old) (add-sub-of-le h)
+  where
+    e : length new + (m - k) ≡ m
+    e = omega (arith, w .long)
+
+-- nothing is written yet, and the whole
+pub written-none : (old : List ℕ) → Written [] 0 old old
+written-none old = record { long = refl; parts = refl }
+
+pub written-all : (new : List ℕ) (k : ℕ) (area old : List ℕ) → Written new k area old → length old ≤ k → area ≡ new
+written-all new k area old w h =
+    w .parts ∙ ap (λ (l : List ℕ). new ++ l) (drop-of-length-le old h) ∙ append-nil new
+
+-- the first n bytes are as they were, and nothing is written after them yet
+written-part : (n : ℕ) (old : List ℕ) → n ≤ length old → Written (take n old ++ []) (n + 0) old old
+written-part n old h =
+    record {
+      long = ap length (append-nil (take n old)) ∙ length-take-le n old h ∙ sym (add-zero n);
+      parts =
+          sym (take-append-drop n old)
+          ∙ ap₂ (λ (l : List ℕ) (k : ℕ). l ++ drop k old) (sym (append-nil (take n old))) (sym (add-zero n));
+    }
+
+-- the first m bytes of old are kept in the next m, up to byte i
+pub record Keeping (m : ℕ) (area old : List ℕ) (i : ℕ) : Type 0 where
+  pub within : i ≤ m
+  pub whole : length old ≡ 2 * m
+  pub same : length area ≡ length old
+  pub so-far : Written (take m old ++ older i old) (m + i) area old
+
+module _ (m : ℕ) (old : List ℕ) where
+  pub keeping-start : length old ≡ 2 * m → Keeping m old old 0
+  unfolding older
+  keeping-start e =
+      record {
+        within = omega arith;
+        whole = e;
+        same = refl;
+        so-far = written-part m old (omega arith);
+      }
+
+  -- the first half is not written
+  first-half : (area : List ℕ) (i : ℕ) → Keeping m area old i → i < m → on area i ≡ on old i
+  first-half area i k h =
+      ap (λ (x : ℕ). not (eqb x 0))
+      (ap (λ (l : List ℕ). getD l i 0) (k .so-far .parts)
+      ∙ List·getD-append (take m old ++ older i old) _ 0 i (omega (arith, k .so-far .long))
+      ∙ List·getD-append (take m old) _ 0 i (omega (arith, length-take-le m old (omega (arith, k .whole))))
+      ∙ getD-take m old i 0 h)
+
+  pub keeping-more : (area : List ℕ) (i b : ℕ) → Keeping m area old i → i < m → b ≡ bit (not (eqb (getD area i 0) 0)) → Keeping m (set area (m + i) b) old (i + 1)
+  unfolding older
+  keeping-more area i b k h f =
+      let w = written-more (take m old ++ older i old) (m + i) b area old (k .so-far) (omega (arith, k .whole)) in
+      record {
+        within = omega arith;
+        whole = k .whole;
+        same = length-set area (m + i) b ∙ k .same;
+        so-far =
+            subst₂ (λ (l : List ℕ) (n : ℕ). Written l n (set area (m + i) b) old)
+            (append-assoc (take m old) (older i old) (b ∷ [])
+            ∙ ap (λ (x : ℕ). take m old ++ (older i old ++ (x ∷ []))) (f ∙ ap bit (first-half area i k h))
+            ∙ ap (λ (n : ℕ). take m old ++ older n old) (sym (add-one i)))
+            (omega arith)
+            w;
+      }
+
+  pub keeping-end : (area : List ℕ) (i : ℕ) → Keeping m area old i → m ≤ i → area ≡ take m old ++ older m old
+  keeping-end area i k h =
+      let e : i ≡ m = omega (arith, k .within) in
+      written-all _ (m + i) area old (k .so-far) (omega (arith, k .whole))
+      ∙ ap (λ (n : ℕ). take m old ++ older n old) e
+
+-- the first i of n records of a netlist are passed: their new bytes are written and their inputs counted
+pub record Passing (bytes : List ℕ) (n : ℕ) (new : List ℕ) (given i : ℕ) (area old : List ℕ) : Type 0 where
+  pub within : i ≤ n
+  pub few : given ≤ i
+  pub inputs : given ≡ count (isInput (netlist bytes)) i
+  pub room : n ≤ length old
+  pub same : length area ≡ length old
+  pub so-far : Written new i area old
+
+module _ (bytes : List ℕ) (n : ℕ) (old : List ℕ) where
+  passing-start : n ≤ length old → Passing bytes n [] 0 0 old old
+  unfolding count sum
+  passing-start h =
+      record {
+        within = omega arith;
+        few = omega arith;
+        inputs = refl;
+        room = h;
+        same = refl;
+        so-far = written-none old;
+      }
+
+  module _ (given i : ℕ) (row held new area : List ℕ) (b x one : ℕ) (p : Passing bytes n new given i area old) (h : i < n)
+      (byte : b ≡ bit (valueIn (recordAt bytes i) (on row given) held)) (kind : x ≡ recordAt bytes i .kind)
+      (more : one ≡ bit (eqb x input)) where
+    right : b ≡ bit (next (netlist bytes) row (on held) i)
+    unfolding next valueIn
+    right = rw (byte, p .inputs)
+
+    passing-more : Passing bytes n (new ++ (bit (next (netlist bytes) row (on held) i) ∷ [])) (given + one) (i + 1) (set area i b) old
+    unfolding count sum
+    passing-more =
+        record {
+          within = omega arith;
+          few = omega (arith, p .few, bit-le (eqb x input));
+          inputs = rw (add-one i, ← kind) (omega (arith, p .inputs));
+          room = p .room;
+          same = length-set area i b ∙ p .same;
+          so-far =
+              rw (add-one i, ← right)
+              (written-more new i b area old (p .so-far) (omega (arith, p .room)));
+        }
+
+  pub passing-fits : (given i one : ℕ) (new area : List ℕ) (x : Bool) → Passing bytes n new given i area old → i < n → one ≡ bit x → n < 2 ^ 64 → given + one < 2 ^ 64
+  passing-fits given i one new area x p h e l = omega (arith, p .few, bit-le x)
+
+-- plain logic's values, written by rising index
+module _ (bytes row : List ℕ) (n : ℕ) (old : List ℕ) where
+  pub filling-start : length old ≡ n → Passing bytes n (values (netlist bytes) row 0) 0 0 old old
+  unfolding values
+  filling-start h = passing-start bytes n old (omega arith)
+
+  pub filling-more : (given i : ℕ) (area : List ℕ) (b x one : ℕ) →
+      Passing bytes n (values (netlist bytes) row i) given i area old → i < n →
+      b ≡ bit (valueIn (recordAt bytes i) (on row given) (take (i - 0) (drop 0 area))) → x ≡ recordAt bytes i .kind → one ≡ bit (eqb x input) →
+      Passing bytes n (values (netlist bytes) row (i + 1)) (given + one) (i + 1) (set area i b) old
+  unfolding values
+  filling-more given i area b x one p h byte kind more =
+      let t : take (i - 0) area ≡ values (netlist bytes) row i = rw (sub-zero i) (take-written _ i area old (p .so-far)) in
+      subst (λ (l : List ℕ). Passing bytes n l (given + one) (i + 1) (set area i b) old)
+      (sym (ap (values (netlist bytes) row) (add-one i)))
+      (passing-more bytes n old given i row (values (netlist bytes) row i) _ area b x one p h (rw t at byte) kind more)
+
+  pub filling-end : (given i : ℕ) (area : List ℕ) → Passing bytes n (values (netlist bytes) row i) given i area old → n ≤ i → length old ≡ n →
+      area ≡ values (netlist bytes) row n
+  filling-end given i area p h e =
+      let q : i ≡ n = omega (arith, p .within) in
+      written-all _ i area old (p .so-far) (omega arith) ∙ ap (values (netlist bytes) row) q
+
+-- new values, written over the first half from what the second half holds
+module _ (bytes row : List ℕ) (n m : ℕ) (old : List ℕ) where
+  pub renewing-start : n ≤ m → length old ≡ 2 * m → Passing bytes n (renewedBelow (netlist bytes) row (drop m old) 0) 0 0 old old
+  unfolding renewedBelow
+  renewing-start e h = passing-start bytes n old (omega arith)
+
+  pub renewing-more : (given i : ℕ) (area : List ℕ) (b x one : ℕ) →
+      Passing bytes n (renewedBelow (netlist bytes) row (drop m old) i) given i area old → n ≤ m → i < n →
+      b ≡ bit (valueIn (recordAt bytes i) (on row given) (take (length area - m) (drop m area))) → x ≡ recordAt bytes i .kind → one ≡ bit (eqb x input) →
+      Passing bytes n (renewedBelow (netlist bytes) row (drop m old) (i + 1)) (given + one) (i + 1) (set area i b) old
+  unfolding renewedBelow
+  renewing-more given i area b x one p l h byte kind more =
+      let t : take (length area - m) (drop m area) ≡ drop m old =
+      take-all (length area - m) (drop m area) (simp length-drop (omega arith))
+      ∙ drop-written _ i m area old (p .so-far) (omega arith)
+      in
+      subst (λ (l : List ℕ). Passing bytes n l (given + one) (i + 1) (set area i b) old)
+      (sym (ap (renewedBelow (netlist bytes) row (drop m old)) (add-one i)))
+      (passing-more bytes n old given i row (drop m old) _ area b x one p h (rw t at byte) kind more)
+
+  pub renewing-end : (given i : ℕ) (area : List ℕ) → Passing bytes n (renewedBelow (netlist bytes) row (drop m old) i) given i area old → n ≤ i →
+      area ≡ renewedBelow (netlist bytes) row (drop m old) n ++ drop n old
+  renewing-end given i area p h =
+      let e : i ≡ n = omega (arith, p .within) in
+      p .so-far .parts ∙ ap (λ (k : ℕ). renewedBelow (netlist bytes) row (drop m old) k ++ drop k old) e
+
+-- the first j of the records from n on have copied
+pub record Copying (mapped : List ℕ) (n m j : ℕ) (area old : List ℕ) : Type 0 where
+  pub buffered : Buffered mapped n
+  pub records : m ≡ recordCount mapped
+  pub whole : length old ≡ 2 * m
+  pub within : j ≤ m - n
+  pub same : length area ≡ length old
+  pub so-far : Written (take n old ++ copied mapped (drop m old) n j) (n + j) area old
+
+module _ (mapped : List ℕ) (n m : ℕ) (old : List ℕ) where
+  pub copying-start : Buffered mapped n → m ≡ recordCount mapped → length old ≡ 2 * m → Copying mapped n m 0 old old
+  unfolding copied
+  copying-start s e h =
+      record {
+        buffered = s;
+        records = e;
+        whole = h;
+        within = omega arith;
+        same = refl;
+        so-far = written-part n old (omega (arith, s .within));
+      }
+
+  module _ (j : ℕ) (area : List ℕ) (c : Copying mapped n m j area old) (h : j < m - n) (x : ℕ) (e : x ≡ slot (recordAt mapped (n + j)) 0) where
+    pub copying-inside : m + x < length area
+    copying-inside =
+        omega (
+          arith,
+          c .buffered .named (n + j) (omega arith) (omega (arith, c .records)),
+          c .records,
+          c .same,
+          c .whole,
+        )
+
+    pub copying-more : Copying mapped n m (j + 1) (set area (n + j) (getD area (m + x) 0)) old
+    unfolding copied
+    copying-more =
+        record {
+          buffered = c .buffered;
+          records = c .records;
+          whole = c .whole;
+          within = omega arith;
+          same = length-set area (n + j) _ ∙ c .same;
+          so-far =
+              subst₂ (λ (l : List ℕ) (k : ℕ). Written l k (set area (n + j) (getD area (m + x) 0)) old)
+              (append-assoc (take n old) (copied mapped (drop m old) n j) _
+              ∙ ap (λ (b : ℕ). take n old ++ (copied mapped (drop m old) n j ++ (b ∷ []))) byte
+              ∙ ap (λ (k : ℕ). take n old ++ copied mapped (drop m old) n k) (sym (add-one j)))
+              (omega arith)
+              (written-more _ (n + j) (getD area (m + x) 0) area old (c .so-far) (omega (arith, c .whole)));
+        }
+      where
+        byte : getD area (m + x) 0 ≡ getD (drop m old) (slot (recordAt mapped (n + j)) 0) 0
+        byte =
+            sym (getD-drop m area x 0)
+            ∙ ap₂ (λ (l : List ℕ) (k : ℕ). getD l k 0) (drop-written _ (n + j) m area old (c .so-far) (omega arith)) e
+
+  pub copying-end : (j : ℕ) (area : List ℕ) → Copying mapped n m j area old → m - n ≤ j →
+      area ≡ (take n old ++ copied mapped (drop m old) n (m - n)) ++ drop m old
+  copying-end j area c h =
+      let e : j ≡ m - n = omega (arith, c .within) in
+      let f : n + j ≡ m = omega (arith, c .within, c .buffered .within, c .records) in
+      c .so-far .parts ∙ ap₂ (λ (i k : ℕ). (take n old ++ copied mapped (drop m old) n i) ++ drop k old) e f
+
+-- values kept as 0 or 1 stand for what the bytes stood for
+on-older : (m : ℕ) (area : List ℕ) (i : ℕ) → m ≤ length area → on (older m area) i ≡ on (take m area) i
+unfolding older
+on-older m area i h =
+    elim (decLt i m) [
+      | yes l ↦
+          ap (λ (x : ℕ). not (eqb x 0)) (getD-tabulate _ m i 0 l)
+          ∙ on-bit (on area i)
+          ∙ ap (λ (x : ℕ). not (eqb x 0)) (sym (getD-take m area i 0 l))
+      | no l ↦
+          ap (λ (x : ℕ). not (eqb x 0))
+          (List·getD-eq-default (older m area) 0 (omega (arith, length-older m area))
+          ∙ sym (List·getD-eq-default (take m area) 0 (omega (arith, length-take-le m area h))))
+    ]
+
+renewed-cong : (m : Netlist) (row : List ℕ) (n : ℕ) (a b : List ℕ) → ((i : ℕ) → on a i ≡ on b i) → renewedBelow m row a n ≡ renewedBelow m row b n
+unfolding renewedBelow
+renewed-cong m row n a b h =
+    tabulate-cong _ _ n (λ i l. ap bit (next-cong m row (on a) (on b) i (λ j k. h (fanin m i j))))
+
+-- a function's values below n, and the k after them
+tabulate-append : (f : ℕ → ℕ) (n k : ℕ) → tabulate f (n + k) ≡ tabulate f n ++ tabulate (λ j. f (n + j)) k
+tabulate-append f n zero = ap (tabulate f) (add-zero n) ∙ sym (append-nil (tabulate f n))
+tabulate-append f n (suc k) =
+    ap (tabulate f) (add-suc n k)
+    ∙ ap (λ (l : List ℕ). l ++ (f (n + k) ∷ [])) (tabulate-append f n k)
+    ∙ append-assoc (tabulate f n) _ _
+
+-- a byte of kept values is its value
+older-bit : (m : ℕ) (area : List ℕ) (i : ℕ) → getD (older m area) i 0 ≡ bit (on (older m area) i)
+unfolding older
+older-bit m area i =
+    elim (decLt i m) [
+      | yes l ↦ is (on area i) (getD-tabulate (λ i. bit (on area i)) m i 0 l)
+      | no l ↦ is false (List·getD-eq-default (older m area) 0 (omega (arith, length-older m area)))
+    ]
+  where
+    is : (v : Bool) → getD (older m area) i 0 ≡ bit v → getD (older m area) i 0 ≡ bit (on (older m area) i)
+    is v e = e ∙ ap bit (sym (on-bit v) ∙ ap (λ (x : ℕ). not (eqb x 0)) (sym e))
+
+-- what buffers copy are their new values
+renewed-copied : (mapped row : List ℕ) (n k : ℕ) (area : List ℕ) → Buffered mapped n → n + k ≡ recordCount mapped →
+    renewedBelow (netlist mapped) row (older (n + k) area) (n + k)
+    ≡ renewedBelow (netlist mapped) row (older (n + k) area) n ++ copied mapped (older (n + k) area) n k
+unfolding renewedBelow copied
+renewed-copied mapped row n k area s e =
+    tabulate-append _ n k
+    ∙ ap (λ (l : List ℕ). renewedBelow (netlist mapped) row (older (n + k) area) n ++ l)
+    (tabulate-cong _ _ k (λ j l.
+    ap bit
+    (next-buffer (netlist mapped) row _ (n + j)
+    (s .kind (n + j) (omega arith) (omega arith))
+    (s .inversion (n + j) (omega arith) (omega arith)))
+    ∙ sym (older-bit (n + k) area (slot (recordAt mapped (n + j)) 0))))
+
+-- the three loops together are one step
+pub stepped-in-place : (mapped row : List ℕ) (n m : ℕ) (old kept new area : List ℕ) → Buffered mapped n → m ≡ recordCount mapped → length old ≡ 2 * m →
+    kept ≡ take m old ++ older m old → new ≡ renewedBelow (netlist mapped) row (drop m kept) n ++ drop n kept →
+    area ≡ (take n new ++ copied mapped (drop m new) n (m - n)) ++ drop m new → area ≡ stepped (netlist mapped) row old
+unfolding stepped
+stepped-in-place mapped row n m old kept new area s e h p q r =
+    r
+    ∙ ap₂ (λ (x z : List ℕ). (x ++ copied mapped z n (m - n)) ++ z) (take-written _ n new kept w) (drop-written _ n m new kept w fits)
+    ∙ ap (λ (z : List ℕ). (renewedBelow (netlist mapped) row z n ++ copied mapped z n (m - n)) ++ z) second
+    ∙ ap (λ (l : List ℕ). l ++ older m old) (sym joined ∙ same)
+    ∙ ap (λ (k : ℕ). renewedBelow (netlist mapped) row (take k old) k ++ older k old) e
+  where
+    fits : n ≤ m
+    fits = omega (arith, s .within)
+
+    w : Written (renewedBelow (netlist mapped) row (drop m kept) n) n new kept
+    w = record { long = length-below (netlist mapped) row (drop m kept) n; parts = q }
+
+    second : drop m kept ≡ older m old
+    second = ap (drop m) p ∙ drop-at (take m old) (older m old) m (length-take-le m old (omega arith))
+
+    joined :
+        renewedBelow (netlist mapped) row (older m old) m
+        ≡ renewedBelow (netlist mapped) row (older m old) n ++ copied mapped (older m old) n (m - n)
+    joined =
+        subst
+        (λ (x : ℕ). renewedBelow (netlist mapped) row (older x old) x ≡ renewedBelow (netlist mapped) row (older x old) n ++ copied mapped (older x old) n (m - n))
+        (add-sub-of-le fits)
+        (renewed-copied mapped row n (m - n) old s (omega arith))
+
+    same : renewedBelow (netlist mapped) row (older m old) m ≡ renewedBelow (netlist mapped) row (take m old) m
+    same = renewed-cong (netlist mapped) row m (older m old) (take m old) (λ i. on-older m old i (omega arith))
