@@ -1,0 +1,116 @@
+-- The block of a driver is its net: a buffer of its tree traces back to it, and blocks of two drivers share no index.
+use Prim.Native.Nat.{ℕ, _+_, _-_, _≤_, _<_}
+use native.Mathlib.Decide.{decLt}
+use native.Mathlib.Omega.{arith}
+use mathlib.Core.Path.{_≡_, refl, sym, ap, subst, _∙_}
+use mathlib.Core.Logic.{_↔_}
+use mathlib.Core.Bool.{true}
+use mathlib.Core.List.{List}
+use borrow.Author.Tests.{eqb-true, eq-eqb, leb-true, lt-leb}
+use Rattle.facts.specs.Sums.{sum}
+use Rattle.facts.specs.Blocks.{block}
+use Rattle.facts.proofs.Bools.{and-l, and-r, and-i}
+use Rattle.facts.proofs.Blocks.{block-at}
+use Rattle.netlist.specs.declared.Record.{Record}
+use Rattle.netlist.specs.Kinds.{buffer, majority, isDriver}
+use Rattle.netlist.specs.Records.{Netlist, netlist, recordCount, recordAt, fanin}
+use Rattle.netlist.proofs.Records.{record-past}
+use Rattle.verifier.specs.Legal.{Traces}
+use Rattle.verifier.specs.Trace.{driver}
+use Rattle.verifier.specs.Checks.{isBuffer}
+use Rattle.verifier.specs.Fewest.{onNet}
+use Rattle.verifier.proofs.Trace.{buffer-named, traces-driver}
+use Rattle.mapper.specs.Bytes.{recs}
+use Rattle.mapper.specs.Mapped.{Ready, treeSize, blockStart, mappedSize, mappedAt, bufferRecord, mapped}
+use Rattle.mapper.proofs.Mapped.{within-tree, placed}
+use Rattle.mapper.proofs.Nodes.{pos, kind-kept, parent-traced, buffer-node, at-placed, buffer-kind}
+use Rattle.mapper.proofs.Promises.{block-written}
+use Rattle.mapper.specs.View.{blockEnds}
+use Rattle.promises.specs.Block.{BlockExact, BlockShort}
+use Rattle.promises.proofs.Ready.{mapped-legal}
+use Rattle.promises.proofs.Written.{maps-passed, mapped-from, written-netlist}
+
+module _ (n : Netlist) (s : ℕ) (r : Ready n s) where
+  -- a source record is no buffer
+  no-buffer : (x : ℕ) → x < n .size → mappedAt n s x .kind ≡ buffer → ⊥
+  no-buffer x l e = omega (arith, kind-kept n s r x l, r .source .kinds x l)
+
+  -- the fanin of a buffer of d's tree traces back to d
+  net-of : (x : ℕ) (l : n .size ≤ x) (u : x < mappedSize n s) → driver (mapped n s) (fanin (mapped n s) x 0) ≡ placed n s (pos n s r) x l u .d
+  unfolding bufferRecord
+  net-of x l u =
+      let p = placed n s (pos n s r) x l u in
+      let legal = mapped-legal n s r in
+      let ends : Traces (mapped n s) (p .d) (fanin (mapped n s) x 0) =
+      rw (at-placed n s r x p)
+      (parent-traced n s r (Traces (mapped n s) (p .d)) (p .d) (p .k) (p .j)
+      (buffer-node n s r (p .d) (p .k) (p .j) (p .driver) (p .near) (p .number))
+      (Traces.here refl (no-buffer (p .d) (p .driver)))
+      (λ y e t. Traces.back e t)) in
+      traces-driver (mapped n s) (legal .named) (legal .balanced) (p .d) (fanin (mapped n s) x 0)
+      (buffer-named (mapped n s) (legal .named) (legal .balanced) x u (buffer-kind n s r x l u))
+      ends
+
+  -- the driver whose block an index lies in
+  block-of : (d x : ℕ) → d < n .size → blockStart n s d ≤ x → x < blockStart n s d + treeSize n s d → block (treeSize n s) (x - n .size) (n .size) ≡ d
+  block-of d x l a b =
+      let e : x - n .size ≡ sum (treeSize n s) d + (x - blockStart n s d) = omega arith in
+      rw e (block-at (treeSize n s) (n .size) d (x - blockStart n s d) l (omega arith))
+
+  pub net-block : (d x : ℕ) → d < n .size → x < mappedSize n s →
+      (onNet (mapped n s) d x ≡ true) ↔ ((blockStart n s d ≤ x) × (x < blockStart n s d + treeSize n s d))
+  net-block d x l u = (inside, outside)
+    where
+      inside : onNet (mapped n s) d x ≡ true → (blockStart n s d ≤ x) × (x < blockStart n s d + treeSize n s d)
+      inside e =
+          elim (decLt x (n .size)) [
+            | yes a ↦ absurd (no-buffer x a (eqb-true _ buffer (and-l (isBuffer (mapped n s) x) _ e)))
+            | no a ↦
+                let p = placed n s (pos n s r) x (omega arith) u in
+                let same : p .d ≡ d = sym (net-of x (omega arith) u) ∙ eqb-true _ d (and-r (isBuffer (mapped n s) x) _ e) in
+                subst (λ (y : ℕ). (blockStart n s y ≤ x) × (x < blockStart n s y + treeSize n s y)) same
+                (omega (arith, p .index), omega (arith, p .index, within-tree n s (pos n s r) (p .d) (p .k) (p .j) (p .near) (p .number)))
+          ]
+
+      outside : (blockStart n s d ≤ x) × (x < blockStart n s d + treeSize n s d) → onNet (mapped n s) d x ≡ true
+      outside h =
+          let a : n .size ≤ x = omega (arith, h .0) in
+          let p = placed n s (pos n s r) x a u in
+          let mine : block (treeSize n s) (x - n .size) (n .size) ≡ p .d =
+          block-of (p .d) x (p .driver) (omega (arith, p .index)) (omega (arith, p .index, within-tree n s (pos n s r) (p .d) (p .k) (p .j) (p .near) (p .number))) in
+          let same : p .d ≡ d = sym mine ∙ block-of d x l (h .0) (h .1) in
+          and-i (isBuffer (mapped n s) x) _ (eq-eqb _ buffer (buffer-kind n s r x a u)) (eq-eqb _ d (net-of x a u ∙ same))
+
+-- a driver is a record of the source
+driver-inside : (bytes : List ℕ) (d : ℕ) → isDriver (recordAt bytes d .kind) ≡ true → d < recordCount bytes
+driver-inside bytes d e =
+    elim (decLt d (recordCount bytes)) [
+      | yes l ↦ l
+      | no g ↦
+          absurd
+          (omega (
+            arith,
+            leb-true (recordAt bytes d .kind) majority e,
+            ap (λ (r : Record). r .kind) (record-past bytes d (let h : recordCount bytes ≤ d = omega arith in h)),
+          ))
+    ]
+
+pub block-exact : BlockExact
+block-exact source s area d maps drives =
+    let e = written-netlist source s area maps in
+    let r = mapped-from source s area maps .ready in
+    record {
+      holds =
+          block-written source s area d (maps-passed source s area maps) drives
+          ∙ ap (λ (m : Netlist). recs m (blockStart (netlist source) s d) (treeSize (netlist source) s d)) (sym e);
+      exactly =
+          subst
+          (λ (m : Netlist). (x : ℕ) → x < m .size →
+          (onNet m d x ≡ true)
+          ↔ ((blockStart (netlist source) s d ≤ x) × (x < blockStart (netlist source) s d + treeSize (netlist source) s d)))
+          (sym e)
+          (λ x u. net-block (netlist source) s r d x (driver-inside source d drives) u);
+    }
+
+pub block-short : BlockShort
+block-short source s mapped d h = rw (lt-leb (blockEnds source s d .to) (recordCount mapped) h)

@@ -1,0 +1,71 @@
+-- The three demands, from the theorems of the crates below and of this one.
+use Rattle.netlist.proofs.Refusals.{source-exact, input-exact}
+use Rattle.fanout.proofs.Call as net
+use Rattle.fanout.proofs.Numbers.{numbers-exactly}
+use Rattle.verifier.proofs.Refusals as verifier
+use Rattle.verifier.proofs.Fewest.{on-net-exactly}
+use Rattle.verifier.proofs.Accepted.{accepted-exactly}
+use Rattle.mapper.proofs.Promises.{map-exact, refused-leaves, block-none}
+use Rattle.simulator.specs.Evaluate.{evaluateArea}
+use Rattle.simulator.specs.Step.{stepArea}
+use Rattle.simulator.specs.Run.{runArea, runOutputs}
+use Rattle.simulator.proofs.Refusals.{evaluate-exact, step-exact, run-exact}
+use Rattle.simulator.proofs.Claims.{evaluator-is-plain, calls-are-plain, run-is-plain, run-is-steps}
+use Rattle.promises.specs.Demands.{RefusedKeeps, Demand1, Demand2, Demand3}
+use Rattle.promises.proofs.Written.{written-legal, written-accepted, written-least, beyond-kept, buffers-one-number, maps-where-accepted}
+use Rattle.promises.proofs.Block.{block-exact, block-short}
+use Rattle.promises.proofs.Numbers.{numbers-exact}
+
+pub refused-keeps : RefusedKeeps
+unfolding evaluateArea stepArea runArea runOutputs
+refused-keeps =
+    record {
+      values = λ source row area number place e. rw e;
+      stepState = λ source s mapped row area number place e. rw e;
+      runState = λ source s mapped r rows area outs number place e. rw e;
+      outputs = λ source s mapped r rows area outs number place e. rw e;
+    }
+
+pub demand-1 : Demand1
+demand-1 =
+    record {
+      source = source-exact;
+      input = input-exact;
+      count = net.refused-exactly;
+      map = map-exact;
+      mapKeeps = refused-leaves;
+      verify = verifier.refused-exactly;
+      evaluate = evaluate-exact;
+      step = step-exact;
+      run = run-exact;
+      keeps = refused-keeps;
+      countNumbers = numbers-exactly;
+      numbers = numbers-exact;
+    }
+
+pub demand-2 : Demand2
+demand-2 =
+    record {
+      legal = written-legal;
+      accepted = written-accepted;
+      oneNumber = buffers-one-number;
+      noTree = net.no-tree-exactly;
+      fewest = net.fewest-exactly;
+      exactly = accepted-exactly;
+      beyond = beyond-kept;
+      others = maps-where-accepted;
+      blocks = block-exact;
+      noBlock = block-none;
+      shortBlock = block-short;
+    }
+
+pub demand-3 : Demand3
+demand-3 =
+    record {
+      least = written-least;
+      nets = on-net-exactly;
+      calls = calls-are-plain;
+      run = run-is-plain;
+      steps = run-is-steps;
+      evaluator = evaluator-is-plain;
+    }

@@ -1,0 +1,5 @@
+pub mod Ready
+pub mod Written
+pub mod Block
+pub mod Numbers
+pub mod Demands

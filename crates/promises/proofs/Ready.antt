@@ -1,0 +1,78 @@
+-- What the mapper makes of a source that passes 1 to 9 is legal, with the fewest buffers of all nets.
+use Prim.Native.Nat.{ℕ, _≤_, _<_}
+use native.Mathlib.Decide.{decLt}
+use native.Mathlib.Omega.{arith}
+use mathlib.Core.Path.{_≡_, refl, sym, subst, _∙_}
+use mathlib.Core.Logic.{_≢_}
+use borrow.Author.Tests.{ne-eqb, eq-eqb}
+use Rattle.facts.specs.Sums.{sum}
+use Rattle.facts.proofs.Sums.{sum-cong}
+use Rattle.netlist.specs.Kinds.{buffer, arity}
+use Rattle.netlist.specs.Records.{Netlist, fanin, feeds}
+use Rattle.netlist.specs.Source.{IsSource}
+use Rattle.fanout.specs.Nets.{row, fewest}
+use Rattle.verifier.specs.Legal.{Legal, Kept, Traces, capacityOf}
+use Rattle.verifier.specs.Checks.{bufferCount}
+use Rattle.mapper.specs.Mapped.{Ready, treeSize, mappedSize, mappedAt, mapped}
+use Rattle.promises.specs.Written.{fewestInAll}
+use Rattle.mapper.proofs.Mapped.{placed}
+use Rattle.mapper.proofs.Nodes.{pos, kind-kept, inversion-kept, level-kept, slot-kept, named, no-output, balanced, traced, buffer-kind, buffer-inversion, buffer-low, buffer-empty}
+use Rattle.mapper.proofs.Measuring.{net-buffers}
+use Rattle.mapper.proofs.Feeds.{driver-feeds, buffer-feeds, buffer-count}
+
+-- an output drives nothing, so its row asks for no buffer
+pub trees-fewest : (n : Netlist) (s : ℕ) → IsSource n → 0 < s → sum (treeSize n s) (n .size) ≡ fewestInAll n s
+trees-fewest n s source p =
+    sum-cong (treeSize n s) (λ d. fewest s (row n d)) (n .size) (λ d l. net-buffers n s d 1 source p l)
+
+module _ (n : Netlist) (s : ℕ) (r : Ready n s) where
+  kept : (k : ℕ) → k < n .size → Kept (n .at k) (mappedAt n s k)
+  kept k l =
+      record {
+        kind = kind-kept n s r k l;
+        inversion = inversion-kept n s r k l;
+        level = level-kept n s r k l;
+        empty = λ j a b. slot-kept n s r k j l b a;
+      }
+
+  -- a source record is no buffer
+  no-buffer : (k : ℕ) → k < n .size → n .at k .kind ≢ buffer
+  no-buffer k l e = omega (arith, r .source .kinds k l)
+
+  fanin-end : (i j : ℕ) → i < n .size → j < arity (n .at i .kind) → Traces (mapped n s) (fanin n i j) (fanin n i j)
+  fanin-end i j l a =
+      let b : fanin n i j < n .size = omega (arith, r .source .earlier i j l a) in
+      Traces.here refl (λ e. no-buffer (fanin n i j) b (sym (kind-kept n s r (fanin n i j) b) ∙ e))
+
+  branched : (k : ℕ) → k < mappedSize n s → feeds (mapped n s) k ≤ capacityOf s (mappedAt n s k .kind)
+  branched k l =
+      elim (decLt k (n .size)) [
+        | yes a ↦ rw (ne-eqb (mappedAt n s k .kind) buffer (λ e. no-buffer k a (sym (kind-kept n s r k a) ∙ e))) (driver-feeds n s r k a)
+        | no a ↦
+            let p = placed n s (pos n s r) k (omega arith) l in
+            rw (eq-eqb (mappedAt n s k .kind) buffer (buffer-kind n s r k (omega arith) l))
+            (subst (λ (x : ℕ). feeds (mapped n s) x ≤ s) (sym (p .index)) (buffer-feeds n s r (p .d) (p .k) (p .j) (p .driver) (p .near) (p .number)))
+      ]
+
+  pub mapped-legal : Legal n s (mapped n s)
+  mapped-legal =
+      record {
+        whole = omega arith;
+        kept = kept;
+        buffers = λ k a l.
+            record {
+              kind = buffer-kind n s r k a l;
+              inversion = buffer-inversion n s r k a l;
+              level = buffer-low n s r k a l;
+              empty = λ j b c. buffer-empty n s r k j a l c;
+            };
+        named = named n s r;
+        noOutput = no-output n s r;
+        balanced = balanced n s r;
+        traced = λ k j l a. traced n s r (Traces (mapped n s) (fanin n k j)) k j l a (fanin-end k j l a) (λ x e t. Traces.back e t);
+        branched = branched;
+      }
+
+  pub mapped-fewest : bufferCount (mapped n s) ≡ fewestInAll n s
+  unfolding bufferCount
+  mapped-fewest = buffer-count n s r ∙ trees-fewest n s (r .source) (pos n s r)

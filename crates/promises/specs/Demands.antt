@@ -1,0 +1,72 @@
+-- The buyer's three demands, each as one statement. The names are those of the promises in docs/PROMISES.md.
+use Prim.Native.Nat.{ℕ}
+use mathlib.Core.Path.{_≡_}
+use mathlib.Core.List.{List}
+use Rattle.facts.specs.declared.Checked.the-variants.{Refused}
+use Rattle.netlist.specs.Refusals.{SourceExact, InputExact}
+use Rattle.fanout.specs.Promises as net
+use Rattle.verifier.specs.Refusals as verifier
+use Rattle.verifier.specs.Accepted.{AcceptedExactly}
+use Rattle.verifier.specs.Fewest.{OnNetExactly}
+use Rattle.mapper.specs.Promises.{MapExact, RefusedLeaves, BlockNone}
+use Rattle.simulator.specs.Evaluate.{evaluateAnswer, evaluateArea}
+use Rattle.simulator.specs.Step.{stepAnswer, stepArea}
+use Rattle.simulator.specs.Run.{runAnswer, runArea, runOutputs}
+use Rattle.simulator.specs.Refusals.{EvaluateExact, StepExact, RunExact}
+use Rattle.simulator.specs.Claims.{EvaluatorIsPlain, CallsArePlain, RunIsPlain, RunIsSteps}
+use Rattle.promises.specs.Written.{WrittenLegal, WrittenAccepted, WrittenLeast, BeyondKept, BuffersOneNumber, MapsWhereAccepted}
+use Rattle.promises.specs.Block.{BlockExact, BlockShort}
+use Rattle.promises.specs.Numbers.{NumbersExact}
+
+-- a refused evaluator, step or run leaves its areas
+pub record RefusedKeeps : Type 0 where
+  pub values : (source row area : List ℕ) (number place : ℕ) →
+      evaluateAnswer source row area ≡ Refused number place → evaluateArea source row area ≡ area
+  pub stepState : (source : List ℕ) (s : ℕ) (mapped row area : List ℕ) (number place : ℕ) →
+      stepAnswer source s mapped row area ≡ Refused number place → stepArea source s mapped row area ≡ area
+  pub runState : (source : List ℕ) (s : ℕ) (mapped : List ℕ) (r : ℕ) (rows area outs : List ℕ) (number place : ℕ) →
+      runAnswer source s mapped r rows area outs ≡ Refused number place → runArea source s mapped r rows area outs ≡ area
+  pub outputs : (source : List ℕ) (s : ℕ) (mapped : List ℕ) (r : ℕ) (rows area outs : List ℕ) (number place : ℕ) →
+      runAnswer source s mapped r rows area outs ≡ Refused number place → runOutputs source s mapped r rows area outs ≡ outs
+
+-- demand 1: each call answers a number exactly where its condition is the first that holds, accepts exactly if none does, and a
+-- refused call leaves every lent area
+pub record Demand1 : Type 0 where
+  pub source : SourceExact
+  pub input : InputExact
+  pub count : net.RefusedExactly
+  pub map : MapExact
+  pub mapKeeps : RefusedLeaves
+  pub verify : verifier.RefusedExactly
+  pub evaluate : EvaluateExact
+  pub step : StepExact
+  pub run : RunExact
+  pub keeps : RefusedKeeps
+  pub countNumbers : net.NumbersExactly
+  pub numbers : NumbersExact
+
+-- demand 2: what is written is legal and accepted, with the number of buffers answered; 'no tree' exactly when no tree at all is
+-- legal; the verifier accepts exactly the legal mapped netlists
+pub record Demand2 : Type 0 where
+  pub legal : WrittenLegal
+  pub accepted : WrittenAccepted
+  pub oneNumber : BuffersOneNumber
+  pub noTree : net.NoTreeExactly
+  pub fewest : net.FewestExactly
+  pub exactly : AcceptedExactly
+  pub beyond : BeyondKept
+  pub others : MapsWhereAccepted
+  pub blocks : BlockExact
+  pub noBlock : BlockNone
+  pub shortBlock : BlockShort
+
+-- demand 3: no accepted netlist has fewer buffers, in all, on a net or at a level of a net, where a buffer's net is where its
+-- slot, traced back, ends; every list of one-step calls and every
+-- run give the rows of plain logic
+pub record Demand3 : Type 0 where
+  pub least : WrittenLeast
+  pub nets : OnNetExactly
+  pub calls : CallsArePlain
+  pub run : RunIsPlain
+  pub steps : RunIsSteps
+  pub evaluator : EvaluatorIsPlain

@@ -1,0 +1,4 @@
+pub mod Written
+pub mod Block
+pub mod Numbers
+pub mod Demands

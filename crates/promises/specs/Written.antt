@@ -1,0 +1,66 @@
+-- Demands 2 and 3 of what the mapper writes, through the definitions that the calls' contracts cite.
+use Prim.Native.Nat.{ℕ, _+_, _*_, _≤_}
+use mathlib.Core.Path.{_≡_}
+use mathlib.Core.List.{List}
+use lib.ListN.{take, drop}
+use Rattle.facts.specs.declared.Checked.the-variants.{Passed}
+use Rattle.facts.specs.Sums.{sum}
+use Rattle.netlist.specs.Kinds.{width}
+use Rattle.netlist.specs.Records.{Netlist, netlist, recordCount}
+use Rattle.fanout.specs.Nets.{row, fewest}
+use Rattle.mapper.specs.Answer.{sourceMaps, mapAnswer, mapArea}
+use Rattle.verifier.specs.declared.Verified.the-variants.{Buffers}
+use Rattle.verifier.specs.Checks.{bufferCount, verifyAnswer}
+use Rattle.verifier.specs.Accepted.{Accepted}
+use Rattle.verifier.specs.Fewest.{NoMore}
+
+-- the fewest buffers of all nets
+abbrev pub fewestInAll : Netlist → ℕ → ℕ
+fewestInAll n s = sum (λ d. fewest s (row n d)) (n .size)
+
+-- the mapper accepts source, capacity and area
+abbrev pub Maps : List ℕ → ℕ → List ℕ → Type 0
+Maps source s area = mapAnswer source s area .number ≡ 0
+
+-- what it writes: the first M records of the area
+abbrev pub written : List ℕ → ℕ → List ℕ → List ℕ
+written source s area = take (width * mapAnswer source s area .size) (mapArea source s area)
+
+-- demand 2: what the mapper writes is legal and keeps every gate, level and fanin
+abbrev pub WrittenLegal : Type 0
+WrittenLegal = (source : List ℕ) (s : ℕ) (area : List ℕ) → Maps source s area → Accepted source s (written source s area)
+
+-- demand 2: the verifier accepts it, with the mapper's number of buffers
+abbrev pub WrittenAccepted : Type 0
+WrittenAccepted =
+    (source : List ℕ) (s : ℕ) (area : List ℕ) → Maps source s area →
+    verifyAnswer source s (written source s area) ≡ Buffers (mapAnswer source s area .buffers)
+
+-- accepted, bytes beyond 10 × M stay as they were
+abbrev pub BeyondKept : Type 0
+BeyondKept =
+    (source : List ℕ) (s : ℕ) (area : List ℕ) → Maps source s area →
+    drop (width * mapAnswer source s area .size) (mapArea source s area) ≡ drop (width * mapAnswer source s area .size) area
+
+-- demand 3: no netlist that the verifier accepts has fewer buffers, in all, on a net, or at a level of a net
+abbrev pub WrittenLeast : Type 0
+WrittenLeast =
+    (source : List ℕ) (s : ℕ) (area other : List ℕ) (buffers : ℕ) → Maps source s area →
+    verifyAnswer source s other ≡ Buffers buffers →
+    (mapAnswer source s area .buffers ≤ buffers)
+    × NoMore (netlist source) (netlist (written source s area)) (netlist other)
+
+-- M less N, the answered buffers, the records of kind 5 written and the sum of the counts of all nets are one number
+pub record OneNumber (source : List ℕ) (s : ℕ) (area : List ℕ) : Type 0 where
+  pub added : mapAnswer source s area .size ≡ recordCount source + mapAnswer source s area .buffers
+  pub kinds : bufferCount (netlist (written source s area)) ≡ mapAnswer source s area .buffers
+  pub counts : fewestInAll (netlist source) s ≡ mapAnswer source s area .buffers
+
+abbrev pub BuffersOneNumber : Type 0
+BuffersOneNumber = (source : List ℕ) (s : ℕ) (area : List ℕ) → Maps source s area → OneNumber source s area
+
+-- where the verifier accepts any mapped netlist, the mapper refuses by nothing but 10
+abbrev pub MapsWhereAccepted : Type 0
+MapsWhereAccepted =
+    (source : List ℕ) (s : ℕ) (other : List ℕ) (buffers : ℕ) →
+    verifyAnswer source s other ≡ Buffers buffers → sourceMaps source s ≡ Passed
