@@ -1,0 +1,50 @@
+-- `aqfp_count` meets its contract: each case stores its own numbers.
+use borrow.Author.Needs.{needs}
+use Rattle.aqfp.proofs.Answers.{counted-fewest, counted-none, counted-refused}
+use Rattle.aqfp.proofs.aqfp_count.Statement.{statement}
+use Rattle.aqfp.proofs.aqfp_count.Tie as tie
+
+count-net-requires : tie.Need-count-net-requires
+count-net-requires c κs = search needs
+
+enum-known-count : tie.Need-enum-known-count
+enum-known-count c = search needs
+
+answer-three-requires : tie.Need-answer-three-requires
+answer-three-requires c κs = search needs
+
+enum-told : tie.Need-enum-told
+enum-told c = search needs
+
+answer-three-requires-2 : tie.Need-answer-three-requires-2
+answer-three-requires-2 c κs = search needs
+
+enum-known-count-2 : tie.Need-enum-known-count-2
+enum-known-count-2 c = search needs
+
+answer-three-requires-3 : tie.Need-answer-three-requires-3
+answer-three-requires-3 c κs = search needs
+
+returns : tie.Need-returns
+returns c = search counted-fewest
+
+returns-2 : tie.Need-returns-2
+returns-2 c = search counted-none
+
+returns-3 : tie.Need-returns-3
+returns-3 c = search counted-refused
+
+pub aqfp-count-spec : {M : Type 1} → statement M
+aqfp-count-spec =
+    tie.close
+    (tie.spec
+    count-net-requires
+    enum-known-count
+    answer-three-requires
+    enum-told
+    answer-three-requires-2
+    enum-known-count-2
+    answer-three-requires-3
+    returns
+    returns-2
+    returns-3)

@@ -1,0 +1,28 @@
+-- Document 01: an answer's numbers in an area of their own, four bytes each, low byte first, in the order given.
+use Prim.Native.Nat.{ℕ, _+_, _*_, _/_, _%_}
+use mathlib.Core.Path.{_≡_}
+use mathlib.Core.List.{List, [], _∷_, _++_}
+use lib.ListN.{take, drop}
+
+-- a number's four bytes
+unfoldable pub four : ℕ → List ℕ
+four n = n % 256 ∷ n / 256 % 256 ∷ n / 65536 % 256 ∷ n / 16777216 % 256 ∷ []
+
+-- the bytes of an answer's numbers
+unfoldable pub numbers : List ℕ → List ℕ
+numbers [] = []
+numbers (n ∷ ns) = four n ++ numbers ns
+
+-- an answer's first number, which the call also returns
+abbrev pub first : List ℕ → ℕ
+first [] = 0
+first (n ∷ ns) = n
+
+-- a call's answer: the first number returned, and all of them in the answer's area
+pub record Answered (returned : ℕ) (area : List ℕ) (answer : List ℕ) : Type 0 where
+  pub number : returned ≡ first answer
+  pub written : area ≡ numbers answer
+
+-- an area once number k of an answer is stored in it
+unfoldable pub stored : List ℕ → ℕ → ℕ → List ℕ
+stored area k n = take (4 * k) area ++ (four n ++ drop (4 * k + 4) area)

@@ -1,0 +1,179 @@
+// The C interface: the calls over numbers and byte areas. Numbers of an answer are four bytes each, low byte first.
+ghost use mathlib.Core.Path.{_≡_};
+ghost use Prim.Native.Nat.{_+_, _*_, _≤_};
+ghost use mathlib.Core.List.{[], _∷_};
+ghost use lib.ListN.{length};
+ghost use Rattle.facts.specs.Checks.{checkedNumbers};
+ghost use Rattle.fanout.specs.Answer.{countAnswer, countNumbers};
+ghost use Rattle.mapper.specs.Answer.{mapAnswer, mapArea, mappingNumbers};
+ghost use Rattle.verifier.specs.Checks.{verifyAnswer, verifiedNumbers};
+ghost use Rattle.simulator.specs.Evaluate.{evaluateAnswer, evaluateArea};
+ghost use Rattle.simulator.specs.Step.{stepAnswer, stepArea};
+ghost use Rattle.simulator.specs.Run.{runAnswer, runArea, runOutputs};
+ghost use Rattle.aqfp.specs.Answers.{stored, Answered};
+use facts::Checked;
+use fanout::Count;
+use mapper::Mapping;
+use verifier::Verified;
+
+// What stands for no tree in the count's answer.
+const NO_TREE: u32 = 4294967295;
+
+// Stores number k of an answer.
+fn store(answer: &mut [u8], k: usize, n: u32)
+    requires { ⌜ 4 * k + 4 ≤ length (now answer) ⌝ }
+    ensures { λ _. ⌜ now (answer .exit) ≡ stored (now (answer .entry)) k n ⌝ }
+{
+    let at = 4 * k;
+    answer[at] = (n % 256) as u8;
+    answer[at + 1] = (n / 256 % 256) as u8;
+    answer[at + 2] = (n / 65536 % 256) as u8;
+    answer[at + 3] = (n / 16777216 % 256) as u8;
+}
+
+// Stores an answer of two numbers and returns the first.
+fn answer_two(answer: &mut [u8; 8], a: u32, b: u32) -> u32
+    ensures { λ r. ⌜ Answered r (now (answer .exit)) (a ∷ b ∷ []) ⌝ }
+{
+    store(answer, 0, a);
+    store(answer, 1, b);
+    a
+}
+
+// Stores an answer of three numbers and returns the first.
+fn answer_three(answer: &mut [u8; 12], a: u32, b: u32, c: u32) -> u32
+    ensures { λ r. ⌜ Answered r (now (answer .exit)) (a ∷ b ∷ c ∷ []) ⌝ }
+{
+    store(answer, 0, a);
+    store(answer, 1, b);
+    store(answer, 2, c);
+    a
+}
+
+// Stores the mapper's seven numbers and returns the first.
+fn answer_mapping(answer: &mut [u8; 28], mapping: Mapping) -> u32
+    ensures { λ r. ⌜ Answered r (now (answer .exit)) (mappingNumbers mapping) ⌝ }
+{
+    store(answer, 0, mapping.number);
+    store(answer, 1, mapping.place);
+    store(answer, 2, mapping.size);
+    store(answer, 3, mapping.buffers);
+    store(answer, 4, mapping.depth);
+    store(answer, 5, mapping.junctions);
+    store(answer, 6, mapping.share);
+    mapping.number
+}
+
+// Stores the number and the place of checks.
+fn answer_checked(answer: &mut [u8; 8], checked: Checked) -> u32
+    ensures { λ r. ⌜ Answered r (now (answer .exit)) (checkedNumbers checked) ⌝ }
+{
+    match checked {
+        Checked::Passed => answer_two(answer, 0, 0),
+        Checked::Refused(number, place) => answer_two(answer, number, place),
+    }
+}
+
+// The mapper: number, place, M, buffers, D, JJs, share.
+#[no_mangle]
+pub extern "C" fn aqfp_map(
+    source: &[u8],
+    capacity: u32,
+    mapped: &mut [u8],
+    answer: &mut [u8; 28],
+) -> u32
+    ensures answer { λ r. ⌜ Answered r (now (answer .exit)) (mappingNumbers (mapAnswer (now (source .entry)) capacity (now (mapped .entry)))) ⌝ }
+    ensures area { λ _. ⌜ now (mapped .exit) ≡ mapArea (now (source .entry)) capacity (now (mapped .entry)) ⌝ }
+{
+    answer_mapping(answer, mapper::map_netlist(source, capacity, mapped))
+}
+
+// The count of one net: number, place, fewest buffers.
+#[no_mangle]
+pub extern "C" fn aqfp_count(
+    source: &[u8],
+    capacity: u32,
+    record: u32,
+    answer: &mut [u8; 12],
+) -> u32
+    ensures { λ r. ⌜ Answered r (now (answer .exit)) (countNumbers (countAnswer capacity (now (source .entry)) «record»)) ⌝ }
+{
+    let count = fanout::count_net(source, capacity, record);
+    match count {
+        Count::Fewest(buffers) => answer_three(answer, 0, 0, buffers),
+        Count::NoTree => answer_three(answer, 0, 0, NO_TREE),
+        Count::Refused(number, place) => answer_three(answer, number, place, 0),
+    }
+}
+
+// The verifier (document 01's judge): number, place, buffers.
+#[no_mangle]
+pub extern "C" fn aqfp_verify(
+    source: &[u8],
+    capacity: u32,
+    mapped: &[u8],
+    answer: &mut [u8; 12],
+) -> u32
+    ensures { λ r. ⌜ Answered r (now (answer .exit)) (verifiedNumbers (verifyAnswer (now (source .entry)) capacity (now (mapped .entry)))) ⌝ }
+{
+    let verified = verifier::verify(source, capacity, mapped);
+    match verified {
+        Verified::Buffers(buffers) => answer_three(answer, 0, 0, buffers),
+        Verified::Refused(number, place) => answer_three(answer, number, place, 0),
+    }
+}
+
+// The plain evaluator: number, place.
+#[no_mangle]
+pub extern "C" fn aqfp_evaluate(
+    source: &[u8],
+    row: &[u8],
+    values: &mut [u8],
+    answer: &mut [u8; 8],
+) -> u32
+    ensures answer { λ r. ⌜ Answered r (now (answer .exit)) (checkedNumbers (evaluateAnswer (now (source .entry)) (now (row .entry)) (now (values .entry)))) ⌝ }
+    ensures area { λ _. ⌜ now (values .exit) ≡ evaluateArea (now (source .entry)) (now (row .entry)) (now (values .entry)) ⌝ }
+{
+    answer_checked(answer, simulator::evaluate(source, row, values))
+}
+
+// One step: number, place.
+#[no_mangle]
+pub extern "C" fn aqfp_step(
+    source: &[u8],
+    capacity: u32,
+    mapped: &[u8],
+    row: &[u8],
+    state: &mut [u8],
+    answer: &mut [u8; 8],
+) -> u32
+    ensures answer { λ r. ⌜ Answered r (now (answer .exit)) (checkedNumbers (stepAnswer (now (source .entry)) capacity (now (mapped .entry)) (now (row .entry)) (now (state .entry)))) ⌝ }
+    ensures area { λ _. ⌜ now (state .exit) ≡ stepArea (now (source .entry)) capacity (now (mapped .entry)) (now (row .entry)) (now (state .entry)) ⌝ }
+{
+    answer_checked(
+        answer,
+        simulator::step(source, capacity, mapped, row, state),
+    )
+}
+
+// The phase run: number, place.
+#[no_mangle]
+pub extern "C" fn aqfp_run(
+    source: &[u8],
+    capacity: u32,
+    mapped: &[u8],
+    row_count: u32,
+    rows: &[u8],
+    state: &mut [u8],
+    outputs: &mut [u8],
+    answer: &mut [u8; 8],
+) -> u32
+    ensures answer { λ r. ⌜ Answered r (now (answer .exit)) (checkedNumbers (runAnswer (now (source .entry)) capacity (now (mapped .entry)) «row_count» (now (rows .entry)) (now (state .entry)) (now (outputs .entry)))) ⌝ }
+    ensures area { λ _. ⌜ now (state .exit) ≡ runArea (now (source .entry)) capacity (now (mapped .entry)) «row_count» (now (rows .entry)) (now (state .entry)) (now (outputs .entry)) ⌝ }
+    ensures outputs { λ _. ⌜ now (outputs .exit) ≡ runOutputs (now (source .entry)) capacity (now (mapped .entry)) «row_count» (now (rows .entry)) (now (state .entry)) (now (outputs .entry)) ⌝ }
+{
+    answer_checked(
+        answer,
+        simulator::run(source, capacity, mapped, row_count, rows, state, outputs),
+    )
+}
