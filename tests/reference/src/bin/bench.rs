@@ -1,0 +1,256 @@
+//! Times the static library and the fast path on the same inputs in the same run, in turns.
+//!
+//! One table: for each call, shape and size the median time of both and the median of the samples'
+//! ratios; then how our time grows from N = 512 to N = 4,096. Both answers are compared before a row is timed. Areas
+//! that a call writes are touched once before and not cleared between calls. A row of layered
+//! netlists goes round as many of them as have 4,096 records together, so that small sizes are not
+//! timed on one input that the processor has learnt by heart.
+
+use std::collections::BTreeMap;
+use std::hint::black_box;
+use std::time::{Duration, Instant};
+
+use reference::engine::{perform, Call, Engine, Name, FAST};
+use reference::fast;
+use reference::generator::fanouts;
+use reference::linked::LINKED;
+use reference::random::Random;
+use reference::record::*;
+use reference::shapes;
+use reference::simulator::Run;
+use reference::source::{depth, number_of};
+
+const S: usize = 2;
+const SEED: u64 = 30_001;
+const SIZES: [usize; 4] = [512, 1024, 2048, 4096];
+const RUN_ROWS: usize = 16;
+/// Samples of a row, each of at least this time.
+const SAMPLES: usize = 41;
+const SAMPLE_TIME: Duration = Duration::from_micros(400);
+
+/// One input with what the row says of it.
+struct Subject {
+    shape: &'static str,
+    source: Vec<u8>,
+    mapped: Vec<u8>,
+    /// The record that is counted.
+    driver: u32,
+}
+
+impl Subject {
+    fn new(shape: &'static str, records: &[Record], driver: u32) -> Subject {
+        let source = encode(records);
+        let mut mapped = vec![0; WIDTH * MAX_MAPPED];
+        let answer = fast::map(&source, S as u32, &mut mapped);
+        mapped.truncate(WIDTH * answer[2] as usize);
+        Subject { shape, source, mapped, driver }
+    }
+
+    fn n(&self) -> usize {
+        self.source.len() / WIDTH
+    }
+
+    fn m(&self) -> usize {
+        self.mapped.len() / WIDTH
+    }
+
+    fn call(&self, name: Name) -> Call {
+        let records = decode(&self.source);
+        let inputs = number_of(INPUT, &records);
+        let outputs = number_of(OUTPUT, &records);
+        let mut random = Random::new(SEED);
+        let rows = if name == Name::Run { RUN_ROWS } else { 1 };
+        let areas = match name {
+            Name::Map => vec![vec![0; WIDTH * MAX_MAPPED]],
+            Name::Evaluate => vec![vec![0; self.n()]],
+            Name::Run => vec![vec![0; 2 * self.m()], vec![0; rows * outputs]],
+            Name::Step => vec![vec![0; 2 * self.m()]],
+            _ => Vec::new(),
+        };
+        Call {
+            name,
+            source: self.source.clone(),
+            capacity: S as u32,
+            number: if name == Name::Count { self.driver } else { rows as u32 },
+            mapped: self.mapped.clone(),
+            rows: random.bits(rows * inputs),
+            areas,
+        }
+    }
+}
+
+/// Makes the call on its own areas.
+#[inline(always)]
+fn make(engine: &Engine, call: &mut Call) {
+    let (source, mapped, rows) = (black_box(&call.source[..]), &call.mapped[..], &call.rows[..]);
+    let (capacity, number) = (call.capacity, call.number);
+    let areas = &mut call.areas;
+    match call.name {
+        Name::Map => {
+            black_box((engine.map)(source, capacity, &mut areas[0]));
+        }
+        Name::Count => {
+            black_box((engine.count)(source, capacity, number));
+        }
+        Name::Verify => {
+            black_box((engine.verify)(source, capacity, mapped));
+        }
+        Name::Evaluate => {
+            black_box((engine.evaluate)(source, rows, &mut areas[0]));
+        }
+        Name::Run => {
+            let (state, outputs) = areas.split_at_mut(1);
+            let (state, outputs) = (&mut state[0][..], &mut outputs[0][..]);
+            let run = Run { row_count: number, rows, state, outputs };
+            black_box((engine.run)(source, capacity, mapped, run));
+        }
+        Name::Step => {
+            black_box((engine.step)(source, capacity, mapped, rows, &mut areas[0]));
+        }
+    }
+}
+
+/// Makes all calls of a row in turn, `rounds` times over.
+fn go_round(engine: &Engine, calls: &mut [Call], rounds: u32) -> Duration {
+    let start = Instant::now();
+    for _ in 0..rounds {
+        for call in calls.iter_mut() {
+            make(engine, call);
+        }
+    }
+    start.elapsed()
+}
+
+/// How many rounds fill one sample.
+fn rounds_in_a_sample(engine: &Engine, calls: &mut [Call]) -> u32 {
+    let mut rounds = 1;
+    while go_round(engine, calls, rounds) < SAMPLE_TIME {
+        rounds *= 2;
+    }
+    rounds
+}
+
+fn median(mut times: Vec<f64>) -> f64 {
+    times.sort_by(f64::total_cmp);
+    times[times.len() / 2]
+}
+
+/// What a row measures, in microseconds for one call.
+struct Measured {
+    ours: f64,
+    theirs: f64,
+    /// The median over the samples' own ratios.
+    ratio: f64,
+}
+
+/// Takes samples of both in turns, each of the two first in every other sample.
+fn measure(calls: &mut [Call]) -> Measured {
+    let rounds = rounds_in_a_sample(&FAST, calls);
+    go_round(&LINKED, calls, rounds);
+    let made = f64::from(rounds) * calls.len() as f64;
+    let mut sample = |engine| go_round(engine, calls, rounds).as_secs_f64() * 1e6 / made;
+    let pairs: Vec<(f64, f64)> = (0..SAMPLES)
+        .map(|turn| {
+            if turn % 2 == 0 {
+                let ours = sample(&LINKED);
+                return (ours, sample(&FAST));
+            }
+            let theirs = sample(&FAST);
+            (sample(&LINKED), theirs)
+        })
+        .collect();
+    Measured {
+        ours: median(pairs.iter().map(|(ours, _)| *ours).collect()),
+        theirs: median(pairs.iter().map(|(_, theirs)| *theirs).collect()),
+        ratio: median(pairs.iter().map(|(ours, theirs)| ours / theirs).collect()),
+    }
+}
+
+/// Our times by call, shape and N.
+type Times = BTreeMap<(String, &'static str, usize), f64>;
+
+/// One row: the subjects are of one shape and N.
+fn print_row(subjects: &[Subject], name: Name, times: &mut Times) {
+    let (shape, n) = (subjects[0].shape, subjects[0].n());
+    let m = subjects.iter().map(Subject::m).sum::<usize>() / subjects.len();
+    let mut calls: Vec<Call> = subjects.iter().map(|subject| subject.call(name)).collect();
+    for call in &calls {
+        let (ours, theirs) = (perform(&LINKED, call), perform(&FAST, call));
+        assert_eq!(ours.answer, theirs.answer, "{name:?} on {shape} differs");
+        assert!(ours.areas == theirs.areas, "{name:?} on {shape} differs in an area");
+    }
+    let Measured { ours, theirs, ratio } = measure(&mut calls);
+    let label = format!("{name:?}").to_lowercase();
+    println!("| {label} | {shape} | {n} | {m} | {ours:.2} | {theirs:.2} | {ratio:.2} |");
+    times.insert((label, shape, n), ours);
+}
+
+/// A layered netlist, whose widest net is counted.
+fn layered(seed: u64, size: usize) -> Subject {
+    let records = shapes::layered(&mut Random::of(SEED, seed), size, S);
+    let fanouts = fanouts(&records);
+    let widest = (0..size).max_by_key(|&k| fanouts[k]).unwrap_or(0);
+    Subject::new("layered", &records, widest as u32)
+}
+
+/// The rows of one size: chain, wide, layered.
+fn shapes_of(size: usize) -> [Vec<Subject>; 3] {
+    let round = (MAX_SOURCE / size) as u64;
+    [
+        vec![Subject::new("chain", &shapes::chains(size), 0)],
+        vec![Subject::new("wide", &shapes::wide(size, S), 0)],
+        (0..round).map(|seed| layered(seed, size)).collect(),
+    ]
+}
+
+/// Layered netlists with outputs raised until the mapped netlist has about this many records.
+fn sized(most: usize) -> Subject {
+    let size = (most / 8).clamp(128, MAX_SOURCE);
+    let layered = shapes::layered(&mut Random::new(SEED), size, S);
+    Subject::new("layered, raised", &shapes::raised_to(&layered, S, most), 0)
+}
+
+fn main() {
+    println!("| call | shape | N | M | ours, us | reference, us | ratio |");
+    println!("|---|---|---|---|---|---|---|");
+    let mut times = Times::new();
+    let all: Vec<[Vec<Subject>; 3]> = SIZES.iter().map(|&size| shapes_of(size)).collect();
+    for name in [Name::Map, Name::Verify, Name::Count] {
+        for shape in 0..3 {
+            for shapes in &all {
+                print_row(&shapes[shape], name, &mut times);
+            }
+        }
+    }
+    for [_, _, layered] in &all {
+        print_row(layered, Name::Evaluate, &mut times);
+    }
+    let sizes = [1_000, 4_000, 16_000, 60_000].map(|most| [sized(most)]);
+    for name in [Name::Step, Name::Run] {
+        for subject in &sizes {
+            print_row(subject, name, &mut times);
+        }
+    }
+    print_row(&sizes[3], Name::Map, &mut times);
+    print_row(&sizes[3], Name::Verify, &mut times);
+    let majorities = shapes::wide_majorities(MAX_SOURCE, S);
+    let majorities = [Subject::new("12,285 sinks", &majorities, 0)];
+    print_row(&majorities, Name::Map, &mut times);
+    print_row(&majorities, Name::Count, &mut times);
+    let wide = shapes::wide(MAX_SOURCE, S);
+    let shared = shapes::raised(&wide, usize::from(MAX_LEVEL - depth(&wide)));
+    let shared = [Subject::new("wide, one long chain below", &shared, 0)];
+    print_row(&shared, Name::Map, &mut times);
+    print_row(&shared, Name::Verify, &mut times);
+    let refused = [Subject::new("refused by 9", &shapes::lines(2048, MAX_LEVEL), 0)];
+    print_row(&refused, Name::Map, &mut times);
+
+    println!();
+    println!("| call | shape | N = 512, us | N = 4096, us | growth |");
+    println!("|---|---|---|---|---|");
+    for ((label, shape, n), &least) in &times {
+        if let (512, Some(&most)) = (*n, times.get(&(label.clone(), *shape, 4096))) {
+            println!("| {label} | {shape} | {least:.2} | {most:.2} | {:.2} |", most / least);
+        }
+    }
+}

@@ -1,0 +1,111 @@
+//! Compares the static library with the plain implementation on fresh netlists by seed.
+//!
+//!   compare COUNT SEED [FIRST]     COUNT netlists of the seed, from number FIRST on
+//!
+//! Every answer and every byte of every area is held to the plain implementation's. Prints one
+//! line; at the first difference prints the call, and exits with status 1.
+
+use std::collections::BTreeMap;
+use std::env;
+use std::panic::catch_unwind;
+use std::process::ExitCode;
+
+use reference::cases::calls_by_seed;
+use reference::engine::{perform, Call, Name, Outcome, NAMES, PLAIN};
+use reference::linked::LINKED;
+
+/// Longer areas are shown by their first bytes.
+const SHOWN: usize = 1_000;
+
+fn hex(bytes: &[u8]) -> String {
+    let shown: String = bytes.iter().take(SHOWN).map(|byte| format!("{byte:02x}")).collect();
+    format!("{} bytes {shown}{}", bytes.len(), if bytes.len() > SHOWN { ".." } else { "" })
+}
+
+fn show_call(call: &Call) {
+    eprintln!("  source {}", hex(&call.source));
+    eprintln!("  capacity {}, record or row count {}", call.capacity, call.number);
+    eprintln!("  mapped {}", hex(&call.mapped));
+    eprintln!("  rows {}", hex(&call.rows));
+    for area in &call.areas {
+        eprintln!("  area before {}", hex(area));
+    }
+}
+
+fn show_difference(expected: &Outcome, found: &Outcome) {
+    eprintln!("  answer expected {:?}, found {:?}", expected.answer, found.answer);
+    for (k, (one, two)) in expected.areas.iter().zip(&found.areas).enumerate() {
+        if let Some(at) = (0..one.len()).find(|&at| one[at] != two[at]) {
+            eprintln!("  area {k}, byte {at}: expected {}, found {}", one[at], two[at]);
+        }
+    }
+}
+
+#[derive(Default)]
+struct Tally {
+    calls: [usize; NAMES.len()],
+    accepted: usize,
+    refused: BTreeMap<u32, usize>,
+}
+
+impl Tally {
+    fn add(&mut self, name: Name, number: u32) {
+        self.calls[name as usize] += 1;
+        match number {
+            0 => self.accepted += 1,
+            _ => *self.refused.entry(number).or_default() += 1,
+        }
+    }
+
+    fn print(&self, netlists: u64, seed: u64) {
+        let calls: Vec<String> =
+            (NAMES.iter()).map(|&name| format!("{name:?} {}", self.calls[name as usize])).collect();
+        let refused: Vec<String> =
+            self.refused.iter().map(|(number, met)| format!("{number}:{met}")).collect();
+        println!(
+            "{netlists} netlists of seed {seed}: {}; accepted {}; refused {}; no difference",
+            calls.join(", ").to_lowercase(),
+            self.accepted,
+            refused.join(" ")
+        );
+    }
+}
+
+/// The calls on one netlist; false at the first difference.
+fn same(seed: u64, index: u64, tally: &mut Tally) -> bool {
+    for call in calls_by_seed(seed, index) {
+        let expected = perform(&PLAIN, &call);
+        let found = catch_unwind(|| perform(&LINKED, &call));
+        if found.as_ref().is_ok_and(|found| *found == expected) {
+            tally.add(call.name, expected.answer[0]);
+            continue;
+        }
+        eprintln!("DIFFERENCE: seed {seed}, netlist {index}, {:?}", call.name);
+        show_call(&call);
+        if let Ok(found) = found {
+            show_difference(&expected, &found);
+        }
+        return false;
+    }
+    true
+}
+
+fn main() -> ExitCode {
+    let numbers: Option<Vec<u64>> = env::args().skip(1).map(|word| word.parse().ok()).collect();
+    let (count, seed, first) = match numbers.as_deref() {
+        Some([count, seed]) => (*count, *seed, 0),
+        Some([count, seed, first]) => (*count, *seed, *first),
+        _ => {
+            eprintln!("usage: compare COUNT SEED [FIRST]");
+            return ExitCode::from(2);
+        }
+    };
+    let mut tally = Tally::default();
+    for index in first..first + count {
+        if !same(seed, index, &mut tally) {
+            return ExitCode::FAILURE;
+        }
+    }
+    tally.print(count, seed);
+    ExitCode::SUCCESS
+}

@@ -1,0 +1,541 @@
+//! Writes the test data of one family, or of all: see README.md for the fields of each.
+//!
+//! A file is a four-byte number of cases, then the cases one after another. A case is a row of
+//! fields; a field is a four-byte length and that many bytes. All numbers are low byte first.
+
+use std::collections::{BTreeMap, BTreeSet};
+use std::process::ExitCode;
+use std::{env, fs};
+
+use reference::calls::answer_bytes;
+use reference::cases::{any_call, damaged, sound, Subject, FILL};
+use reference::engine::{perform, Call, Name, PLAIN};
+use reference::mapper::mapping;
+use reference::random::Random;
+use reference::record::*;
+use reference::shapes;
+use reference::source::{check_source, number_of};
+use reference::views::{block_view, record_view};
+
+const SEED: u64 = 20_001;
+/// Accepted cases of a family found by chance.
+const ACCEPTED: usize = 150;
+/// A case found by chance is at most this long.
+const CASE_BYTES: usize = 700;
+const TRIES: u64 = 200_000;
+/// A family that has fewer cases of some number than this is not written.
+const LEAST: usize = 3;
+
+type Fields = Vec<Vec<u8>>;
+
+struct Case {
+    /// The number of the answer; of a view, 1 if the part is empty.
+    number: u32,
+    fields: Fields,
+}
+
+struct Family {
+    name: &'static str,
+    /// The numbers that must be met, and how many cases of each refusal are found by chance.
+    numbers: &'static [u32],
+    refused: usize,
+    worked: fn() -> Vec<Case>,
+    by_chance: fn(&mut Random) -> Case,
+}
+
+const FAMILIES: [Family; 9] = [
+    Family {
+        name: "reader",
+        numbers: &[0, 2, 4, 5, 6, 7],
+        refused: 60,
+        worked: worked_reader,
+        by_chance: |random| reader_case(&any_subject(random).source),
+    },
+    Family {
+        name: "count",
+        numbers: &[0, 1, 2, 4, 5, 6, 7, 20],
+        refused: 32,
+        worked: worked_count,
+        by_chance: |random| chance_case(random, Name::Count),
+    },
+    Family {
+        name: "mapper",
+        numbers: &[0, 1, 2, 4, 5, 6, 7, 8, 9, 10],
+        refused: 24,
+        worked: worked_mapper,
+        by_chance: |random| chance_case(random, Name::Map),
+    },
+    Family {
+        name: "verifier",
+        numbers: &[0, 1, 2, 4, 5, 6, 7, 11, 12, 13, 14, 15, 16, 17],
+        refused: 16,
+        worked: worked_verifier,
+        by_chance: |random| chance_case(random, Name::Verify),
+    },
+    Family {
+        name: "evaluate",
+        numbers: &[0, 2, 4, 5, 6, 7, 18, 19],
+        refused: 32,
+        worked: worked_evaluate,
+        by_chance: |random| chance_case(random, Name::Evaluate),
+    },
+    Family {
+        name: "run",
+        numbers: &[0, 1, 2, 4, 5, 6, 7, 11, 12, 13, 14, 15, 16, 17, 18, 19],
+        refused: 14,
+        worked: worked_run,
+        by_chance: |random| chance_case(random, Name::Run),
+    },
+    Family {
+        name: "step",
+        numbers: &[0, 1, 2, 4, 5, 6, 7, 11, 12, 13, 14, 15, 16, 17, 18, 19],
+        refused: 15,
+        worked: worked_step,
+        by_chance: |random| chance_case(random, Name::Step),
+    },
+    Family {
+        name: "record_view",
+        numbers: &[0, 1],
+        refused: 60,
+        worked: Vec::new,
+        by_chance: record_view_case,
+    },
+    Family {
+        name: "block_view",
+        numbers: &[0, 1],
+        refused: 60,
+        worked: Vec::new,
+        by_chance: block_view_case,
+    },
+];
+
+fn any_subject(random: &mut Random) -> Subject {
+    let subject = sound(random, 14);
+    damaged(random, subject)
+}
+
+fn reader_case(source: &[u8]) -> Case {
+    let answer = match check_source(source) {
+        Ok(_) => [0, 0],
+        Err(refusal) => [refusal.number, refusal.place],
+    };
+    Case { number: answer[0], fields: vec![source.to_vec(), answer_bytes(&answer)] }
+}
+
+/// The fields of a call: what goes in, the answer, and the areas after it.
+fn call_case(call: &Call) -> Case {
+    let outcome = perform(&PLAIN, call);
+    let capacity = answer_bytes(&[call.capacity]);
+    let numbers = answer_bytes(&[call.capacity, call.number]);
+    let mut fields = vec![call.source.clone()];
+    match call.name {
+        Name::Map => {
+            assert!(call.areas[0].iter().all(|&byte| byte == FILL));
+            fields.push(answer_bytes(&[call.capacity, call.areas[0].len() as u32]));
+        }
+        Name::Count => fields.push(numbers),
+        Name::Verify => fields.extend([capacity, call.mapped.clone()]),
+        Name::Evaluate => fields.push(call.rows.clone()),
+        Name::Run => fields.extend([numbers, call.mapped.clone(), call.rows.clone()]),
+        Name::Step => fields.extend([capacity, call.mapped.clone(), call.rows.clone()]),
+    }
+    if call.name != Name::Map {
+        fields.extend(call.areas.clone());
+    }
+    fields.push(answer_bytes(&outcome.answer));
+    fields.extend(outcome.areas);
+    Case { number: outcome.answer[0], fields }
+}
+
+fn chance_case(random: &mut Random, name: Name) -> Case {
+    let subject = any_subject(random);
+    call_case(&any_call(random, &subject, name))
+}
+
+fn record_view_case(random: &mut Random) -> Case {
+    let source_len = random.below(45);
+    let mapped_len = random.below(90);
+    let (source, mapped) = (random.bytes(source_len), random.bytes(mapped_len));
+    let k = random.below(10);
+    let part = record_view(&source, &mapped, k).to_vec();
+    let number = u32::from(part.is_empty());
+    Case { number, fields: vec![source, mapped, answer_bytes(&[k as u32]), part] }
+}
+
+/// The block view looks at the mapped area's length only, so the area holds any bytes.
+fn block_view_case(random: &mut Random) -> Case {
+    let subject = any_subject(random);
+    let m = mapping(&subject.source, subject.capacity).map_or(5, |mapping| mapping.records.len());
+    let len = match random.below(3) {
+        0 => random.below(WIDTH * m + 1),
+        _ => WIDTH * m + random.below(12),
+    };
+    let mapped = random.bytes(len);
+    let driver = random.below(subject.source.len() / WIDTH + 2);
+    let part = block_view(&subject.source, subject.capacity, &mapped, driver).to_vec();
+    let numbers = answer_bytes(&[subject.capacity, driver as u32]);
+    Case { number: u32::from(part.is_empty()), fields: vec![subject.source, numbers, mapped, part] }
+}
+
+/// A call with no areas and no rows.
+fn bare(name: Name, source: &[Record], capacity: u32) -> Call {
+    Call {
+        name,
+        source: encode(source),
+        capacity,
+        number: 0,
+        mapped: Vec::new(),
+        rows: Vec::new(),
+        areas: Vec::new(),
+    }
+}
+
+/// Sources at the limits of document 01, sound and refused.
+fn worked_reader() -> Vec<Case> {
+    let input = Record::new(INPUT, 0, 0, &[]);
+    let gate = |level: u16| Record::new(AND, 0, level, &[0, 0]);
+    let mut sources: Vec<Vec<Record>> = vec![
+        Vec::new(),
+        shapes::worked(),
+        vec![input],
+        vec![Record { kind: 5, ..input }],
+        vec![Record { kind: 255, ..input }],
+        vec![Record::buffer(1, 0)],
+        vec![input, gate(0)],
+        vec![input, gate(4095)],
+        vec![input, gate(4096)],
+        vec![input, gate(65_535)],
+        vec![Record { level: 1, ..input }],
+        vec![input, Record::new(OUTPUT, 0, 1, &[0]), Record::new(OUTPUT, 0, 2, &[0])],
+        vec![input, Record::new(OUTPUT, 0, 2, &[0]), Record::new(OUTPUT, 0, 1, &[0])],
+        vec![input, Record::new(OUTPUT, 0, 1, &[0]), Record::new(OUTPUT, 0, 2, &[1])],
+        vec![input, Record::new(OUTPUT, 1, 1, &[0])],
+        vec![input, Record::new(AND, 4, 1, &[0, 0])],
+        vec![input, Record::new(MAJ, 7, 1, &[0, 0, 0])],
+        vec![input, Record::new(MAJ, 8, 1, &[0, 0, 0])],
+        vec![Record::new(OUTPUT, 0, 1, &[0])],
+        vec![Record { inversion: 1, ..input }],
+    ];
+    for slot in 0..SLOTS {
+        let mut used = [0; SLOTS];
+        used[slot] = UNUSED;
+        sources.push(vec![input, Record::new(MAJ, 0, 1, &used)]);
+        let mut one = input;
+        one.slots[slot] = 0;
+        sources.push(vec![one]);
+    }
+    // Each pair of checks 4 to 7 in one record, and in two records either way round.
+    let faults: [fn(&mut Record); 4] =
+        [|r| r.kind = 5, |r| r.inversion = 8, |r| r.slots[1] = 9, |r| r.level = 4096];
+    for first in faults {
+        for second in faults {
+            let (mut both, mut one, mut two) = (gate(1), gate(1), gate(1));
+            second(&mut both);
+            first(&mut both);
+            first(&mut one);
+            second(&mut two);
+            sources.push(vec![input, both]);
+            sources.push(vec![input, one, two]);
+        }
+    }
+    sources.iter().map(|records| reader_case(&encode(records))).collect()
+}
+
+/// P1 to P12 and nets at the largest distance.
+fn worked_count() -> Vec<Case> {
+    let nets: [(u32, &[usize]); 12] = [
+        (2, &[]),
+        (2, &[1]),
+        (2, &[1, 1]),
+        (2, &[2, 2]),
+        (2, &[2, 2, 2]),
+        (3, &[2, 2, 2]),
+        (2, &[3, 3, 3]),
+        (2, &[2, 5, 5, 5]),
+        (2, &[1, 2]),
+        (2, &[2, 3, 3]),
+        (2, &[2, 3, 3, 3]),
+        (4, &[2, 2, 2, 2, 2]),
+    ];
+    let mut calls: Vec<Call> =
+        nets.iter().map(|(s, net)| bare(Name::Count, &shapes::net(net), *s)).collect();
+    for s in 2..=4 {
+        calls.push(bare(Name::Count, &shapes::net(&[4095]), s));
+        calls.push(bare(Name::Count, &shapes::net(&[1, 4095]), s));
+        calls.push(bare(Name::Count, &shapes::net(&[4095; 5]), s));
+        calls.push(bare(Name::Count, &shapes::wide(40, s as usize), s));
+        calls.push(bare(Name::Count, &shapes::wide_majorities(14, s as usize), s));
+        for level in 1..=3 {
+            let twice = [Record::new(INPUT, 0, 0, &[]), Record::new(AND, 0, level, &[0, 0])];
+            calls.push(bare(Name::Count, &twice, s));
+        }
+    }
+    for record in 0..=5 {
+        calls.push(Call { number: record, ..bare(Name::Count, &shapes::worked(), 2) });
+    }
+    calls.iter().map(call_case).collect()
+}
+
+fn map_on(source: &[Record], capacity: u32, len: usize) -> Call {
+    Call { areas: vec![vec![FILL; len]], ..bare(Name::Map, source, capacity) }
+}
+
+/// Document 01's case, chains, wide fanouts, and too many records.
+fn worked_mapper() -> Vec<Case> {
+    let worked = shapes::worked();
+    let mut calls: Vec<Call> =
+        [0, 79, 80, 81, 90].iter().map(|&len| map_on(&worked, 2, len)).collect();
+    for capacity in [0, 1, 3, 4, 5, 258] {
+        calls.push(map_on(&worked, capacity, 80));
+    }
+    calls.push(map_on(&[], 2, 0));
+    calls.push(map_on(&[], 4, 7));
+    for s in 2..=4 {
+        calls.push(map_on(&shapes::chains(12), s, 250));
+        calls.push(map_on(&shapes::wide(30, s as usize), s, 900));
+        calls.push(map_on(&shapes::wide_majorities(9, s as usize), s, 600));
+        calls.push(map_on(&shapes::lines(2, 9), s, 200));
+        calls.push(map_on(&shapes::net(&[2, 5, 5, 5]), s, 200));
+        calls.push(map_on(&shapes::lines(15, 4095), s, 30));
+        calls.push(map_on(&shapes::lines(14, 4095), s, 30));
+        // 30 records and 15 x 3,998 buffers are 60,000; one more record is over.
+        calls.push(map_on(&shapes::lines(15, 3999), s, 30));
+        calls.push(map_on(&[shapes::lines(15, 3999), shapes::inputs(1)].concat(), s, 30));
+    }
+    calls.iter().map(call_case).collect()
+}
+
+/// What the mapper writes for a source.
+fn mapped(source: &[Record], s: u32) -> Vec<Record> {
+    mapping(&encode(source), s).expect("a sound source").records
+}
+
+/// Document 01's case changed in each of its bytes, and under every capacity.
+fn worked_verifier() -> Vec<Case> {
+    let source = shapes::worked();
+    let legal = encode(&mapped(&source, 2));
+    let on = |mapped: Vec<u8>, capacity: u32| {
+        call_case(&Call { mapped, ..bare(Name::Verify, &source, capacity) })
+    };
+    let mut cases: Vec<Case> = (1..=5).map(|capacity| on(legal.clone(), capacity)).collect();
+    for at in 0..legal.len() {
+        let mut changed = legal.clone();
+        changed[at] = changed[at].wrapping_add(1);
+        cases.push(on(changed, 2));
+    }
+    for len in [0, 1, 40, 49, 50, 51, 79] {
+        cases.push(on(legal[..len].to_vec(), 2));
+    }
+    // One slot of record 2 a level off, the other naming nothing or an output: 14 comes first.
+    for slots in [[0, 8], [8, 0], [0, 3], [3, 0], [0, 0], [5, 8], [8, 7], [7, 5]] {
+        let mut records = mapped(&source, 2);
+        records[2].slots[..2].copy_from_slice(&slots);
+        cases.push(on(encode(&records), 2));
+    }
+    // Level 0 is not one above level 65,535.
+    let mut records = mapped(&source, 2);
+    records.extend([Record::buffer(0, 9), Record::buffer(65_535, 0)]);
+    cases.push(on(encode(&records), 2));
+    // 14 and 15 go by the mapped netlist's own kinds and levels.
+    let mut records = mapped(&source, 2);
+    records[2].slots[1] = 3;
+    records[3] = Record::new(AND, 0, 1, &[0, 0]);
+    cases.push(on(encode(&records), 2));
+    cases
+}
+
+fn worked_evaluate() -> Vec<Case> {
+    let on = |source: &[Record], row: &[u8], len: usize| {
+        let values = vec![FILL; len];
+        call_case(&Call {
+            rows: row.to_vec(),
+            areas: vec![values],
+            ..bare(Name::Evaluate, source, 0)
+        })
+    };
+    let worked = shapes::worked();
+    let mut cases = vec![on(&[], &[], 0), on(&[], &[0], 0), on(&[], &[], 1)];
+    for row in [[0, 0], [0, 1], [1, 0], [1, 1], [0, 2], [255, 2]] {
+        cases.push(on(&worked, &row, 5));
+    }
+    for (row, len) in [(1, 5), (3, 5), (2, 4), (2, 6)] {
+        cases.push(on(&worked, &[1, 1, 1][..row], len));
+    }
+    // Every function under every inversion and every row.
+    let mut gates = shapes::inputs(3);
+    for kind in [AND, OR, MAJ] {
+        for inversion in 0..=inversion_bits(kind) {
+            gates.push(Record::new(kind, inversion, 1, &[2, 0, 1][..used_slots(kind)]));
+        }
+    }
+    for row in 0..8 {
+        cases.push(on(&gates, &[row & 1, row >> 1 & 1, row >> 2], gates.len()));
+    }
+    cases
+}
+
+/// A run on what the mapper writes, with areas of the right length.
+fn run_on(source: &[Record], s: u32, rows: &[Vec<u8>]) -> Call {
+    let mapped = mapped(source, s);
+    let outputs = rows.len() * number_of(OUTPUT, source);
+    Call {
+        number: rows.len() as u32,
+        rows: rows.concat(),
+        areas: vec![vec![FILL; 2 * mapped.len()], vec![FILL; outputs]],
+        mapped: encode(&mapped),
+        ..bare(Name::Run, source, s)
+    }
+}
+
+/// Document 01's case, no rows, most rows, no outputs, no records.
+fn worked_run() -> Vec<Case> {
+    let worked = shapes::worked();
+    let mut random = Random::new(SEED);
+    let rows = |random: &mut Random, count: usize, width: usize| -> Vec<Vec<u8>> {
+        (0..count).map(|_| random.bits(width)).collect()
+    };
+    let mut calls: Vec<Call> =
+        (0..8).map(|count| run_on(&worked, 2, &rows(&mut random, count, 2))).collect();
+    calls.push(run_on(&shapes::chains(6), 3, &rows(&mut random, 5, 1)));
+    calls.push(run_on(&shapes::lines(2, 7), 2, &rows(&mut random, 3, 2)));
+    calls.push(run_on(&shapes::inputs(1), 2, &rows(&mut random, 10_000, 1)));
+    for count in [0, 1, 9_999, 10_000, 10_001, 65_536, 4_294_967_295] {
+        calls.push(Call { number: count, ..run_on(&[], 2, &[]) });
+        calls.push(Call { number: count, ..run_on(&shapes::inputs(2), 4, &[]) });
+    }
+    for area in 0..2 {
+        for longer in [false, true] {
+            let mut call = run_on(&worked, 2, &rows(&mut random, 2, 2));
+            let len = call.areas[area].len();
+            call.areas[area].resize(if longer { len + 1 } else { len - 1 }, FILL);
+            // 18 comes before 19.
+            call.rows[1] = 2;
+            calls.push(call);
+        }
+    }
+    calls.iter().map(call_case).collect()
+}
+
+fn worked_step() -> Vec<Case> {
+    let source = shapes::worked();
+    let legal = encode(&mapped(&source, 2));
+    let on = |row: &[u8], state: Vec<u8>| {
+        call_case(&Call {
+            mapped: legal.clone(),
+            rows: row.to_vec(),
+            areas: vec![state],
+            ..bare(Name::Step, &source, 2)
+        })
+    };
+    let mut cases = Vec::new();
+    for row in [&[0, 0][..], &[0, 1], &[1, 0], &[1, 1], &[2, 1], &[1, 2], &[1], &[1, 1, 1], &[]] {
+        cases.push(on(row, vec![0; 16]));
+        cases.push(on(row, vec![FILL; 16]));
+        cases.push(on(row, (0..16).map(|k| k % 3).collect()));
+        cases.push(on(row, vec![1; 15]));
+        cases.push(on(row, vec![1; 17]));
+    }
+    let empty = Call { areas: vec![Vec::new()], ..bare(Name::Step, &[], 2) };
+    cases.push(call_case(&empty));
+    cases
+}
+
+fn size(case: &Case) -> usize {
+    case.fields.iter().map(|field| 4 + field.len()).sum()
+}
+
+/// The worked cases, then cases by chance until each number has its share.
+fn collect(family: &Family) -> (Vec<Case>, BTreeMap<u32, usize>) {
+    let mut met: BTreeMap<u32, usize> = BTreeMap::new();
+    let mut seen: BTreeSet<Fields> = BTreeSet::new();
+    let mut cases: Vec<Case> = Vec::new();
+    for case in (family.worked)() {
+        if seen.insert(case.fields.clone()) {
+            *met.entry(case.number).or_default() += 1;
+            cases.push(case);
+        }
+    }
+    let share = |number: u32| if number == 0 { ACCEPTED } else { family.refused };
+    let mut found: BTreeMap<u32, usize> = BTreeMap::new();
+    let seed = family.name.bytes().fold(SEED, |seed, byte| 31 * seed + u64::from(byte));
+    for index in 0..TRIES {
+        let case = (family.by_chance)(&mut Random::of(seed, index));
+        let number = case.number;
+        let have = found.get(&number).copied().unwrap_or(0);
+        if have < share(number) && size(&case) <= CASE_BYTES && seen.insert(case.fields.clone()) {
+            *found.entry(number).or_default() += 1;
+            *met.entry(number).or_default() += 1;
+            cases.push(case);
+        }
+        if family.numbers.iter().all(|&n| found.get(&n).is_some_and(|&have| have == share(n))) {
+            break;
+        }
+    }
+    (cases, met)
+}
+
+fn file(cases: &[Case]) -> Vec<u8> {
+    let mut bytes = (cases.len() as u32).to_le_bytes().to_vec();
+    for field in cases.iter().flat_map(|case| &case.fields) {
+        bytes.extend((field.len() as u32).to_le_bytes());
+        bytes.extend(field);
+    }
+    bytes
+}
+
+fn write(family: &Family, path: &str) -> Result<(), String> {
+    let (cases, met) = collect(family);
+    for number in family.numbers {
+        if met.get(number).copied().unwrap_or(0) < LEAST {
+            return Err(format!("{}: too few cases of number {number}", family.name));
+        }
+    }
+    let bytes = file(&cases);
+    fs::write(path, &bytes).map_err(|error| format!("{path}: {error}"))?;
+    let numbers: Vec<String> =
+        met.iter().map(|(number, have)| format!("{number}:{have}")).collect();
+    println!(
+        "{}: {} cases, {} bytes; by number {}",
+        family.name,
+        cases.len(),
+        bytes.len(),
+        numbers.join(" ")
+    );
+    Ok(())
+}
+
+/// One record more than a source may have, all inputs, and one byte more: its parts are the sizes around a source's limit.
+fn write_inputs(path: &str) -> Result<(), String> {
+    let mut bytes = encode(&vec![Record::new(INPUT, 0, 0, &[]); MAX_SOURCE + 1]);
+    bytes.push(0);
+    fs::write(path, &bytes).map_err(|error| format!("{path}: {error}"))?;
+    println!("inputs: {} bytes", bytes.len());
+    Ok(())
+}
+
+fn write_all(folder: &str) -> Result<(), String> {
+    for family in &FAMILIES {
+        write(family, &format!("{folder}/{}", family.name))?;
+    }
+    write_inputs(&format!("{folder}/inputs"))
+}
+
+fn main() -> ExitCode {
+    let words: Vec<String> = env::args().skip(1).collect();
+    let result = match &words[..] {
+        [name, folder] if name == "all" => write_all(folder),
+        [name, path] if name == "inputs" => write_inputs(path),
+        [name, path] => match FAMILIES.iter().find(|family| family.name == name) {
+            Some(family) => write(family, path),
+            None => Err(format!("no family {name}")),
+        },
+        _ => Err("usage: generate FAMILY OUTFILE, or generate all FOLDER".to_string()),
+    };
+    match result {
+        Ok(()) => ExitCode::SUCCESS,
+        Err(message) => {
+            eprintln!("{message}");
+            ExitCode::FAILURE
+        }
+    }
+}

@@ -1,0 +1,52 @@
+//! The six calls as a C host sees them: the numbers of the answer in document 01's order.
+
+use crate::net::{self, Count};
+use crate::refusal::Refusal;
+use crate::simulator::{self, Run};
+use crate::{mapper, verifier};
+
+/// What stands for "no tree" in the answer of the count.
+pub const NO_TREE: u32 = 4_294_967_295;
+
+/// An answer: number and place, then the accepted call's numbers or zeros.
+fn answer<const K: usize, const A: usize>(result: Result<[u32; K], Refusal>) -> [u32; A] {
+    let mut numbers = [0; A];
+    match result {
+        Ok(values) => numbers[2..].copy_from_slice(&values),
+        Err(refusal) => numbers[..2].copy_from_slice(&[refusal.number, refusal.place]),
+    }
+    numbers
+}
+
+pub fn map(source: &[u8], capacity: u32, mapped: &mut [u8]) -> [u32; 7] {
+    answer(mapper::map(source, capacity, mapped))
+}
+
+pub fn count(source: &[u8], capacity: u32, record: u32) -> [u32; 3] {
+    answer(match net::count(source, capacity, record) {
+        Count::Fewest(buffers) => Ok([buffers]),
+        Count::NoTree => Ok([NO_TREE]),
+        Count::Refused(refusal) => Err(refusal),
+    })
+}
+
+pub fn verify(source: &[u8], capacity: u32, mapped: &[u8]) -> [u32; 3] {
+    answer(verifier::verify(source, capacity, mapped).map(|buffers| [buffers]))
+}
+
+pub fn evaluate(source: &[u8], row: &[u8], values: &mut [u8]) -> [u32; 2] {
+    answer(simulator::evaluate(source, row, values).map(|()| []))
+}
+
+pub fn run(source: &[u8], capacity: u32, mapped: &[u8], areas: Run) -> [u32; 2] {
+    answer(simulator::run(source, capacity, mapped, areas).map(|()| []))
+}
+
+pub fn step(source: &[u8], capacity: u32, mapped: &[u8], row: &[u8], state: &mut [u8]) -> [u32; 2] {
+    answer(simulator::step(source, capacity, mapped, row, state).map(|()| []))
+}
+
+/// The bytes of an answer, four for each number, low byte first.
+pub fn answer_bytes(numbers: &[u32]) -> Vec<u8> {
+    numbers.iter().flat_map(|number| number.to_le_bytes()).collect()
+}

@@ -1,0 +1,309 @@
+//! Calls by seed: sources and mapped netlists, sound and damaged, with areas that fit or do not.
+
+use crate::damage::{self, ALL_DAMAGE, SOURCE_CHECKS};
+use crate::engine::{Call, Name, NAMES};
+use crate::generator::{self, ALL_LEVELS};
+use crate::mapper::mapping;
+use crate::random::Random;
+use crate::record::*;
+use crate::shapes;
+use crate::source::{check_source, indices_of, number_of};
+
+/// What an area is filled with before the mapper may write it.
+pub const FILL: u8 = 0xA5;
+
+/// A source and a capacity; either may be damaged.
+#[derive(Clone)]
+pub struct Subject {
+    /// The records before any damage, and a capacity under which they were made.
+    pub records: Vec<Record>,
+    pub s: usize,
+    pub source: Vec<u8>,
+    pub capacity: u32,
+}
+
+impl Subject {
+    pub fn new(records: Vec<Record>, s: usize) -> Subject {
+        let source = encode(&records);
+        Subject { records, s, source, capacity: s as u32 }
+    }
+}
+
+/// A sound subject of at most `most` records.
+pub fn sound(random: &mut Random, most: usize) -> Subject {
+    let s = random.between(2, 4);
+    let levels = random.pick(&ALL_LEVELS);
+    let size = match random.below(12) {
+        0 => random.below(3.min(most + 1)),
+        1..=3 => random.below(most + 1),
+        _ => random.below(most.min(16) + 1),
+    };
+    Subject::new(generator::source(random, size, s, levels), s)
+}
+
+/// Damages the capacity once in 24 times and the source once in 5, now and then twice.
+pub fn damaged(random: &mut Random, mut subject: Subject) -> Subject {
+    if random.one_in(24) {
+        subject.capacity = random.pick(&[0, 1, 5, 6, 258, 65_538, 4_294_967_295]);
+    }
+    if random.one_in(5) {
+        let check = random.pick(&SOURCE_CHECKS);
+        subject.source = damage::source(random, &subject.records, check);
+        if random.one_in(3) {
+            let again = random.pick(&SOURCE_CHECKS);
+            let records = decode(&subject.source);
+            subject.source = damage::source(random, &records, again);
+        }
+    } else if random.one_in(30) && !subject.source.is_empty() {
+        let at = random.below(subject.source.len());
+        subject.source[at] = random.byte();
+    }
+    subject
+}
+
+/// A length: mostly the right one, else one off, nothing, or more.
+fn length(random: &mut Random, right: usize) -> usize {
+    match random.below(16) {
+        0 => right.saturating_sub(1),
+        1 => right + 1,
+        2 => 0,
+        3 => right + random.below(2 * WIDTH),
+        _ => right,
+    }
+}
+
+fn call(name: Name, subject: &Subject) -> Call {
+    Call {
+        name,
+        source: subject.source.clone(),
+        capacity: subject.capacity,
+        number: 0,
+        mapped: Vec::new(),
+        rows: Vec::new(),
+        areas: Vec::new(),
+    }
+}
+
+/// The mapper, on an area filled with one byte.
+pub fn map_call(random: &mut Random, subject: &Subject) -> Call {
+    let right = match mapping(&subject.source, subject.capacity) {
+        Ok(mapping) => WIDTH * mapping.records.len(),
+        Err(_) => random.below(4 * WIDTH),
+    };
+    let len = length(random, right);
+    Call { areas: vec![vec![FILL; len]], ..call(Name::Map, subject) }
+}
+
+pub fn count_call(random: &mut Random, subject: &Subject) -> Call {
+    let n = subject.source.len() / WIDTH;
+    let outputs = indices_of(OUTPUT, &subject.records);
+    let number = match random.below(16) {
+        0 => n,
+        1 => n + random.below(10),
+        2 => random.pick(&[65_535, 65_536, 4_294_967_295]),
+        3 if !outputs.is_empty() => random.pick(&outputs),
+        4..=7 => 0,
+        _ => random.below(n.max(1)),
+    };
+    Call { number: number as u32, ..call(Name::Count, subject) }
+}
+
+/// A mapped netlist for the subject: the mapper's or another legal one, damaged or not; the
+/// source itself or random bytes where there is none.
+pub fn mapped_for(random: &mut Random, subject: &Subject) -> Vec<u8> {
+    let own = mapping(&encode(&subject.records), subject.s as u32).map(|mapping| mapping.records);
+    let legal = match own {
+        Ok(_) if random.below(4) > 0 => generator::foreign(random, &subject.records, subject.s),
+        own => own.ok(),
+    };
+    let Some(legal) = legal else {
+        let len = random.below(subject.source.len() + 3 * WIDTH);
+        return if random.one_in(2) { subject.source.clone() } else { random.bytes(len) };
+    };
+    if random.below(5) < 3 {
+        return encode(&legal);
+    }
+    let kind = random.pick(&ALL_DAMAGE);
+    let once = damage::mapped(random, &legal, subject.records.len(), subject.s, kind);
+    if random.one_in(6) && once.len() >= subject.source.len() && !once.is_empty() {
+        let mut twice = once;
+        let at = random.below(twice.len());
+        twice[at] ^= 1 << random.below(8);
+        return twice;
+    }
+    once
+}
+
+pub fn verify_call(random: &mut Random, subject: &Subject) -> Call {
+    Call { mapped: mapped_for(random, subject), ..call(Name::Verify, subject) }
+}
+
+/// The number of inputs of a source that passes 2 to 7, else any small number.
+fn input_count(random: &mut Random, subject: &Subject) -> usize {
+    match check_source(&subject.source) {
+        Ok(records) => number_of(INPUT, &records),
+        Err(_) => random.below(4),
+    }
+}
+
+/// Rows of bits; once in 8 times with bytes above 1.
+fn rows(random: &mut Random, len: usize) -> Vec<u8> {
+    let mut rows = random.bits(len);
+    if random.one_in(8) && len > 0 {
+        for _ in 0..random.between(1, 2) {
+            let at = random.below(len);
+            rows[at] = random.pick(&[2, 3, 128, 255]);
+        }
+    }
+    rows
+}
+
+pub fn evaluate_call(random: &mut Random, subject: &Subject) -> Call {
+    let inputs = input_count(random, subject);
+    let row_len = length(random, inputs);
+    let values_len = length(random, subject.source.len() / WIDTH);
+    Call {
+        rows: rows(random, row_len),
+        areas: vec![random.bytes(values_len)],
+        ..call(Name::Evaluate, subject)
+    }
+}
+
+/// A phase run of at most `most` rows.
+pub fn run_call(random: &mut Random, subject: &Subject, most: usize) -> Call {
+    let mapped = mapped_for(random, subject);
+    let inputs = input_count(random, subject);
+    let outputs = number_of(OUTPUT, &subject.records);
+    let number = random.below(most + 1);
+    let given = match random.below(40) {
+        0 => number + 1,
+        1 => 10_001,
+        2 => 10_000,
+        3 => random.pick(&[65_536 + number, 4_294_967_295]),
+        _ => number,
+    };
+    let state_len = length(random, 2 * (mapped.len() / WIDTH));
+    let (rows_len, outputs_len) = if random.one_in(4) {
+        (length(random, number * inputs), length(random, number * outputs))
+    } else {
+        (number * inputs, number * outputs)
+    };
+    Call {
+        number: given as u32,
+        rows: rows(random, rows_len),
+        areas: vec![random.bytes(state_len), random.bytes(outputs_len)],
+        mapped,
+        ..call(Name::Run, subject)
+    }
+}
+
+pub fn step_call(random: &mut Random, subject: &Subject) -> Call {
+    let mapped = mapped_for(random, subject);
+    let inputs = input_count(random, subject);
+    let row_len = length(random, inputs);
+    let state_len = length(random, 2 * (mapped.len() / WIDTH));
+    Call {
+        rows: rows(random, row_len),
+        areas: vec![random.bytes(state_len)],
+        mapped,
+        ..call(Name::Step, subject)
+    }
+}
+
+/// A call of the name on the subject.
+pub fn any_call(random: &mut Random, subject: &Subject, name: Name) -> Call {
+    match name {
+        Name::Map => map_call(random, subject),
+        Name::Count => count_call(random, subject),
+        Name::Verify => verify_call(random, subject),
+        Name::Evaluate => evaluate_call(random, subject),
+        Name::Run => run_call(random, subject, 6),
+        Name::Step => step_call(random, subject),
+    }
+}
+
+/// Subjects at the limits of document 01's sizes.
+pub fn limit(random: &mut Random) -> Subject {
+    let s = random.between(2, 4);
+    let records = match random.below(12) {
+        0 => shapes::inputs(MAX_SOURCE),
+        1 => shapes::inputs(MAX_SOURCE + random.between(1, 3)),
+        2 => shapes::lines(14, MAX_LEVEL),
+        3 => shapes::lines(1, MAX_LEVEL),
+        9..=11 => shapes::lines(random.between(15, 40), MAX_LEVEL),
+        4 => shapes::wide(random.between(2, 1500), s),
+        5 => shapes::wide_majorities(random.between(2, 600), s),
+        6 => shapes::chains(random.between(1, 900)),
+        7 => {
+            let size = random.between(64, 400);
+            shapes::layered(random, size, s)
+        }
+        _ => generator::source(random, 500, s, generator::Levels::Roomy),
+    };
+    Subject::new(records, s)
+}
+
+/// A call on the worked case with about the most records that a mapped netlist may have.
+pub fn full_call(random: &mut Random) -> Call {
+    let subject = Subject::new(shapes::worked(), 2);
+    let n = subject.records.len();
+    let own = mapping(&subject.source, 2).expect("the worked case").records;
+    let mut records = shapes::padded(&own, 2, MAX_MAPPED - 2 + random.below(4));
+    if random.one_in(2) {
+        generator::shuffle_buffers(random, &mut records, n);
+    }
+    let mut mapped = encode(&records);
+    if random.one_in(3) {
+        let at = random.below(mapped.len());
+        mapped[at] ^= 1 << random.below(8);
+    }
+    let state = vec![random.bytes(2 * records.len())];
+    let rows = random.bits(2);
+    match random.below(3) {
+        0 => Call { mapped, ..call(Name::Verify, &subject) },
+        1 => Call { mapped, rows, areas: state, ..call(Name::Step, &subject) },
+        _ => {
+            let areas = vec![state.concat(), vec![FILL; 2]];
+            Call { number: 1, mapped, rows, areas, ..call(Name::Run, &subject) }
+        }
+    }
+}
+
+/// The verifier on a netlist in which one buffer feeds about 65,536 slots.
+pub fn crowded_call(random: &mut Random) -> Call {
+    let source = shapes::wide_majorities(MAX_SOURCE, 2)
+        .iter()
+        .map(|record| Record { level: record.level.min(2), ..*record })
+        .collect();
+    let subject = Subject::new(source, 4);
+    let n = subject.records.len();
+    let mut records = subject.records.clone();
+    for record in &mut records[1..] {
+        record.slots = [n as u16; SLOTS];
+    }
+    records.push(Record::buffer(1, 0));
+    let buffers = random.between(65_534, 65_542) - SLOTS * (n - 1);
+    records.resize(records.len() + buffers, Record::buffer(2, n as u16));
+    Call { mapped: encode(&records), ..call(Name::Verify, &subject) }
+}
+
+/// All calls made on netlist `index` of a seed: most are small, one in 250 is at a limit.
+pub fn calls_by_seed(seed: u64, index: u64) -> Vec<Call> {
+    let mut random = Random::of(seed, index);
+    if index % 1000 == 999 {
+        return vec![full_call(&mut random), crowded_call(&mut random)];
+    }
+    let subject = match index % 250 {
+        249 => limit(&mut random),
+        _ => sound(&mut random, 40),
+    };
+    let subject = damaged(&mut random, subject);
+    let mut calls = Vec::new();
+    for name in NAMES {
+        calls.push(any_call(&mut random, &subject, name));
+        if matches!(name, Name::Count | Name::Verify) {
+            calls.push(any_call(&mut random, &subject, name));
+        }
+    }
+    calls
+}

@@ -1,0 +1,90 @@
+//! The six calls behind one table of functions, so that implementations can be held side by side.
+
+use crate::simulator::Run;
+use crate::{calls, fast};
+
+/// One implementation of the calls. An answer's numbers stand in document 01's order.
+pub struct Engine {
+    pub map: fn(&[u8], u32, &mut [u8]) -> [u32; 7],
+    pub count: fn(&[u8], u32, u32) -> [u32; 3],
+    pub verify: fn(&[u8], u32, &[u8]) -> [u32; 3],
+    pub evaluate: fn(&[u8], &[u8], &mut [u8]) -> [u32; 2],
+    pub run: fn(&[u8], u32, &[u8], Run) -> [u32; 2],
+    pub step: fn(&[u8], u32, &[u8], &[u8], &mut [u8]) -> [u32; 2],
+}
+
+pub const PLAIN: Engine = Engine {
+    map: calls::map,
+    count: calls::count,
+    verify: calls::verify,
+    evaluate: calls::evaluate,
+    run: calls::run,
+    step: calls::step,
+};
+
+pub const FAST: Engine = Engine {
+    map: fast::map,
+    count: fast::count,
+    verify: fast::verify,
+    evaluate: fast::evaluate,
+    run: fast::run,
+    step: fast::step,
+};
+
+#[derive(Clone, Copy, PartialEq, Eq, Debug)]
+pub enum Name {
+    Map,
+    Count,
+    Verify,
+    Evaluate,
+    Run,
+    Step,
+}
+
+pub const NAMES: [Name; 6] =
+    [Name::Map, Name::Count, Name::Verify, Name::Evaluate, Name::Run, Name::Step];
+
+/// One call with all that goes in. What a call does not take is empty or 0.
+#[derive(Clone, Debug)]
+pub struct Call {
+    pub name: Name,
+    pub source: Vec<u8>,
+    pub capacity: u32,
+    /// The count's record, or the run's number of rows.
+    pub number: u32,
+    pub mapped: Vec<u8>,
+    pub rows: Vec<u8>,
+    /// The areas that the call may write, as they are before it, in the order of the interface.
+    pub areas: Vec<Vec<u8>>,
+}
+
+/// The answer, and the areas after the call.
+#[derive(Clone, PartialEq, Eq, Debug)]
+pub struct Outcome {
+    pub answer: Vec<u32>,
+    pub areas: Vec<Vec<u8>>,
+}
+
+/// Makes the call.
+pub fn perform(engine: &Engine, call: &Call) -> Outcome {
+    let (source, capacity, mapped) = (&call.source[..], call.capacity, &call.mapped[..]);
+    let mut areas = call.areas.clone();
+    let answer = match call.name {
+        Name::Map => (engine.map)(source, capacity, &mut areas[0]).to_vec(),
+        Name::Count => (engine.count)(source, capacity, call.number).to_vec(),
+        Name::Verify => (engine.verify)(source, capacity, mapped).to_vec(),
+        Name::Evaluate => (engine.evaluate)(source, &call.rows, &mut areas[0]).to_vec(),
+        Name::Run => {
+            let (state, outputs) = areas.split_at_mut(1);
+            let run = Run {
+                row_count: call.number,
+                rows: &call.rows,
+                state: &mut state[0],
+                outputs: &mut outputs[0],
+            };
+            (engine.run)(source, capacity, mapped, run).to_vec()
+        }
+        Name::Step => (engine.step)(source, capacity, mapped, &call.rows, &mut areas[0]).to_vec(),
+    };
+    Outcome { answer, areas }
+}

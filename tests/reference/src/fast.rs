@@ -1,0 +1,659 @@
+//! The same answers as `calls` in linear time: plain slices, local arrays, no heap, nothing kept
+//! between calls. This is what the benchmark measures against.
+
+use std::mem::MaybeUninit;
+
+use crate::calls::NO_TREE;
+use crate::record::*;
+use crate::simulator::Run;
+
+/// Number and place of a refusal.
+type Refused = (u32, u32);
+
+/// No slot, in the lists of sinks.
+const NONE: u16 = u16::MAX;
+/// A slot's number is 4 times its record's index plus its own.
+const SLOT_NUMBERS: usize = 4 * MAX_SOURCE;
+const LEVELS: usize = MAX_LEVEL as usize + 1;
+
+/// Used slots and inversion bits of the kinds 0 to 4, looked up instead of worked out.
+const USED: [usize; 5] =
+    [used_slots(0), used_slots(1), used_slots(2), used_slots(3), used_slots(4)];
+const BITS: [u8; 5] =
+    [inversion_bits(0), inversion_bits(1), inversion_bits(2), inversion_bits(3), inversion_bits(4)];
+
+/// A local array of which a netlist uses, and pays for, the first entries only.
+struct Local<T, const K: usize>([MaybeUninit<T>; K]);
+
+impl<T: Copy, const K: usize> Local<T, K> {
+    #[inline(always)]
+    fn new() -> Self {
+        Local([MaybeUninit::uninit(); K])
+    }
+
+    /// The first entries, each set to the value.
+    fn first(&mut self, len: usize, value: T) -> &mut [T] {
+        let used = &mut self.0[..len];
+        used.fill(MaybeUninit::new(value));
+        // SAFETY: all of `used` was set in the line above.
+        unsafe { &mut *(used as *mut [MaybeUninit<T>] as *mut [T]) }
+    }
+}
+
+fn refused<const A: usize>((number, place): Refused) -> [u32; A] {
+    let mut answer = [0; A];
+    answer[0] = number;
+    answer[1] = place;
+    answer
+}
+
+/// The ten bytes of a record.
+type Bytes = [u8; WIDTH];
+
+#[inline(always)]
+fn level(record: &Bytes) -> u16 {
+    u16::from_le_bytes([record[2], record[3]])
+}
+
+#[inline(always)]
+fn slot(record: &Bytes, j: usize) -> usize {
+    u16::from_le_bytes([record[4 + 2 * j], record[5 + 2 * j]]).into()
+}
+
+/// What one pass over an accepted source finds.
+struct Totals {
+    depth: u16,
+    inputs: usize,
+    outputs: usize,
+}
+
+/// Checks 6 and 7 of a record with its used slots known, an output's level apart.
+#[inline(always)]
+fn check_slots<const U: usize>(earlier: &[Bytes], r: &Bytes) -> Result<(), Refused> {
+    let k = earlier.len() as u32;
+    for j in 0..U {
+        if earlier.get(slot(r, j)).is_none_or(|fanin| fanin[0] == OUTPUT) {
+            return Err((6, k));
+        }
+    }
+    if r[4 + 2 * U..] != [0xFF; WIDTH][4 + 2 * U..] {
+        return Err((6, k));
+    }
+    let own = level(r);
+    if own > MAX_LEVEL {
+        return Err((7, k));
+    }
+    for j in 0..U {
+        if level(&earlier[slot(r, j)]) >= own {
+            return Err((7, k));
+        }
+    }
+    Ok(())
+}
+
+/// Checks 4 to 7 of the record after the earlier ones.
+#[inline(always)]
+fn check_record(earlier: &[Bytes], r: &Bytes, totals: &mut Totals) -> Result<(), Refused> {
+    let k = earlier.len() as u32;
+    let kind = r[0];
+    if kind > OUTPUT {
+        return Err((4, k));
+    }
+    if r[1] & !BITS[usize::from(kind)] != 0 {
+        return Err((5, k));
+    }
+    match kind {
+        INPUT => {
+            check_slots::<0>(earlier, r)?;
+            if level(r) != 0 {
+                return Err((7, k));
+            }
+            totals.inputs += 1;
+        }
+        OUTPUT => {
+            check_slots::<1>(earlier, r)?;
+            if totals.outputs > 0 && level(r) != totals.depth {
+                return Err((7, k));
+            }
+            totals.depth = level(r);
+            totals.outputs += 1;
+        }
+        MAJ => check_slots::<3>(earlier, r)?,
+        _ => check_slots::<2>(earlier, r)?,
+    }
+    Ok(())
+}
+
+/// Checks 2 to 7: the source's records and totals.
+fn check_source(source: &[u8]) -> Result<(&[Bytes], Totals), Refused> {
+    let (records, rest) = source.as_chunks::<WIDTH>();
+    if !rest.is_empty() {
+        return Err((2, 0));
+    }
+    if records.len() > MAX_SOURCE {
+        return Err((3, 0));
+    }
+    let mut totals = Totals { depth: 0, inputs: 0, outputs: 0 };
+    for (k, r) in records.iter().enumerate() {
+        check_record(&records[..k], r, &mut totals)?;
+    }
+    Ok((records, totals))
+}
+
+/// The sinks of every driver, as lists by record and slot: a first slot for each driver and a next
+/// one for each slot.
+struct Sinks<'a> {
+    first: &'a mut [u16],
+    next: &'a mut [u16],
+}
+
+impl Sinks<'_> {
+    fn fill(mut self, source: &[Bytes]) -> Self {
+        let sinks = &mut self;
+        for (k, r) in source.iter().enumerate().rev() {
+            for j in (0..USED[usize::from(r[0])]).rev() {
+                let number = 4 * k + j;
+                sinks.next[number] = sinks.first[slot(r, j)];
+                sinks.first[slot(r, j)] = number as u16;
+            }
+        }
+        self
+    }
+}
+
+/// Fills the row of level counts with a driver's sinks; answers the largest distance.
+#[inline(always)]
+fn fill_row(source: &[Bytes], sinks: &Sinks, driver: usize, row: &mut [u16; LEVELS]) -> usize {
+    let own = level(&source[driver]);
+    let mut largest = 0;
+    let mut at = sinks.first[driver];
+    while at != NONE {
+        let distance = usize::from(level(&source[usize::from(at) / 4]) - own);
+        row[distance] += 1;
+        largest = largest.max(distance);
+        at = sinks.next[usize::from(at)];
+    }
+    largest
+}
+
+/// Walks the row downwards and clears it: the fewest buffers, or nothing.
+#[inline(always)]
+fn walk_row<const S: usize>(row: &mut [u16; LEVELS], largest: usize) -> Option<u32> {
+    let mut nodes = 0;
+    let mut buffers = 0;
+    for count in row[2..=largest.max(1)].iter_mut().rev() {
+        nodes = (nodes + u32::from(*count)).div_ceil(S as u32);
+        *count = 0;
+        buffers += nodes;
+    }
+    nodes += u32::from(row[1]);
+    row[1] = 0;
+    (nodes <= 1).then_some(buffers)
+}
+
+/// The slot and the distance of a driver's sink, if it has just one.
+#[inline(always)]
+fn only_sink(source: &[Bytes], sinks: &Sinks, driver: usize) -> Option<(usize, usize)> {
+    let at = usize::from(sinks.first[driver]);
+    if sinks.next[at] != NONE {
+        return None;
+    }
+    Some((at, usize::from(level(&source[at / 4]) - level(&source[driver]))))
+}
+
+/// Check 8 for every driver, and the buffers of all nets.
+fn count_all<const S: usize>(
+    source: &[Bytes],
+    sinks: &Sinks,
+    row: &mut [u16; LEVELS],
+) -> Result<u32, Refused> {
+    let mut buffers = 0;
+    for driver in 0..source.len() {
+        if sinks.first[driver] == NONE {
+            continue;
+        }
+        if let Some((_, distance)) = only_sink(source, sinks, driver) {
+            buffers += distance as u32 - 1;
+            continue;
+        }
+        let largest = fill_row(source, sinks, driver, row);
+        match walk_row::<S>(row, largest) {
+            Some(fewest) => buffers += fewest,
+            None => return Err((8, driver as u32)),
+        }
+    }
+    Ok(buffers)
+}
+
+/// The mapped netlist while it is written.
+struct Writer<'a> {
+    records: &'a mut [Bytes],
+    /// The index of the next buffer.
+    free: usize,
+}
+
+impl Writer<'_> {
+    #[inline(always)]
+    fn buffer(&mut self, level: u16, fanin: usize) {
+        let (level, fanin) = (level.to_le_bytes(), (fanin as u16).to_le_bytes());
+        self.records[self.free] =
+            [BUFFER, 0, level[0], level[1], fanin[0], fanin[1], 255, 255, 255, 255];
+        self.free += 1;
+    }
+
+    #[inline(always)]
+    fn rewire(&mut self, at: usize, fanin: usize) {
+        let place = 4 + 2 * (at % 4);
+        self.records[at / 4][place..place + 2].copy_from_slice(&(fanin as u16).to_le_bytes());
+    }
+}
+
+/// Writes the tree of a driver with several sinks. `nearer` holds, for each distance of this net,
+/// the index of the first node one level nearer.
+fn write_tree<const S: usize>(
+    source: &[Bytes],
+    sinks: &Sinks,
+    driver: usize,
+    row: &mut [u16; LEVELS],
+    nearer: &mut [u16; LEVELS],
+    writer: &mut Writer,
+) {
+    let own = level(&source[driver]);
+    let largest = fill_row(source, sinks, driver, row);
+    let mut buffers = 0;
+    for count in row[1..=largest].iter_mut().rev() {
+        let nodes = buffers + u32::from(*count);
+        *count = buffers as u16;
+        buffers = nodes.div_ceil(S as u32);
+    }
+    let mut start = driver;
+    for d in 1..=largest {
+        nearer[d] = start as u16;
+        let first = writer.free;
+        for k in 0..usize::from(row[d]) {
+            writer.buffer(own + d as u16, start + k / S);
+        }
+        start = first;
+    }
+    let mut at = sinks.first[driver];
+    while at != NONE {
+        let number = usize::from(at);
+        let d = usize::from(level(&source[number / 4]) - own);
+        writer.rewire(number, usize::from(nearer[d]) + usize::from(row[d]) / S);
+        row[d] += 1;
+        at = sinks.next[number];
+    }
+    row[1..=largest].fill(0);
+}
+
+fn write_all<const S: usize>(
+    source: &[Bytes],
+    sinks: &Sinks,
+    row: &mut [u16; LEVELS],
+    records: &mut [Bytes],
+) {
+    let mut nearer = [0; LEVELS];
+    records[..source.len()].copy_from_slice(source);
+    let mut writer = Writer { records, free: source.len() };
+    for driver in 0..source.len() {
+        if sinks.first[driver] == NONE {
+            continue;
+        }
+        let Some((at, distance)) = only_sink(source, sinks, driver) else {
+            write_tree::<S>(source, sinks, driver, row, &mut nearer, &mut writer);
+            continue;
+        };
+        let own = level(&source[driver]);
+        let mut fanin = driver;
+        for d in 1..distance {
+            let next = writer.free;
+            writer.buffer(own + d as u16, fanin);
+            fanin = next;
+        }
+        writer.rewire(at, fanin);
+    }
+}
+
+fn map_checked<const S: usize>(source: &[u8], mapped: &mut [u8]) -> Result<[u32; 7], Refused> {
+    let (source, totals) = check_source(source)?;
+    let n = source.len();
+    let mut first = Local::<u16, MAX_SOURCE>::new();
+    let mut next = Local::<u16, SLOT_NUMBERS>::new();
+    let lists = Sinks { first: first.first(n, NONE), next: next.first(4 * n, NONE) };
+    let sinks = lists.fill(source);
+    let mut row = [0; LEVELS];
+    let buffers = count_all::<S>(source, &sinks, &mut row)?;
+    let m = n as u32 + buffers;
+    if m as usize > MAX_MAPPED {
+        return Err((9, 0));
+    }
+    if mapped.len() < WIDTH * m as usize {
+        return Err((10, 0));
+    }
+    write_all::<S>(source, &sinks, &mut row, mapped.as_chunks_mut().0);
+    let gates = (n - totals.inputs - totals.outputs) as u32;
+    let junctions = 6 * gates + 2 * buffers;
+    let share = (200 * buffers).checked_div(junctions).unwrap_or(0);
+    Ok([0, 0, m, buffers, totals.depth.into(), junctions, share])
+}
+
+#[inline(never)]
+pub fn map(source: &[u8], capacity: u32, mapped: &mut [u8]) -> [u32; 7] {
+    let answer = match capacity {
+        2 => map_checked::<2>(source, mapped),
+        3 => map_checked::<3>(source, mapped),
+        4 => map_checked::<4>(source, mapped),
+        _ => Err((1, 0)),
+    };
+    answer.unwrap_or_else(refused)
+}
+
+fn count_checked<const S: usize>(source: &[u8], record: u32) -> Result<[u32; 3], Refused> {
+    let (source, _) = check_source(source)?;
+    let driver = record as usize;
+    if source.get(driver).is_none_or(|r| r[0] == OUTPUT) {
+        return Err((20, record));
+    }
+    let own = level(&source[driver]);
+    let mut row = [0; LEVELS];
+    let mut largest = 0;
+    for r in &source[driver + 1..] {
+        for j in 0..USED[usize::from(r[0])] {
+            if slot(r, j) == driver {
+                let distance = usize::from(level(r) - own);
+                row[distance] += 1;
+                largest = largest.max(distance);
+            }
+        }
+    }
+    Ok([0, 0, walk_row::<S>(&mut row, largest).unwrap_or(NO_TREE)])
+}
+
+#[inline(never)]
+pub fn count(source: &[u8], capacity: u32, record: u32) -> [u32; 3] {
+    let answer = match capacity {
+        2 => count_checked::<2>(source, record),
+        3 => count_checked::<3>(source, record),
+        4 => count_checked::<4>(source, record),
+        _ => Err((1, 0)),
+    };
+    answer.unwrap_or_else(refused)
+}
+
+/// Checks 14 and 15 of a record that uses U slots, each slot counted at the record it names.
+#[inline(always)]
+fn check_fanins<const U: usize>(
+    mapped: &[Bytes],
+    k: usize,
+    feeds: &mut [u8],
+) -> Result<(), Refused> {
+    let r = &mapped[k];
+    for j in 0..U {
+        if mapped.get(slot(r, j)).is_none_or(|fanin| fanin[0] == OUTPUT) {
+            return Err((14, k as u32));
+        }
+    }
+    for j in 0..U {
+        let fanin = slot(r, j);
+        if u32::from(level(&mapped[fanin])) + 1 != u32::from(level(r)) {
+            return Err((15, k as u32));
+        }
+        feeds[fanin] = feeds[fanin].saturating_add(1);
+    }
+    Ok(())
+}
+
+/// Checks 12, 14 and 15 of a source record that uses U slots.
+#[inline(always)]
+fn check_kept<const U: usize>(
+    old: &Bytes,
+    mapped: &[Bytes],
+    k: usize,
+    feeds: &mut [u8],
+) -> Result<(), Refused> {
+    let new = &mapped[k];
+    if old[..4] != new[..4] || old[4 + 2 * U..] != new[4 + 2 * U..] {
+        return Err((12, k as u32));
+    }
+    check_fanins::<U>(mapped, k, feeds)
+}
+
+/// The driver on which buffer `from` hangs. `drivers` holds what is known of the buffers.
+fn find_driver(mapped: &[Bytes], n: usize, from: usize, drivers: &mut [u16]) -> usize {
+    let mut at = from;
+    while at >= n && drivers[at] == NONE {
+        at = slot(&mapped[at], 0);
+    }
+    let driver = if at < n { at } else { drivers[at].into() };
+    let mut at = from;
+    while at >= n && drivers[at] == NONE {
+        drivers[at] = driver as u16;
+        at = slot(&mapped[at], 0);
+    }
+    driver
+}
+
+/// Check 16.
+fn check_traces(source: &[Bytes], mapped: &[Bytes], drivers: &mut [u16]) -> Result<(), Refused> {
+    let n = source.len();
+    for (k, (old, new)) in source.iter().zip(mapped).enumerate() {
+        for j in 0..USED[usize::from(old[0])] {
+            let fanin = slot(new, j);
+            let driver = if fanin < n {
+                fanin
+            } else if drivers[fanin] != NONE {
+                drivers[fanin].into()
+            } else {
+                find_driver(mapped, n, fanin, drivers)
+            };
+            if driver != slot(old, j) {
+                return Err((16, k as u32));
+            }
+        }
+    }
+    Ok(())
+}
+
+/// Checks 11 to 17 of a source that has passed 2 to 7: the mapped records.
+fn check_mapped<'a, const S: usize>(
+    source: &[Bytes],
+    mapped: &'a [u8],
+) -> Result<&'a [Bytes], Refused> {
+    let (mapped, rest) = mapped.as_chunks::<WIDTH>();
+    let (n, m) = (source.len(), mapped.len());
+    if !rest.is_empty() || m < n || m > MAX_MAPPED {
+        return Err((11, 0));
+    }
+    let mut feeds = Local::<u8, MAX_MAPPED>::new();
+    let feeds = feeds.first(m, 0);
+    for (k, old) in source.iter().enumerate() {
+        match old[0] {
+            INPUT => check_kept::<0>(old, mapped, k, feeds)?,
+            OUTPUT => check_kept::<1>(old, mapped, k, feeds)?,
+            MAJ => check_kept::<3>(old, mapped, k, feeds)?,
+            _ => check_kept::<2>(old, mapped, k, feeds)?,
+        }
+    }
+    let mut drivers = Local::<u16, MAX_MAPPED>::new();
+    let drivers = drivers.first(m, NONE);
+    for k in n..m {
+        let r = &mapped[k];
+        if r[..2] != [BUFFER, 0] || r[6..] != [255; 4] || level(r) > MAX_LEVEL {
+            return Err((13, k as u32));
+        }
+        check_fanins::<1>(mapped, k, feeds)?;
+        let fanin = slot(r, 0);
+        drivers[k] = if fanin < n { fanin as u16 } else { drivers[fanin] };
+    }
+    check_traces(source, mapped, drivers)?;
+    if let Some(k) = feeds[..n].iter().position(|&fed| fed > 1) {
+        return Err((17, k as u32));
+    }
+    if let Some(k) = feeds[n..].iter().position(|&fed| fed > S as u8) {
+        return Err((17, (n + k) as u32));
+    }
+    Ok(mapped)
+}
+
+/// What has passed 1 to 7 and 11 to 17.
+struct Checked<'a> {
+    n: usize,
+    totals: Totals,
+    mapped: &'a [Bytes],
+}
+
+fn check_both<'a>(source: &[u8], capacity: u32, mapped: &'a [u8]) -> Result<Checked<'a>, Refused> {
+    if !(2..=4).contains(&capacity) {
+        return Err((1, 0));
+    }
+    let (source, totals) = check_source(source)?;
+    let mapped = match capacity {
+        2 => check_mapped::<2>(source, mapped)?,
+        3 => check_mapped::<3>(source, mapped)?,
+        _ => check_mapped::<4>(source, mapped)?,
+    };
+    Ok(Checked { n: source.len(), totals, mapped })
+}
+
+#[inline(never)]
+pub fn verify(source: &[u8], capacity: u32, mapped: &[u8]) -> [u32; 3] {
+    match check_both(source, capacity, mapped) {
+        Ok(checked) => [0, 0, (checked.mapped.len() - checked.n) as u32],
+        Err(refusal) => refused(refusal),
+    }
+}
+
+/// Check 19.
+fn check_rows(rows: &[u8]) -> Result<(), Refused> {
+    match rows.iter().position(|&byte| byte > 1) {
+        Some(at) => Err((19, at as u32)),
+        None => Ok(()),
+    }
+}
+
+/// A gate's or an output's function of the values of its fanins.
+#[inline(always)]
+fn function(r: &Bytes, values: &[u8]) -> u8 {
+    let value = |j: usize| values[slot(r, j)] ^ (r[1] >> j & 1);
+    match r[0] {
+        AND => value(0) & value(1),
+        OR => value(0) | value(1),
+        MAJ => {
+            let (a, b, c) = (value(0), value(1), value(2));
+            a & b | (a | b) & c
+        }
+        _ => values[slot(r, 0)],
+    }
+}
+
+fn evaluate_checked(source: &[u8], row: &[u8], values: &mut [u8]) -> Result<[u32; 2], Refused> {
+    let (source, totals) = check_source(source)?;
+    if row.len() != totals.inputs || values.len() != source.len() {
+        return Err((18, 0));
+    }
+    check_rows(row)?;
+    let mut inputs = row.iter();
+    for (k, r) in source.iter().enumerate() {
+        values[k] = match r[0] {
+            INPUT => *inputs.next().expect("a byte for each input"),
+            _ => function(r, values),
+        };
+    }
+    Ok([0, 0])
+}
+
+#[inline(never)]
+pub fn evaluate(source: &[u8], row: &[u8], values: &mut [u8]) -> [u32; 2] {
+    evaluate_checked(source, row, values).unwrap_or_else(refused)
+}
+
+/// Every record's new value. An input beyond the row takes 0.
+fn advance(n: usize, mapped: &[Bytes], row: &[u8], before: &[u8], after: &mut [u8]) {
+    let (records, buffers) = mapped.split_at(n);
+    let (low, high) = after.split_at_mut(n);
+    let mut inputs = row.iter();
+    for (r, value) in records.iter().zip(low) {
+        *value = match r[0] {
+            INPUT => inputs.next().copied().unwrap_or(0),
+            _ => function(r, before),
+        };
+    }
+    for (r, value) in buffers.iter().zip(high) {
+        *value = before[slot(r, 0)];
+    }
+}
+
+fn step_checked(
+    source: &[u8],
+    capacity: u32,
+    mapped: &[u8],
+    row: &[u8],
+    state: &mut [u8],
+) -> Result<[u32; 2], Refused> {
+    let Checked { n, totals, mapped } = check_both(source, capacity, mapped)?;
+    let m = mapped.len();
+    if row.len() != totals.inputs || state.len() != 2 * m {
+        return Err((18, 0));
+    }
+    check_rows(row)?;
+    let (after, before) = state.split_at_mut(m);
+    for (old, held) in before.iter_mut().zip(after.iter()) {
+        *old = u8::from(*held != 0);
+    }
+    advance(n, mapped, row, before, after);
+    Ok([0, 0])
+}
+
+#[inline(never)]
+pub fn step(source: &[u8], capacity: u32, mapped: &[u8], row: &[u8], state: &mut [u8]) -> [u32; 2] {
+    step_checked(source, capacity, mapped, row, state).unwrap_or_else(refused)
+}
+
+fn run_checked(
+    source: &[u8],
+    capacity: u32,
+    mapped: &[u8],
+    areas: Run,
+) -> Result<[u32; 2], Refused> {
+    let Checked { n, totals, mapped } = check_both(source, capacity, mapped)?;
+    let (r, m) = (areas.row_count as usize, mapped.len());
+    if r > MAX_ROWS
+        || areas.rows.len() != r * totals.inputs
+        || areas.outputs.len() != r * totals.outputs
+        || areas.state.len() != 2 * m
+    {
+        return Err((18, 0));
+    }
+    check_rows(areas.rows)?;
+    areas.state.fill(0);
+    let d = usize::from(totals.depth);
+    let steps = if r > 0 { r + d } else { 0 };
+    let (first, second) = areas.state.split_at_mut(m);
+    for t in 0..steps {
+        let row = if t < r { &areas.rows[t * totals.inputs..(t + 1) * totals.inputs] } else { &[] };
+        // The halves take turns, so that the last step ends in the first.
+        let (before, after) =
+            if (steps - t) % 2 == 1 { (&*second, &mut *first) } else { (&*first, &mut *second) };
+        advance(n, mapped, row, before, after);
+        if t >= d {
+            let outputs = &mut areas.outputs[(t - d) * totals.outputs..][..totals.outputs];
+            copy_outputs(&mapped[..n], after, outputs);
+        }
+    }
+    Ok([0, 0])
+}
+
+/// The values of the output records, in index order.
+fn copy_outputs(source: &[Bytes], values: &[u8], outputs: &mut [u8]) {
+    let mut outputs = outputs.iter_mut();
+    for (r, value) in source.iter().zip(values) {
+        if r[0] == OUTPUT {
+            *outputs.next().expect("a byte for each output") = *value;
+        }
+    }
+}
+
+#[inline(never)]
+pub fn run(source: &[u8], capacity: u32, mapped: &[u8], areas: Run) -> [u32; 2] {
+    run_checked(source, capacity, mapped, areas).unwrap_or_else(refused)
+}

@@ -1,0 +1,31 @@
+//! An independent implementation of document 01, written from the paper.
+//!
+//! `calls` is the plain one: it decodes the areas into records and follows the paper sentence by
+//! sentence. `fast` gives the same answers in linear time over plain slices, for the benchmark.
+//! `generator`, `damage` and `shapes` make netlists, `cases` makes calls on them by seed.
+
+pub mod calls;
+pub mod cases;
+pub mod damage;
+pub mod engine;
+pub mod fast;
+pub mod generator;
+pub mod mapper;
+pub mod net;
+pub mod random;
+pub mod record;
+pub mod refusal;
+pub mod search;
+pub mod shapes;
+pub mod simulator;
+pub mod source;
+pub mod verifier;
+pub mod views;
+
+#[cfg(feature = "capi")]
+pub mod capi;
+#[cfg(feature = "linked")]
+pub mod linked;
+
+#[cfg(all(feature = "capi", feature = "linked"))]
+compile_error!("features `capi` and `linked` define and import the same symbols");

@@ -1,0 +1,100 @@
+//! The mapper: checks 1 to 10 and the mapped netlist in document 01's order.
+
+use crate::net::{buffers_by_distance, distances, fewest, sinks, Sink};
+use crate::record::*;
+use crate::refusal::{refuse, Refusal};
+use crate::source::{check_capacity, check_source, depth, number_of};
+
+/// What the mapper writes for a source and a capacity, before check 10.
+pub struct Mapping {
+    pub records: Vec<Record>,
+    /// The index of each record's first buffer, were it a driver; one more entry for the end.
+    pub starts: Vec<usize>,
+}
+
+/// A node of a tree: a buffer of the mapped netlist, or a sink of the source.
+enum Node {
+    Buffer(usize),
+    Sink(Sink),
+}
+
+/// Checks 8 and 9, and where each driver's buffers start.
+fn block_starts(source: &[Record], s: usize) -> Result<Vec<usize>, Refusal> {
+    let mut starts = vec![source.len()];
+    for k in 0..source.len() {
+        let net = if source[k].is_driver() { distances(source, k) } else { Vec::new() };
+        match fewest(&net, s) {
+            Some(buffers) => starts.push(starts[k] + buffers),
+            None => return refuse(8, k),
+        }
+    }
+    if starts[source.len()] > MAX_MAPPED {
+        return refuse(9, 0);
+    }
+    Ok(starts)
+}
+
+/// The nodes at one distance: buffers first, then sinks by record and slot.
+fn nodes_at(d: usize, first_buffer: usize, buffers: usize, sinks: &[Sink]) -> Vec<Node> {
+    let mut nodes: Vec<Node> = (0..buffers).map(|b| Node::Buffer(first_buffer + b)).collect();
+    nodes.extend(sinks.iter().filter(|sink| sink.distance == d).map(|&sink| Node::Sink(sink)));
+    nodes
+}
+
+/// Adds the tree of one driver; its buffers go to the end of the records.
+fn add_tree(records: &mut Vec<Record>, source: &[Record], driver: usize, s: usize) {
+    let sinks = sinks(source, driver);
+    let net = distances(source, driver);
+    let buffers = buffers_by_distance(&net, s).expect("check 8 has passed");
+    let mut nearer = driver;
+    for (d, &here) in buffers.iter().enumerate().skip(1) {
+        let first = records.len();
+        let level = source[driver].level + d as u16;
+        records.resize(first + here, Record::buffer(level, UNUSED));
+        for (k, node) in nodes_at(d, first, here, &sinks).iter().enumerate() {
+            let fanin = if d == 1 { driver } else { nearer + k / s } as u16;
+            match node {
+                Node::Buffer(b) => records[*b].slots[0] = fanin,
+                Node::Sink(sink) => records[sink.record].slots[sink.slot] = fanin,
+            }
+        }
+        nearer = first;
+    }
+}
+
+/// Checks 1 to 9, then the mapped netlist.
+pub fn mapping(bytes: &[u8], capacity: u32) -> Result<Mapping, Refusal> {
+    let s = check_capacity(capacity)?;
+    let source = check_source(bytes)?;
+    let starts = block_starts(&source, s)?;
+    let mut records = source.clone();
+    for driver in (0..source.len()).filter(|&k| source[k].is_driver()) {
+        assert_eq!(records.len(), starts[driver]);
+        add_tree(&mut records, &source, driver, s);
+    }
+    Ok(Mapping { records, starts })
+}
+
+/// Josephson junctions: 6 a gate, 2 a buffer.
+fn junctions(records: &[Record]) -> usize {
+    6 * records.iter().filter(|record| record.is_gate()).count() + 2 * number_of(BUFFER, records)
+}
+
+/// The buffers' part of the junctions in percent, rounded down.
+fn share(buffers: usize, junctions: usize) -> usize {
+    (100 * 2 * buffers).checked_div(junctions).unwrap_or(0)
+}
+
+/// The mapper: the seven numbers after number and place, with the area written.
+pub fn map(source: &[u8], capacity: u32, area: &mut [u8]) -> Result<[u32; 5], Refusal> {
+    let records = mapping(source, capacity)?.records;
+    let bytes = encode(&records);
+    if area.len() < bytes.len() {
+        return refuse(10, 0);
+    }
+    area[..bytes.len()].copy_from_slice(&bytes);
+    let buffers = number_of(BUFFER, &records);
+    let jjs = junctions(&records);
+    let numbers = [records.len(), buffers, depth(&records).into(), jjs, share(buffers, jjs)];
+    Ok(numbers.map(|number| number as u32))
+}

@@ -1,0 +1,101 @@
+//! Document 01, "Nets and trees": the net of one driver and its fewest buffers.
+
+use crate::record::*;
+use crate::refusal::{refuse, Refusal};
+use crate::source::{check_capacity, check_source};
+
+/// How many slots an input or a gate may feed.
+pub const DRIVER_FEEDS: usize = 1;
+
+/// One used slot that names the driver.
+#[derive(Clone, Copy, PartialEq, Eq, Debug)]
+pub struct Sink {
+    pub record: usize,
+    pub slot: usize,
+    pub distance: usize,
+}
+
+/// The count of one net.
+#[derive(Clone, Copy, PartialEq, Eq, Debug)]
+pub enum Count {
+    Fewest(u32),
+    NoTree,
+    Refused(Refusal),
+}
+
+/// The sinks of a driver, by record and slot.
+pub fn sinks(source: &[Record], driver: usize) -> Vec<Sink> {
+    let mut found = Vec::new();
+    for (k, record) in source.iter().enumerate() {
+        for (slot, &fanin) in record.fanins().iter().enumerate() {
+            if usize::from(fanin) == driver {
+                let distance = usize::from(record.level - source[driver].level);
+                found.push(Sink { record: k, slot, distance });
+            }
+        }
+    }
+    found
+}
+
+/// The distances of a driver's sinks.
+pub fn distances(source: &[Record], driver: usize) -> Vec<usize> {
+    sinks(source, driver).iter().map(|sink| sink.distance).collect()
+}
+
+/// The buffers of the mapper's tree at each distance: entry d for distance d, entry 0 unused.
+/// Nothing if more nodes are left at distance 1 than the driver feeds.
+pub fn buffers_by_distance(distances: &[usize], s: usize) -> Option<Vec<usize>> {
+    let largest = distances.iter().copied().max().unwrap_or(0);
+    let mut buffers = vec![0; largest + 1];
+    for d in (1..=largest).rev() {
+        let nodes = buffers[d] + distances.iter().filter(|&&distance| distance == d).count();
+        if d > 1 {
+            buffers[d - 1] = nodes.div_ceil(s);
+        } else if nodes > DRIVER_FEEDS {
+            return None;
+        }
+    }
+    Some(buffers)
+}
+
+/// The fewest buffers of a net, or nothing if it has no tree.
+pub fn fewest(distances: &[usize], s: usize) -> Option<usize> {
+    buffers_by_distance(distances, s).map(|buffers| buffers.iter().sum())
+}
+
+/// The fewest buffers in one formula: at distance d they are the sum over the farther sinks of
+/// s to the power of minus their distance from d, rounded up. For distances up to 30.
+pub fn fewest_by_formula(distances: &[usize], s: usize) -> Option<usize> {
+    let largest = distances.iter().copied().max().unwrap_or(0);
+    let at = |d: usize| -> usize {
+        let unit = (s as u128).pow((largest - d) as u32);
+        let weight: u128 = (distances.iter().filter(|&&distance| distance > d))
+            .map(|&distance| unit / (s as u128).pow((distance - d) as u32))
+            .sum();
+        weight.div_ceil(unit) as usize
+    };
+    let near = distances.iter().filter(|&&distance| distance == 1).count();
+    if largest > 0 && near + at(1) > DRIVER_FEEDS {
+        return None;
+    }
+    Some((1..largest).map(at).sum())
+}
+
+/// The count of one net: checks 1 to 7, then 20.
+pub fn count(source: &[u8], capacity: u32, record: u32) -> Count {
+    match count_or_refuse(source, capacity, record) {
+        Ok(Some(buffers)) => Count::Fewest(buffers as u32),
+        Ok(None) => Count::NoTree,
+        Err(refusal) => Count::Refused(refusal),
+    }
+}
+
+fn count_or_refuse(bytes: &[u8], capacity: u32, record: u32) -> Result<Option<usize>, Refusal> {
+    let s = check_capacity(capacity)?;
+    let source = check_source(bytes)?;
+    let driver = record as usize;
+    if driver >= source.len() || !source[driver].is_driver() {
+        return refuse(20, driver);
+    }
+    Ok(fewest(&distances(&source, driver), s))
+}

@@ -1,0 +1,12 @@
+//! A refusal: its number and its place in document 01's table.
+
+#[derive(Clone, Copy, PartialEq, Eq, Debug)]
+pub struct Refusal {
+    pub number: u32,
+    pub place: u32,
+}
+
+/// Refuses at a place.
+pub fn refuse<T>(number: u32, place: usize) -> Result<T, Refusal> {
+    Err(Refusal { number, place: place as u32 })
+}

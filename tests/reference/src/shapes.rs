@@ -1,0 +1,158 @@
+//! Sources of a given shape and size, for the benchmark and for cases at the limits.
+
+use std::collections::BTreeSet;
+
+use crate::generator::{fanouts, height, set_levels};
+use crate::net::{distances, fewest};
+use crate::random::Random;
+use crate::record::*;
+use crate::source::depth;
+
+/// Document 01's worked case.
+pub fn worked() -> Vec<Record> {
+    vec![
+        Record::new(INPUT, 0, 0, &[]),
+        Record::new(INPUT, 0, 0, &[]),
+        Record::new(AND, 0, 2, &[0, 1]),
+        Record::new(OUTPUT, 0, 3, &[2]),
+        Record::new(OUTPUT, 0, 3, &[0]),
+    ]
+}
+
+/// Record 0, an input, with a sink at each distance given: gates that name it once and another
+/// input once.
+pub fn net(distances: &[usize]) -> Vec<Record> {
+    let mut records = vec![Record::new(INPUT, 0, 0, &[]), Record::new(INPUT, 0, 0, &[])];
+    for &distance in distances {
+        records.push(Record::new(AND, 0, distance as u16, &[0, 1]));
+    }
+    records
+}
+
+/// `size` inputs.
+pub fn inputs(size: usize) -> Vec<Record> {
+    vec![Record::new(INPUT, 0, 0, &[]); size]
+}
+
+/// Chains in which every gate names the gate before it twice, two levels apart, each chain at most
+/// 2,047 gates long and ended by nothing; the first record is their input.
+pub fn chains(size: usize) -> Vec<Record> {
+    let longest = usize::from(MAX_LEVEL) / 2;
+    let chains = size.saturating_sub(1).div_ceil(longest + 1).max(1);
+    let mut records = Vec::new();
+    for chain in 0..chains {
+        let len = size / chains + usize::from(chain < size % chains);
+        for k in 0..len {
+            let before = records.len().wrapping_sub(1) as u16;
+            records.push(match k {
+                0 => Record::new(INPUT, 0, 0, &[]),
+                _ => Record::new(AND, (k % 4) as u8, 2 * k as u16, &[before, before]),
+            });
+        }
+    }
+    records
+}
+
+/// One input that every other record, an output, names.
+pub fn wide(size: usize, s: usize) -> Vec<Record> {
+    let level = 1 + height(size - 1, s) as u16;
+    let mut records = vec![Record::new(INPUT, 0, 0, &[])];
+    records.resize(size, Record::new(OUTPUT, 0, level, &[0]));
+    records
+}
+
+/// One input that all three slots of every other record name.
+pub fn wide_majorities(size: usize, s: usize) -> Vec<Record> {
+    let level = 1 + height(3 * (size - 1), s) as u16;
+    let mut records = vec![Record::new(INPUT, 0, 0, &[])];
+    records.resize(size, Record::new(MAJ, 0, level, &[0, 0, 0]));
+    records
+}
+
+/// Pairs of an input and an output at a level, each a chain of buffers.
+pub fn lines(pairs: usize, level: u16) -> Vec<Record> {
+    let mut records = inputs(pairs);
+    records.extend((0..pairs).map(|k| Record::new(OUTPUT, 0, level, &[k as u16])));
+    records
+}
+
+/// A layered random netlist: gates in layers of about a sixteenth of the records, fanins mostly
+/// from the layer before, a few drivers with many sinks, average fanout between 2 and 3. Every net
+/// has a tree for capacity s.
+pub fn layered(random: &mut Random, size: usize, s: usize) -> Vec<Record> {
+    let width = (size / 16).max(2);
+    let outputs = width / 2;
+    let mut records = inputs(width);
+    let hubs: Vec<u16> = (0..3).map(|_| random.below(width) as u16).collect();
+    while records.len() < size - outputs {
+        let layer_start = records.len() / width * width;
+        let near = layer_start - width..layer_start;
+        let kind = random.pick(&[AND, OR, AND, OR, MAJ]);
+        let fanins: Vec<u16> = (0..used_slots(kind))
+            .map(|_| match random.below(40) {
+                0..=2 => random.pick(&hubs),
+                3..=5 => random.below(layer_start) as u16,
+                _ => random.between(near.start, near.end - 1) as u16,
+            })
+            .collect();
+        let inversion = random.byte() & inversion_bits(kind);
+        records.push(Record::new(kind, inversion, 0, &fanins));
+    }
+    let gates_end = records.len();
+    for _ in 0..outputs {
+        let fanin = random.between(gates_end - width, gates_end - 1) as u16;
+        records.push(Record::new(OUTPUT, 0, 0, &[fanin]));
+    }
+    let fanouts = fanouts(&records);
+    set_levels(&mut records, |fanin| 1 + height(fanouts[fanin], s));
+    records
+}
+
+/// The records that the mapper writes, or nothing if some net has no tree.
+pub fn mapped_size(records: &[Record], s: usize) -> Option<usize> {
+    let buffers: Option<usize> =
+        (0..records.len()).map(|k| fewest(&distances(records, k), s)).sum();
+    buffers.map(|buffers| records.len() + buffers)
+}
+
+/// The records with all outputs moved up.
+pub fn raised(records: &[Record], by: usize) -> Vec<Record> {
+    let mut records = records.to_vec();
+    for output in records.iter_mut().filter(|record| record.kind == OUTPUT) {
+        output.level += by as u16;
+    }
+    records
+}
+
+/// The records with the outputs raised until the mapped netlist has about, and at most, `most`
+/// records. The source has outputs and a tree on every net.
+pub fn raised_to(records: &[Record], s: usize, most: usize) -> Vec<Record> {
+    let old = mapped_size(records, s).expect("a tree on every net");
+    let ends: BTreeSet<u16> = (records.iter().filter(|record| record.kind == OUTPUT))
+        .map(|output| output.slots[0])
+        .collect();
+    let room = usize::from(MAX_LEVEL - depth(records));
+    let mut by = (most.saturating_sub(old) / ends.len()).min(room);
+    while by > 0 && mapped_size(&raised(records, by), s).is_none_or(|size| size > most) {
+        by -= 1;
+    }
+    raised(records, by)
+}
+
+/// A legal mapped netlist made larger by buffers that feed nothing, breadth first from the last
+/// record, which is a buffer.
+pub fn padded(records: &[Record], s: usize, total: usize) -> Vec<Record> {
+    let mut records = records.to_vec();
+    let feeds = fanouts(&records);
+    let mut on = records.len() - 1;
+    let mut room = s - feeds[on];
+    while records.len() < total {
+        while room == 0 {
+            on += 1;
+            room = s;
+        }
+        room -= 1;
+        records.push(Record::buffer(records[on].level + 1, on as u16));
+    }
+    records
+}
