@@ -1,0 +1,1327 @@
+/* Host tests: every call of aqfp.h and every refusal number, from C.
+ *
+ * Every call goes through a wrapper that lends each area in a block of its own, with guard bytes
+ * or a protected page on either side, and that holds after every call: guard bytes and areas that
+ * are only read are unchanged, the value returned is the answer's first number, and a refusal
+ * leaves all areas unchanged and gives 0 after its place.
+ */
+
+#define _DEFAULT_SOURCE
+
+#include <stdio.h>
+#include <stdlib.h>
+#include <string.h>
+#include <sys/mman.h>
+#include <unistd.h>
+
+#include "aqfp.h"
+
+enum {
+    RECORD = 10, SLOTS = 3, MAX_SOURCE = 4096, MAX_MAPPED = 60000, MAX_LEVEL = 4095, UNUSED = 65535,
+    MAX_ROWS = 10000
+};
+enum { INPUT, AND, OR, MAJ, OUTPUT, BUFFER };
+
+#define NO_TREE 4294967295u
+
+/* ---- counting ---- */
+
+static unsigned long passed, failed, group_start;
+static const char *group;
+
+static void begin(const char *name)
+{
+    group = name;
+    group_start = passed + failed;
+}
+
+static void end(void)
+{
+    printf("%s: %lu compared\n", group, passed + failed - group_start);
+}
+
+static void check(int holds, const char *what)
+{
+    if (holds) {
+        passed++;
+        return;
+    }
+    failed++;
+    if (failed <= 50)
+        printf("FAILED: %s: %s\n", group, what);
+}
+
+/* ---- random numbers by a fixed seed ---- */
+
+static uint64_t seed = 1;
+
+static uint32_t below(uint32_t n)
+{
+    seed = seed * 6364136223846793005u + 1442695040888963407u;
+    return (uint32_t)(seed >> 33) % n;
+}
+
+/* ---- areas ---- */
+
+enum { GUARD = 64, GUARD_BYTE = 0x5A, BLOCK = 1 << 20 };
+
+/* Where an area stands in its block: between guard bytes, up to the protected page above, or from
+ * the protected page below. With NULLS an empty area is a null pointer. */
+enum placement { MIDDLE, UPPER_END, LOWER_END, NULLS, PLACEMENTS };
+
+static enum placement placement;
+
+struct area {
+    uint8_t *block;  /* BLOCK bytes between two protected pages */
+    uint8_t *before; /* the bytes lent, as they were */
+    uint8_t *at;
+    size_t len;
+};
+
+static struct area source_area, mapped_area, rows_area, state_area, outputs_area, answer_area;
+
+static void make_block(struct area *area)
+{
+    size_t page = (size_t)sysconf(_SC_PAGESIZE);
+    uint8_t *start = mmap(NULL, BLOCK + 2 * page, PROT_NONE, MAP_PRIVATE | MAP_ANONYMOUS, -1, 0);
+    if (start == MAP_FAILED || mprotect(start + page, BLOCK, PROT_READ | PROT_WRITE) != 0) {
+        perror("mmap");
+        exit(2);
+    }
+    area->block = start + page;
+    area->before = malloc(BLOCK);
+    if (area->before == NULL) {
+        perror("malloc");
+        exit(2);
+    }
+}
+
+/* How many guard bytes stand below and above the area. */
+static size_t guard_below(const struct area *area)
+{
+    size_t room = (size_t)(area->at - area->block);
+    return room < GUARD ? room : GUARD;
+}
+
+static size_t guard_above(const struct area *area)
+{
+    size_t room = BLOCK - (size_t)(area->at - area->block) - area->len;
+    return room < GUARD ? room : GUARD;
+}
+
+static uint8_t *lend(struct area *area, const uint8_t *bytes, size_t len)
+{
+    area->len = len;
+    switch (placement) {
+    case UPPER_END:
+        area->at = area->block + BLOCK - len;
+        break;
+    case LOWER_END:
+        area->at = area->block;
+        break;
+    default:
+        area->at = area->block + GUARD;
+    }
+    memset(area->at - guard_below(area), GUARD_BYTE, guard_below(area));
+    memset(area->at + len, GUARD_BYTE, guard_above(area));
+    if (len > 0) {
+        memcpy(area->at, bytes, len);
+        memcpy(area->before, bytes, len);
+    }
+    return placement == NULLS && len == 0 ? NULL : area->at;
+}
+
+static int guards_hold(const struct area *area)
+{
+    size_t k, low = guard_below(area), high = guard_above(area);
+    for (k = 0; k < low; k++)
+        if (area->at[k - low] != GUARD_BYTE)
+            return 0;
+    for (k = 0; k < high; k++)
+        if (area->at[area->len + k] != GUARD_BYTE)
+            return 0;
+    return 1;
+}
+
+static int unchanged(const struct area *area)
+{
+    return guards_hold(area) && (area->len == 0 || memcmp(area->at, area->before, area->len) == 0);
+}
+
+/* ---- the calls ---- */
+
+static uint32_t answer[7];
+
+static uint8_t *lend_answer(size_t len)
+{
+    static const uint8_t filled[28] = {
+        0xA5, 0xA5, 0xA5, 0xA5, 0xA5, 0xA5, 0xA5, 0xA5, 0xA5, 0xA5, 0xA5, 0xA5, 0xA5, 0xA5,
+        0xA5, 0xA5, 0xA5, 0xA5, 0xA5, 0xA5, 0xA5, 0xA5, 0xA5, 0xA5, 0xA5, 0xA5, 0xA5, 0xA5
+    };
+    return lend(&answer_area, filled, len);
+}
+
+/* Reads the answer and holds what must hold after every call. */
+static void settle(const char *call, uint32_t returned, struct area *const *read,
+                   struct area *const *written)
+{
+    size_t k, numbers = answer_area.len / 4;
+    int kept = 1, zeros = 1;
+    char what[80];
+    memset(answer, 0, sizeof answer);
+    for (k = 0; k < numbers; k++) {
+        const uint8_t *at = answer_area.at + 4 * k;
+        answer[k] = (uint32_t)at[0] | (uint32_t)at[1] << 8 | (uint32_t)at[2] << 16
+                    | (uint32_t)at[3] << 24;
+    }
+    for (; *read != NULL; read++)
+        kept = kept && unchanged(*read);
+    for (; *written != NULL; written++)
+        kept = kept && (answer[0] != 0 ? unchanged(*written) : guards_hold(*written));
+    for (k = 2; k < numbers; k++)
+        zeros = zeros && (answer[0] == 0 || answer[k] == 0);
+    snprintf(what, sizeof what, "%s: guard bytes and areas that must stay", call);
+    check(kept && guards_hold(&answer_area), what);
+    snprintf(what, sizeof what, "%s: the value returned, and zeros in the answer", call);
+    check(zeros && returned == answer[0] && (answer[0] != 0 || answer[1] == 0), what);
+}
+
+struct bytes {
+    const uint8_t *at;
+    size_t len;
+};
+
+static struct bytes part(const uint8_t *at, size_t len)
+{
+    struct bytes bytes;
+    bytes.at = at;
+    bytes.len = len;
+    return bytes;
+}
+
+static void do_map(struct bytes source, uint32_t capacity, struct bytes mapped)
+{
+    static struct area *const read[] = { &source_area, NULL };
+    static struct area *const written[] = { &mapped_area, NULL };
+    const uint8_t *s = lend(&source_area, source.at, source.len);
+    uint8_t *m = lend(&mapped_area, mapped.at, mapped.len);
+    uint32_t returned =
+        aqfp_map(s, source.len, capacity, m, mapped.len, lend_answer(28));
+    settle("aqfp_map", returned, read, written);
+}
+
+static void do_count(struct bytes source, uint32_t capacity, uint32_t record)
+{
+    static struct area *const read[] = { &source_area, NULL };
+    static struct area *const written[] = { NULL };
+    const uint8_t *s = lend(&source_area, source.at, source.len);
+    uint32_t returned = aqfp_count(s, source.len, capacity, record, lend_answer(12));
+    settle("aqfp_count", returned, read, written);
+}
+
+static void do_verify(struct bytes source, uint32_t capacity, struct bytes mapped)
+{
+    static struct area *const read[] = { &source_area, &mapped_area, NULL };
+    static struct area *const written[] = { NULL };
+    const uint8_t *s = lend(&source_area, source.at, source.len);
+    const uint8_t *m = lend(&mapped_area, mapped.at, mapped.len);
+    uint32_t returned =
+        aqfp_verify(s, source.len, capacity, m, mapped.len, lend_answer(12));
+    settle("aqfp_verify", returned, read, written);
+}
+
+/* The values are in state_area. */
+static void do_evaluate(struct bytes source, struct bytes row, struct bytes values)
+{
+    static struct area *const read[] = { &source_area, &rows_area, NULL };
+    static struct area *const written[] = { &state_area, NULL };
+    const uint8_t *s = lend(&source_area, source.at, source.len);
+    const uint8_t *r = lend(&rows_area, row.at, row.len);
+    uint8_t *v = lend(&state_area, values.at, values.len);
+    uint32_t returned =
+        aqfp_evaluate(s, source.len, r, row.len, v, values.len, lend_answer(8));
+    settle("aqfp_evaluate", returned, read, written);
+}
+
+static void do_run(struct bytes source, uint32_t capacity, struct bytes mapped, uint32_t count,
+                   struct bytes rows, struct bytes state, struct bytes outputs)
+{
+    static struct area *const read[] = { &source_area, &mapped_area, &rows_area, NULL };
+    static struct area *const written[] = { &state_area, &outputs_area, NULL };
+    const uint8_t *s = lend(&source_area, source.at, source.len);
+    const uint8_t *m = lend(&mapped_area, mapped.at, mapped.len);
+    const uint8_t *r = lend(&rows_area, rows.at, rows.len);
+    uint8_t *state_at = lend(&state_area, state.at, state.len);
+    uint8_t *o = lend(&outputs_area, outputs.at, outputs.len);
+    uint32_t returned = aqfp_run(s, source.len, capacity, m, mapped.len, count, r, rows.len,
+                                 state_at, state.len, o, outputs.len, lend_answer(8));
+    settle("aqfp_run", returned, read, written);
+}
+
+static void do_step(struct bytes source, uint32_t capacity, struct bytes mapped, struct bytes row,
+                    struct bytes state)
+{
+    static struct area *const read[] = { &source_area, &mapped_area, &rows_area, NULL };
+    static struct area *const written[] = { &state_area, NULL };
+    const uint8_t *s = lend(&source_area, source.at, source.len);
+    const uint8_t *m = lend(&mapped_area, mapped.at, mapped.len);
+    const uint8_t *r = lend(&rows_area, row.at, row.len);
+    uint8_t *state_at = lend(&state_area, state.at, state.len);
+    uint32_t returned = aqfp_step(s, source.len, capacity, m, mapped.len, r, row.len, state_at,
+                                  state.len, lend_answer(8));
+    settle("aqfp_step", returned, read, written);
+}
+
+static int answered(uint32_t number, uint32_t place)
+{
+    return answer[0] == number && answer[1] == place;
+}
+
+static int accepted(uint32_t third)
+{
+    return answered(0, 0) && answer[2] == third;
+}
+
+/* ---- netlists ---- */
+
+static uint8_t netlist[RECORD * (MAX_MAPPED + 2)];
+static size_t netlist_len;
+static uint8_t filler[BLOCK];
+
+static void put_record(uint8_t *at, unsigned kind, unsigned inversion, unsigned level, unsigned a,
+                       unsigned b, unsigned c)
+{
+    unsigned fields[4], j;
+    fields[0] = level;
+    fields[1] = a;
+    fields[2] = b;
+    fields[3] = c;
+    at[0] = (uint8_t)kind;
+    at[1] = (uint8_t)inversion;
+    for (j = 0; j < 4; j++) {
+        at[2 + 2 * j] = (uint8_t)fields[j];
+        at[3 + 2 * j] = (uint8_t)(fields[j] >> 8);
+    }
+}
+
+static void clear(void)
+{
+    netlist_len = 0;
+}
+
+static void add(unsigned kind, unsigned inversion, unsigned level, unsigned a, unsigned b,
+                unsigned c)
+{
+    put_record(netlist + netlist_len, kind, inversion, level, a, b, c);
+    netlist_len += RECORD;
+}
+
+static void add_input(void)
+{
+    add(INPUT, 0, 0, UNUSED, UNUSED, UNUSED);
+}
+
+static void add_one(unsigned kind, unsigned level, unsigned fanin)
+{
+    add(kind, 0, level, fanin, UNUSED, UNUSED);
+}
+
+static void add_and(unsigned level, unsigned a, unsigned b)
+{
+    add(AND, 0, level, a, b, UNUSED);
+}
+
+static struct bytes made(void)
+{
+    return part(netlist, netlist_len);
+}
+
+static struct bytes fill(size_t len)
+{
+    return part(filler, len);
+}
+
+static unsigned field(const uint8_t *at)
+{
+    return at[0] | (unsigned)at[1] << 8;
+}
+
+static unsigned used_slots(unsigned kind)
+{
+    static const unsigned used[] = { 0, 2, 2, 3, 1, 1 };
+    return kind < 6 ? used[kind] : 0;
+}
+
+static size_t number_of(unsigned kind, struct bytes records)
+{
+    size_t k, found = 0;
+    for (k = 0; k < records.len / RECORD; k++)
+        found += records.at[RECORD * k] == kind;
+    return found;
+}
+
+/* Document 01's worked case and what the mapper writes for it with capacity 2. */
+static uint8_t worked_source[5 * RECORD], worked_mapped[8 * RECORD];
+static struct bytes worked, worked_out;
+
+static void make_worked(void)
+{
+    clear();
+    add_input();
+    add_input();
+    add_and(2, 0, 1);
+    add_one(OUTPUT, 3, 2);
+    add_one(OUTPUT, 3, 0);
+    memcpy(worked_source, netlist, netlist_len);
+    put_record(netlist + 2 * RECORD, AND, 0, 2, 5, 7, UNUSED);
+    put_record(netlist + 4 * RECORD, OUTPUT, 0, 3, 6, UNUSED, UNUSED);
+    add_one(BUFFER, 1, 0);
+    add_one(BUFFER, 2, 5);
+    add_one(BUFFER, 1, 1);
+    memcpy(worked_mapped, netlist, netlist_len);
+    worked = part(worked_source, sizeof worked_source);
+    worked_out = part(worked_mapped, sizeof worked_mapped);
+}
+
+/* ---- the worked cases of document 01 ---- */
+
+static int is_worked_answer(void)
+{
+    static const uint32_t expected[7] = { 0, 0, 8, 3, 3, 12, 50 };
+    return memcmp(answer, expected, sizeof expected) == 0;
+}
+
+static void test_map_worked(void)
+{
+    size_t len, k;
+    begin("aqfp_map, the worked case");
+    for (len = 0; len <= 100; len++) {
+        do_map(worked, 2, fill(len));
+        if (len < 80) {
+            check(answered(10, 0), "an area below 80 bytes gives 10");
+            continue;
+        }
+        check(is_worked_answer(), "an area of 80 bytes or more: the seven numbers");
+        check(memcmp(mapped_area.at, worked_mapped, 80) == 0, "the mapped netlist");
+        for (k = 80; k < len; k++)
+            check(mapped_area.at[k] == filler[k], "bytes after the mapped netlist stay");
+    }
+    do_map(worked, 5, fill(80));
+    check(answered(1, 0), "capacity 5 gives 1");
+    do_map(fill(0), 2, fill(0));
+    check(answered(0, 0) && answer[2] == 0 && answer[6] == 0, "an empty source maps to nothing");
+    do_map(fill(0), 4, fill(30));
+    check(answered(0, 0) && unchanged(&mapped_area), "an empty source writes nothing");
+    end();
+}
+
+/* Record 0 with sinks at the distances, gates that name it once and record 1 once. */
+static void make_net(const unsigned *distances, size_t count)
+{
+    size_t k;
+    clear();
+    add_input();
+    add_input();
+    for (k = 0; k < count; k++)
+        add_and(distances[k], 0, 1);
+}
+
+static void test_count_worked(void)
+{
+    static const struct {
+        uint32_t s;
+        unsigned distances[5];
+        size_t count;
+        uint32_t fewest;
+    } nets[12] = {
+        { 2, { 0 }, 0, 0 },
+        { 2, { 1 }, 1, 0 },
+        { 2, { 1, 1 }, 2, NO_TREE },
+        { 2, { 2, 2 }, 2, 1 },
+        { 2, { 2, 2, 2 }, 3, NO_TREE },
+        { 3, { 2, 2, 2 }, 3, 1 },
+        { 2, { 3, 3, 3 }, 3, 3 },
+        { 2, { 2, 5, 5, 5 }, 4, 5 },
+        { 2, { 1, 2 }, 2, NO_TREE },
+        { 2, { 2, 3, 3 }, 3, 2 },
+        { 2, { 2, 3, 3, 3 }, 4, NO_TREE },
+        { 4, { 2, 2, 2, 2, 2 }, 5, NO_TREE }
+    };
+    size_t k;
+    begin("aqfp_count, P1 to P12");
+    for (k = 0; k < 12; k++) {
+        make_net(nets[k].distances, nets[k].count);
+        do_count(made(), nets[k].s, 0);
+        check(accepted(nets[k].fewest), "the count of the net");
+        do_map(made(), nets[k].s, fill(2000));
+        if (nets[k].fewest == NO_TREE)
+            check(answered(8, 0), "the mapper gives 8 where there is no tree");
+        else
+            check(answer[0] == 0 || answer[0] == 8, "the mapper gives 8 for the other input only");
+    }
+    end();
+}
+
+static void test_count_limits(void)
+{
+    unsigned k;
+    begin("aqfp_count, limits");
+    for (k = 2; k <= 4; k++) {
+        clear();
+        add_input();
+        add_one(OUTPUT, MAX_LEVEL, 0);
+        do_count(made(), k, 0);
+        check(accepted(MAX_LEVEL - 1), "one sink at distance 4,095");
+        clear();
+        add_input();
+        add_and(2, 0, 0);
+        do_count(made(), k, 0);
+        check(accepted(1), "a gate that names a driver twice gives two sinks");
+        do_count(made(), k, 1);
+        check(accepted(0), "a driver without sinks");
+    }
+    clear();
+    add_input();
+    for (k = 1; k < MAX_SOURCE; k++)
+        add(MAJ, 0, 15, 0, 0, 0);
+    do_count(made(), 2, 0);
+    /* 12,285 sinks: 6143 + 3072 + 1536 + 768 + 384 + 192 + 96 + 48 + 24 + 12 + 6 + 3 + 2 + 1 */
+    check(accepted(12287), "12,285 sinks at distance 15 with capacity 2");
+    do_count(made(), 4, 0);
+    /* 3072 + 768 + 192 + 48 + 12 + 3 + 1 + 7 more of 1 */
+    check(accepted(4103), "12,285 sinks at distance 15 with capacity 4");
+    for (k = 1; k < MAX_SOURCE; k++)
+        put_record(netlist + RECORD * k, MAJ, 0, 14, 0, 0, 0);
+    do_count(made(), 2, 0);
+    check(accepted(NO_TREE), "12,285 sinks at distance 14 with capacity 2");
+    end();
+}
+
+static void test_run_worked(void)
+{
+    static const uint8_t rows[8] = { 1, 1, 0, 1, 1, 0, 1, 1 };
+    static const uint8_t outputs[8] = { 1, 1, 0, 0, 0, 1, 1, 1 };
+    uint8_t stepped[16] = { 0 };
+    size_t t, k;
+    begin("aqfp_run, aqfp_step, aqfp_evaluate, the worked case");
+    for (t = 0; t < 7; t++) {
+        static const uint8_t spent[2] = { 0, 0 };
+        do_step(worked, 2, worked_out, part(t < 4 ? rows + 2 * t : spent, 2), part(stepped, 16));
+        check(answered(0, 0), "a step");
+        check(memcmp(state_area.at + 8, stepped, 8) == 0, "the second half holds the older values");
+        memcpy(stepped, state_area.at, 16);
+        if (t >= 3)
+            check(stepped[3] == outputs[2 * t - 6] && stepped[4] == outputs[2 * t - 5],
+                  "the outputs of a step are plain logic's of the row three steps before");
+    }
+    do_run(worked, 2, worked_out, 4, part(rows, 8), fill(16), fill(8));
+    check(answered(0, 0), "a run");
+    check(memcmp(outputs_area.at, outputs, 8) == 0, "the rows of outputs");
+    check(memcmp(state_area.at, stepped, 16) == 0, "the state is what seven steps leave");
+    for (t = 0; t < 4; t++) {
+        do_evaluate(worked, part(rows + 2 * t, 2), fill(5));
+        check(answered(0, 0), "plain logic");
+        check(memcmp(state_area.at, rows + 2 * t, 2) == 0, "an input's value is its byte");
+        check(state_area.at[2] == (rows[2 * t] & rows[2 * t + 1]), "AND");
+        check(memcmp(state_area.at + 3, outputs + 2 * t, 2) == 0, "the outputs");
+    }
+    do_run(worked, 2, worked_out, 0, fill(0), fill(16), fill(0));
+    for (k = 0; k < 16; k++)
+        check(answered(0, 0) && state_area.at[k] == 0, "no rows: the state is all 0");
+    end();
+}
+
+static void test_run_limits(void)
+{
+    size_t k;
+    begin("aqfp_run, limits");
+    for (k = 0; k < 2 * MAX_ROWS; k++)
+        filler[k] = (uint8_t)below(2);
+    do_run(worked, 2, worked_out, MAX_ROWS, fill(2 * MAX_ROWS), fill(16), fill(2 * MAX_ROWS));
+    check(answered(0, 0), "10,000 rows");
+    for (k = 0; k < MAX_ROWS; k++) {
+        const uint8_t *row = rows_area.at + 2 * k, *out = outputs_area.at + 2 * k;
+        check(out[0] == (row[0] & row[1]) && out[1] == row[0], "each of 10,000 rows");
+    }
+    do_run(worked, 2, worked_out, MAX_ROWS + 1, fill(2 * MAX_ROWS + 2), fill(16),
+           fill(2 * MAX_ROWS + 2));
+    check(answered(18, 0), "10,001 rows give 18");
+    do_run(fill(0), 2, fill(0), MAX_ROWS, fill(0), fill(0), fill(0));
+    check(answered(0, 0), "10,000 rows without inputs and outputs");
+    do_run(fill(0), 2, fill(0), MAX_ROWS + 1, fill(0), fill(0), fill(0));
+    check(answered(18, 0), "10,001 rows without inputs and outputs");
+    do_run(fill(0), 2, fill(0), NO_TREE, fill(0), fill(0), fill(0));
+    check(answered(18, 0), "4,294,967,295 rows");
+    clear();
+    add_input();
+    do_run(made(), 3, made(), 3, part((const uint8_t *)"\1\0\1", 3), fill(2), fill(0));
+    check(answered(0, 0) && state_area.at[0] == 1 && state_area.at[1] == 0,
+          "without outputs D is 0: the last step takes the last row");
+    do_run(made(), 3, made(), 1, part((const uint8_t *)"\1", 1), fill(2), fill(0));
+    check(answered(0, 0) && state_area.at[0] == 1 && state_area.at[1] == 0,
+          "one step only: the second half is 0");
+    end();
+}
+
+/* ---- refusals ---- */
+
+/* Calls everything on a source that fails one of 2 to 7. */
+static void refused_everywhere(struct bytes source, uint32_t number, uint32_t place,
+                               const char *what)
+{
+    do_map(source, 2, fill(100));
+    check(answered(number, place), what);
+    do_count(source, 3, 0);
+    check(answered(number, place), what);
+    do_verify(source, 4, source);
+    check(answered(number, place), what);
+    do_evaluate(source, fill(1), fill(2));
+    check(answered(number, place), what);
+    do_run(source, 2, source, 1, fill(1), fill(2), fill(3));
+    check(answered(number, place), what);
+    do_step(source, 2, source, fill(1), fill(2));
+    check(answered(number, place), what);
+}
+
+static void test_capacities(void)
+{
+    static const uint32_t bad[] = { 0, 1, 5, 6, 256, 258, 65538, 4294967295u };
+    struct bytes source[2];
+    size_t k, j;
+    begin("refusal 1, all calls with a capacity");
+    source[0] = worked;
+    source[1] = fill(7); /* also fails 2, which comes later */
+    for (k = 0; k < sizeof bad / sizeof bad[0]; k++)
+        for (j = 0; j < 2; j++) {
+            do_map(source[j], bad[k], fill(80));
+            check(answered(1, 0), "aqfp_map");
+            do_count(source[j], bad[k], 0);
+            check(answered(1, 0), "aqfp_count");
+            do_verify(source[j], bad[k], worked_out);
+            check(answered(1, 0), "aqfp_verify");
+            do_run(source[j], bad[k], worked_out, 0, fill(0), fill(16), fill(0));
+            check(answered(1, 0), "aqfp_run");
+            do_step(source[j], bad[k], worked_out, fill(2), fill(16));
+            check(answered(1, 0), "aqfp_step");
+        }
+    end();
+}
+
+static void test_source_lengths(void)
+{
+    size_t k;
+    begin("refusals 2 and 3, all calls");
+    for (k = 1; k < RECORD; k++) {
+        refused_everywhere(part(worked_source, k), 2, 0, "a length of 1 to 9");
+        refused_everywhere(part(worked_source, 40 + k), 2, 0, "a length of 41 to 49");
+    }
+    clear();
+    for (k = 0; k <= MAX_SOURCE; k++)
+        add_input();
+    refused_everywhere(made(), 3, 0, "4,097 records");
+    refused_everywhere(part(netlist, netlist_len + 1), 2, 0, "2 comes before 3");
+    netlist[0] = 9;
+    refused_everywhere(made(), 3, 0, "3 comes before 4");
+    netlist[0] = INPUT;
+    netlist_len -= RECORD;
+    do_map(made(), 2, fill(netlist_len));
+    check(answered(0, 0) && answer[2] == MAX_SOURCE, "4,096 records are accepted");
+    check(memcmp(mapped_area.at, netlist, netlist_len) == 0, "4,096 inputs map to themselves");
+    end();
+}
+
+/* A source of an input, and one record more. */
+static void two_records(unsigned kind, unsigned inversion, unsigned level, unsigned a, unsigned b,
+                        unsigned c)
+{
+    clear();
+    add_input();
+    add(kind, inversion, level, a, b, c);
+}
+
+static void test_source_records(void)
+{
+    unsigned k, bit;
+    begin("refusals 4 to 7, all calls");
+    for (k = 5; k < 256; k++) {
+        two_records(k, 0, 1, 0, UNUSED, UNUSED);
+        refused_everywhere(made(), 4, 1, "a kind above 4");
+    }
+    for (bit = 0; bit < 8; bit++) {
+        two_records(INPUT, 1 << bit, 0, UNUSED, UNUSED, UNUSED);
+        refused_everywhere(made(), 5, 1, "an input that inverts");
+        two_records(OUTPUT, 1 << bit, 1, 0, UNUSED, UNUSED);
+        refused_everywhere(made(), 5, 1, "an output that inverts");
+        two_records(AND, 1 << bit, 2, 0, 0, UNUSED);
+        if (bit >= 2)
+            refused_everywhere(made(), 5, 1, "AND with another bit than 0 and 1");
+        two_records(OR, 1 << bit, 2, 0, 0, UNUSED);
+        if (bit >= 2)
+            refused_everywhere(made(), 5, 1, "OR with another bit than 0 and 1");
+        two_records(MAJ, 1 << bit, 2, 0, 0, 0);
+        if (bit >= 3)
+            refused_everywhere(made(), 5, 1, "MAJ with another bit than 0 to 2");
+    }
+    two_records(AND, 0, 1, 0, 1, UNUSED);
+    refused_everywhere(made(), 6, 1, "a slot that names its own record");
+    two_records(AND, 0, 1, 2, 0, UNUSED);
+    refused_everywhere(made(), 6, 1, "a slot that names a later record");
+    two_records(MAJ, 0, 1, 0, 0, UNUSED);
+    refused_everywhere(made(), 6, 1, "a used slot of 65,535");
+    two_records(AND, 0, 1, 0, 0, 0);
+    refused_everywhere(made(), 6, 1, "slot 2 of AND not 65,535");
+    two_records(OUTPUT, 0, 1, 0, 0, UNUSED);
+    refused_everywhere(made(), 6, 1, "slot 1 of an output not 65,535");
+    two_records(INPUT, 0, 0, UNUSED, UNUSED, 65534);
+    refused_everywhere(made(), 6, 1, "slot 2 of an input not 65,535");
+    two_records(OUTPUT, 0, 1, 0, UNUSED, UNUSED);
+    add_one(OUTPUT, 2, 1);
+    refused_everywhere(made(), 6, 2, "a slot that names an output");
+    two_records(INPUT, 0, 1, UNUSED, UNUSED, UNUSED);
+    refused_everywhere(made(), 7, 1, "an input not at level 0");
+    two_records(AND, 0, 4096, 0, 0, UNUSED);
+    refused_everywhere(made(), 7, 1, "level 4,096");
+    two_records(AND, 0, 65535, 0, 0, UNUSED);
+    refused_everywhere(made(), 7, 1, "level 65,535");
+    two_records(AND, 0, 0, 0, 0, UNUSED);
+    refused_everywhere(made(), 7, 1, "a fanin at the same level");
+    two_records(AND, 0, 3, 0, 0, UNUSED);
+    add_and(2, 0, 1);
+    refused_everywhere(made(), 7, 2, "a fanin at a higher level");
+    two_records(OUTPUT, 0, 2, 0, UNUSED, UNUSED);
+    add_one(OUTPUT, 1, 0);
+    refused_everywhere(made(), 7, 2, "an output below the first");
+    put_record(netlist + 2 * RECORD, OUTPUT, 0, 3, 0, UNUSED, UNUSED);
+    refused_everywhere(made(), 7, 2, "an output above the first");
+    end();
+}
+
+static void test_source_order(void)
+{
+    begin("refusals 4 to 7, their order");
+    two_records(9, 255, 9999, 7, 7, 7);
+    refused_everywhere(made(), 4, 1, "4 before 5, 6, 7");
+    two_records(AND, 255, 9999, 7, 7, 7);
+    refused_everywhere(made(), 5, 1, "5 before 6, 7");
+    two_records(AND, 0, 9999, 7, 7, 7);
+    refused_everywhere(made(), 6, 1, "6 before 7");
+    two_records(AND, 0, 9999, 0, 0, UNUSED);
+    add(9, 255, 9999, 7, 7, 7);
+    refused_everywhere(made(), 7, 1, "7 of a record before 4 of the next");
+    two_records(OUTPUT, 0, 1, 0, UNUSED, UNUSED);
+    add_one(OUTPUT, 2, 0);
+    add_one(OUTPUT, 1, 9);
+    refused_everywhere(made(), 7, 2, "7 of a record before 6 of the next");
+    end();
+}
+
+static void test_map_sizes(void)
+{
+    unsigned k;
+    begin("refusals 8 to 10");
+    two_records(AND, 0, 1, 0, 0, UNUSED);
+    do_map(made(), 4, fill(20));
+    check(answered(8, 0), "two sinks at distance 1");
+    clear();
+    add_input();
+    add_input();
+    add_one(OUTPUT, 2, 0);
+    add_one(OUTPUT, 2, 1);
+    add_one(OUTPUT, 2, 1);
+    add_one(OUTPUT, 2, 1);
+    do_map(made(), 2, fill(0));
+    check(answered(8, 1), "8 at the first driver without a tree, before 10");
+    do_map(made(), 3, fill(0));
+    check(answered(10, 0), "with capacity 3 the net has a tree");
+    do_map(made(), 3, fill(80));
+    check(answered(0, 0) && answer[2] == 8, "an area of 80 bytes is enough");
+    clear();
+    for (k = 0; k < 15; k++)
+        add_input();
+    for (k = 0; k < 15; k++)
+        add_one(OUTPUT, 3999, k);
+    do_map(made(), 2, fill(600000));
+    check(answered(0, 0) && answer[2] == MAX_MAPPED && answer[3] == 59970 && answer[4] == 3999
+          && answer[5] == 119940 && answer[6] == 100, "60,000 records");
+    do_map(made(), 2, fill(599999));
+    check(answered(10, 0), "an area one byte too short for 60,000 records");
+    do_map(made(), 2, fill(0));
+    check(answered(10, 0), "an empty area for 60,000 records");
+    add_input();
+    do_map(made(), 2, fill(600010));
+    check(answered(9, 0), "60,001 records");
+    do_map(made(), 2, fill(0));
+    check(answered(9, 0), "9 comes before 10");
+    clear();
+    add_input();
+    add_input();
+    add_and(2, 0, 0);
+    add_and(3, 2, 1);
+    do_map(made(), 2, fill(100));
+    check(answered(0, 0) && answer[2] == 7 && answer[3] == 3 && answer[4] == 0 && answer[5] == 18
+          && answer[6] == 33, "a share of 33.3 is rounded down; without outputs D is 0");
+    two_records(AND, 0, 1, 0, 0, UNUSED);
+    for (k = 0; k < 15; k++)
+        add_input();
+    for (k = 0; k < 15; k++)
+        add_one(OUTPUT, MAX_LEVEL, 2 + k);
+    do_map(made(), 2, fill(0));
+    check(answered(8, 0), "8 comes before 9");
+    end();
+}
+
+static void test_count_record(void)
+{
+    static const uint32_t absent[] = { 5, 6, 4096, 65535, 65536, 65538, 4294967295u };
+    size_t k;
+    begin("refusal 20");
+    for (k = 0; k < sizeof absent / sizeof absent[0]; k++) {
+        do_count(worked, 2, absent[k]);
+        check(answered(20, absent[k]), "a record that is absent");
+    }
+    do_count(worked, 2, 3);
+    check(answered(20, 3), "a record that is an output");
+    do_count(worked, 2, 4);
+    check(answered(20, 4), "a record that is an output");
+    do_count(worked, 2, 0);
+    check(accepted(2), "an input");
+    do_count(worked, 2, 2);
+    check(accepted(0), "a gate");
+    do_count(fill(0), 2, 0);
+    check(answered(20, 0), "an empty source has no record 0");
+    end();
+}
+
+/* Calls all that verify on a mapped netlist that fails one of 11 to 17. */
+static void mapped_refused(struct bytes source, uint32_t capacity, struct bytes mapped,
+                           uint32_t number, uint32_t place, const char *what)
+{
+    do_verify(source, capacity, mapped);
+    check(answered(number, place), what);
+    do_run(source, capacity, mapped, 1, fill(number_of(INPUT, source)),
+           fill(2 * (mapped.len / RECORD)), fill(number_of(OUTPUT, source)));
+    check(answered(number, place), what);
+    do_run(source, capacity, mapped, 99999, fill(3), fill(0), fill(1));
+    check(answered(number, place), what);
+    do_step(source, capacity, mapped, fill(number_of(INPUT, source)),
+            fill(2 * (mapped.len / RECORD)));
+    check(answered(number, place), what);
+}
+
+/* The worked mapped netlist as the netlist to change. */
+static void start_from_worked(void)
+{
+    memcpy(netlist, worked_mapped, sizeof worked_mapped);
+    netlist_len = sizeof worked_mapped;
+}
+
+static void change(size_t record, unsigned kind, unsigned inversion, unsigned level, unsigned a,
+                   unsigned b, unsigned c)
+{
+    put_record(netlist + RECORD * record, kind, inversion, level, a, b, c);
+}
+
+static void change_buffer(size_t record, unsigned level, unsigned fanin)
+{
+    change(record, BUFFER, 0, level, fanin, UNUSED, UNUSED);
+}
+
+static void refused_now(uint32_t number, uint32_t place, const char *what)
+{
+    mapped_refused(worked, 2, made(), number, place, what);
+    start_from_worked();
+}
+
+static void test_mapped_length(void)
+{
+    size_t len;
+    begin("refusal 11");
+    start_from_worked();
+    for (len = 0; len <= 80; len++)
+        if (len % RECORD != 0 || len < 50) {
+            netlist_len = len;
+            refused_now(11, 0, "no multiple of 10, or fewer records than the source");
+        }
+    while (netlist_len < RECORD * (size_t)(MAX_MAPPED + 1))
+        add_one(BUFFER, 2, 7);
+    mapped_refused(worked, 2, made(), 11, 0, "60,001 records");
+    netlist_len -= RECORD;
+    mapped_refused(worked, 2, made(), 17, 7, "60,000 records pass 11");
+    end();
+}
+
+static void test_mapped_records(void)
+{
+    unsigned bit;
+    begin("refusals 12 to 15");
+    start_from_worked();
+    for (bit = 0; bit < 8; bit++) {
+        netlist[20] ^= 1 << bit;
+        refused_now(12, 2, "another kind");
+        netlist[21] ^= 1 << bit;
+        refused_now(12, 2, "another inversion");
+        netlist[22] ^= 1 << bit;
+        refused_now(12, 2, "another level");
+        netlist[23] ^= 1 << bit;
+        refused_now(12, 2, "another level");
+        netlist[28] ^= 1 << bit;
+        refused_now(12, 2, "an unused slot of AND");
+        netlist[39] ^= 1 << bit;
+        refused_now(12, 3, "an unused slot of an output");
+        netlist[4] ^= 1 << bit;
+        refused_now(12, 0, "an unused slot of an input");
+        netlist[51] ^= 1 << bit;
+        refused_now(13, 5, "a buffer that inverts");
+        netlist[56] ^= 1 << bit;
+        refused_now(13, 5, "slot 1 of a buffer");
+        netlist[59] ^= 1 << bit;
+        refused_now(13, 5, "slot 2 of a buffer");
+        netlist[70] = bit == OUTPUT || bit == BUFFER ? 255 : bit;
+        refused_now(13, 7, "a kind that is no buffer");
+    }
+    netlist[70] = OUTPUT;
+    refused_now(14, 2, "14 of an earlier record reads the kind of a later one");
+    change_buffer(7, 4096, 1);
+    refused_now(15, 2, "15 of an earlier record reads the level of a later one");
+    add_one(BUFFER, 4096, 7);
+    refused_now(13, 8, "a buffer at level 4,096");
+    add_one(BUFFER, 65535, 7);
+    refused_now(13, 8, "a buffer at level 65,535");
+    change(2, AND, 0, 2, 5, 8, UNUSED);
+    refused_now(14, 2, "a slot that names record M");
+    change(2, AND, 0, 2, 65535, 7, UNUSED);
+    refused_now(14, 2, "a used slot of 65,535");
+    change(2, AND, 0, 2, 5, 3, UNUSED);
+    refused_now(14, 2, "a slot that names an output");
+    change_buffer(6, 2, 4);
+    refused_now(14, 6, "a buffer on an output");
+    change(4, OUTPUT, 0, 3, 60000, UNUSED, UNUSED);
+    refused_now(14, 4, "a slot that names no record");
+    add(OUTPUT, 0, 1, 0, UNUSED, UNUSED);
+    change(2, AND, 0, 2, 5, 8, UNUSED);
+    refused_now(14, 2, "14 reads the kind of a later record, before 13 of that record");
+    change_buffer(6, 1, 5);
+    refused_now(15, 4, "a buffer one level too low");
+    change_buffer(6, 3, 5);
+    refused_now(15, 4, "a buffer one level too high");
+    change(4, OUTPUT, 0, 3, 5, UNUSED, UNUSED);
+    refused_now(15, 4, "a fanin two levels lower");
+    change(3, OUTPUT, 0, 3, 1, UNUSED, UNUSED);
+    refused_now(15, 3, "a fanin three levels lower");
+    add_one(BUFFER, 0, 0);
+    refused_now(15, 8, "a buffer at level 0");
+    change_buffer(5, 1, 6);
+    refused_now(15, 5, "a loop of two buffers");
+    change_buffer(5, 1, 5);
+    refused_now(15, 5, "a buffer on itself");
+    change(2, AND, 0, 2, 2, 7, UNUSED);
+    refused_now(15, 2, "a slot that names its own record");
+    add_one(BUFFER, 0, 9);
+    add_one(BUFFER, 65535, 0);
+    refused_now(15, 8, "a buffer at level 0 on a record at level 65,535");
+    change(2, AND, 0, 2, 5, 3, UNUSED);
+    change(3, AND, 0, 1, 0, 0, UNUSED);
+    refused_now(12, 3, "14 and 15 go by the mapped netlist's own kinds and levels");
+    change(2, AND, 0, 2, 8, 5, UNUSED);
+    change(3, OUTPUT, 0, 3, 0, UNUSED, UNUSED);
+    refused_now(14, 2, "14 of a record before 15 of the next");
+    change(2, AND, 0, 2, 0, 8, UNUSED);
+    refused_now(14, 2, "14 of any slot before 15 of another");
+    end();
+}
+
+static void test_mapped_nets(void)
+{
+    size_t k;
+    begin("refusals 16 and 17");
+    start_from_worked();
+    change(2, AND, 0, 2, 7, 5, UNUSED);
+    refused_now(16, 2, "fanins changed with each other");
+    change_buffer(7, 1, 0);
+    refused_now(16, 2, "both slots traced to one input; 16 comes before 17");
+    change_buffer(6, 2, 7);
+    refused_now(16, 4, "an output traced to the wrong input");
+    change(4, OUTPUT, 0, 3, 2, UNUSED, UNUSED);
+    refused_now(16, 4, "an output traced to a gate");
+    add_one(BUFFER, 1, 0);
+    refused_now(17, 0, "an input that feeds two slots");
+    add_one(BUFFER, 1, 1);
+    refused_now(17, 1, "an input that feeds two slots");
+    add_one(BUFFER, 3, 2);
+    refused_now(17, 2, "a gate that feeds two slots");
+    add_one(BUFFER, 2, 5);
+    refused_now(17, 5, "a buffer that feeds three slots with capacity 2");
+    for (k = 0; k < 59000; k++)
+        add_one(BUFFER, 2, 5);
+    refused_now(17, 5, "a buffer that feeds 59,002 slots");
+    /* 12,285 slots of gates and 53,252 of buffers are 65,537, one more than two bytes count. */
+    clear();
+    add_input();
+    for (k = 1; k < MAX_SOURCE; k++)
+        add(MAJ, 0, 2, 0, 0, 0);
+    memcpy(filler, netlist, netlist_len);
+    for (k = 1; k < MAX_SOURCE; k++)
+        change(k, MAJ, 0, 2, 4096, 4096, 4096);
+    add_one(BUFFER, 1, 0);
+    for (k = 0; k < 53252; k++)
+        add_one(BUFFER, 2, 4096);
+    do_verify(fill(RECORD * MAX_SOURCE), 4, made());
+    check(answered(17, 4096), "a buffer that feeds 65,537 slots");
+    end();
+}
+
+static void test_mapped_accepted(void)
+{
+    unsigned k;
+    begin("aqfp_verify, other engines' netlists");
+    start_from_worked();
+    do_verify(worked, 2, made());
+    check(accepted(3), "what the mapper writes");
+    change_buffer(5, 2, 7);
+    change_buffer(6, 1, 1);
+    change_buffer(7, 1, 0);
+    change(2, AND, 0, 2, 7, 6, UNUSED);
+    change(4, OUTPUT, 0, 3, 5, UNUSED, UNUSED);
+    do_verify(worked, 2, made());
+    check(accepted(3), "buffers in another order, naming later ones");
+    start_from_worked();
+    add_one(BUFFER, 2, 7);
+    do_verify(worked, 2, made());
+    check(accepted(4), "a buffer that feeds nothing");
+    add_one(BUFFER, 3, 8);
+    add_one(BUFFER, 4, 9);
+    add_one(BUFFER, 5, 10);
+    do_verify(worked, 2, made());
+    check(accepted(7), "buffers above D");
+    start_from_worked();
+    change(4, OUTPUT, 0, 3, 8, UNUSED, UNUSED);
+    add_one(BUFFER, 2, 5);
+    do_verify(worked, 3, made());
+    check(accepted(4), "a second buffer where one would do");
+    do_verify(worked, 2, made());
+    check(answered(17, 5), "the same with capacity 2: three slots on a buffer");
+    for (k = 2; k <= 4; k++) {
+        do_verify(worked, k, worked_out);
+        check(accepted(3), "any capacity");
+    }
+    do_verify(fill(0), 2, fill(0));
+    check(accepted(0), "no records at all");
+    clear();
+    add_one(BUFFER, 1, 0);
+    do_verify(fill(0), 2, made());
+    check(answered(15, 0), "a buffer on itself, over an empty source");
+    /* A tree of buffers, two on each, above the worked case's last buffer: 60,000 records. */
+    start_from_worked();
+    for (k = 8; k < MAX_MAPPED; k++) {
+        unsigned on = k == 8 ? 7 : (k - 9) / 2 + 8;
+        add_one(BUFFER, field(netlist + RECORD * on + 2) + 1, on);
+    }
+    do_verify(worked, 2, made());
+    check(accepted(MAX_MAPPED - 5), "60,000 records");
+    end();
+}
+
+static void test_rows(void)
+{
+    uint8_t rows[6] = { 1, 0, 1, 1, 0, 1 };
+    size_t at;
+    begin("refusals 18 and 19");
+    do_evaluate(worked, part(rows, 1), fill(5));
+    check(answered(18, 0), "a row too short");
+    do_evaluate(worked, part(rows, 3), fill(5));
+    check(answered(18, 0), "a row too long");
+    do_evaluate(worked, part(rows, 2), fill(4));
+    check(answered(18, 0), "values too short");
+    do_evaluate(worked, part(rows, 2), fill(6));
+    check(answered(18, 0), "values too long");
+    do_step(worked, 2, worked_out, part(rows, 1), fill(16));
+    check(answered(18, 0), "a row too short");
+    do_step(worked, 2, worked_out, part(rows, 3), fill(16));
+    check(answered(18, 0), "a row too long");
+    do_step(worked, 2, worked_out, part(rows, 2), fill(15));
+    check(answered(18, 0), "a state too short");
+    do_step(worked, 2, worked_out, part(rows, 2), fill(17));
+    check(answered(18, 0), "a state too long");
+    do_run(worked, 2, worked_out, 3, part(rows, 5), fill(16), fill(6));
+    check(answered(18, 0), "rows too short");
+    do_run(worked, 2, worked_out, 2, part(rows, 6), fill(16), fill(4));
+    check(answered(18, 0), "rows too long");
+    do_run(worked, 2, worked_out, 3, part(rows, 6), fill(15), fill(6));
+    check(answered(18, 0), "a state too short");
+    do_run(worked, 2, worked_out, 3, part(rows, 6), fill(17), fill(6));
+    check(answered(18, 0), "a state too long");
+    do_run(worked, 2, worked_out, 3, part(rows, 6), fill(16), fill(5));
+    check(answered(18, 0), "outputs too short");
+    do_run(worked, 2, worked_out, 3, part(rows, 6), fill(16), fill(7));
+    check(answered(18, 0), "outputs too long");
+    do_run(worked, 2, worked_out, 0, fill(0), fill(16), fill(1));
+    check(answered(18, 0), "outputs without rows");
+    do_run(worked, 2, worked_out, 0, fill(0), fill(0), fill(0));
+    check(answered(18, 0), "no rows, and no state either");
+    for (at = 0; at < 6; at++) {
+        uint8_t bad[6];
+        memcpy(bad, rows, 6);
+        bad[at] = (uint8_t)(at % 2 == 0 ? 2 : 255);
+        bad[5] = at == 5 ? 2 : 3;
+        do_run(worked, 2, worked_out, 3, part(bad, 6), fill(16), fill(6));
+        check(answered(19, (uint32_t)at), "the first row byte above 1");
+        do_run(worked, 2, worked_out, 3, part(bad, 6), fill(16), fill(5));
+        check(answered(18, 0), "18 comes before 19");
+        if (at >= 2)
+            continue;
+        do_step(worked, 2, worked_out, part(bad, 2), fill(16));
+        check(answered(19, (uint32_t)at), "a step's byte above 1");
+        do_evaluate(worked, part(bad, 2), fill(5));
+        check(answered(19, (uint32_t)at), "an evaluator's byte above 1");
+        do_evaluate(worked, part(bad, 2), fill(6));
+        check(answered(18, 0), "18 comes before 19");
+    }
+    end();
+}
+
+/* ---- random netlists ---- */
+
+static uint8_t source_bytes[RECORD * MAX_SOURCE], mapped_bytes[RECORD * MAX_MAPPED];
+
+/* Any bytes at all, some of them made to look like records. */
+static struct bytes random_bytes(uint8_t *to, size_t most)
+{
+    size_t len = below((uint32_t)most + 1), k;
+    if (below(4) > 0)
+        len -= len % RECORD;
+    for (k = 0; k < len; k++)
+        to[k] = (uint8_t)below(256);
+    for (k = 0; k + RECORD <= len && below(3) > 0; k += RECORD)
+        put_record(to + k, below(6), below(4), below(5), below(4), below(3) ? UNUSED : below(4),
+                   below(3) ? UNUSED : below(4));
+    return part(to, len);
+}
+
+static int within(uint32_t low, uint32_t high)
+{
+    return answer[0] >= low && answer[0] <= high;
+}
+
+static void test_random_bytes(void)
+{
+    unsigned long k;
+    begin("random bytes as netlists");
+    for (k = 0; k < 40000; k++) {
+        struct bytes source = random_bytes(source_bytes, 60);
+        struct bytes mapped = random_bytes(mapped_bytes, 90);
+        uint32_t capacity = below(20) ? 2 + below(3) : below(7);
+        size_t rows = below(4), state = below(2) ? 2 * (mapped.len / RECORD) : below(20);
+        do_map(source, capacity, fill(below(200)));
+        check(within(0, 10), "aqfp_map gives 0 to 10");
+        do_count(source, capacity, below(8));
+        check(within(0, 7) || within(20, 20), "aqfp_count gives 0 to 7 or 20");
+        do_verify(source, capacity, mapped);
+        check(within(0, 7) || within(11, 17), "aqfp_verify gives 0 to 7 or 11 to 17");
+        do_evaluate(source, fill(rows), fill(source.len / RECORD));
+        check(within(0, 7) || within(18, 19), "aqfp_evaluate gives 0 to 7, 18 or 19");
+        do_run(source, capacity, mapped, below(3), fill(rows), fill(state), fill(below(3)));
+        check(within(0, 7) || within(11, 19), "aqfp_run gives 0 to 7 or 11 to 19");
+        do_step(source, capacity, mapped, fill(rows), fill(state));
+        check(within(0, 7) || within(11, 19), "aqfp_step gives 0 to 7 or 11 to 19");
+    }
+    end();
+}
+
+/* A sound source of up to 24 records: a record's level leaves room above its fanins. */
+static struct bytes random_source(void)
+{
+    size_t n = 1 + below(24), k, j, inputs = 1 + below(4);
+    unsigned depth = 0, room = 1 + below(5);
+    for (k = 0; k < n; k++) {
+        uint8_t *record = source_bytes + RECORD * k;
+        unsigned kind = k < inputs ? INPUT : 1 + below(4), level = 0, least, slots[SLOTS];
+        for (j = 0; j < SLOTS; j++) {
+            slots[j] = UNUSED;
+            if (j >= used_slots(kind))
+                continue;
+            do
+                slots[j] = below((uint32_t)k);
+            while (source_bytes[RECORD * slots[j]] == OUTPUT);
+            least = field(source_bytes + RECORD * slots[j] + 2) + 1 + below(room);
+            level = least > level ? least : level;
+        }
+        if (kind == OUTPUT && level > depth)
+            depth = level;
+        put_record(record, kind, kind == INPUT || kind == OUTPUT ? 0 : below(1u << used_slots(kind)),
+                   level, slots[0], slots[1], slots[2]);
+    }
+    for (k = 0; k < n; k++)
+        if (source_bytes[RECORD * k] == OUTPUT)
+            put_record(source_bytes + RECORD * k, OUTPUT, 0, depth + room - 1,
+                       field(source_bytes + RECORD * k + 4), UNUSED, UNUSED);
+    return part(source_bytes, RECORD * n);
+}
+
+/* The value of record k by plain logic, worked out from its fanins' values. */
+static uint8_t plain(const uint8_t *record, const uint8_t *values)
+{
+    unsigned j, ones = 0, used = used_slots(record[0]);
+    for (j = 0; j < used; j++)
+        ones += values[field(record + 4 + 2 * j)] ^ (record[1] >> j & 1);
+    return record[0] == AND || record[0] == MAJ ? ones >= 2 : ones >= 1;
+}
+
+/* One phase run, one list of steps and the evaluator on one accepted mapped netlist. */
+static void hold_waves(struct bytes source, uint32_t capacity, struct bytes mapped)
+{
+    enum { R = 5, MOST = 24 };
+    static uint8_t rows[R * MOST], outputs[R * MOST], stepped[2 * MAX_MAPPED], state[2 * MAX_MAPPED];
+    static const uint8_t spent[MOST];
+    size_t n = source.len / RECORD, m = mapped.len / RECORD, k, j, t;
+    size_t inputs = number_of(INPUT, source), outs = number_of(OUTPUT, source);
+    size_t depth = 0;
+    for (k = 0; k < n; k++)
+        if (source.at[RECORD * k] == OUTPUT)
+            depth = field(source.at + RECORD * k + 2);
+    for (k = 0; k < R * inputs; k++)
+        rows[k] = (uint8_t)below(2);
+    do_run(source, capacity, mapped, R, part(rows, R * inputs), fill(2 * m), fill(R * outs));
+    check(answered(0, 0), "a run on what the verifier accepts");
+    memcpy(outputs, outputs_area.at, R * outs);
+    memcpy(state, state_area.at, 2 * m);
+    for (t = 0; t < R; t++) {
+        uint8_t values[MOST];
+        size_t input = 0;
+        for (k = 0; k < n; k++)
+            values[k] = source.at[RECORD * k] == INPUT ? rows[t * inputs + input++]
+                                                       : plain(source.at + RECORD * k, values);
+        do_evaluate(source, part(rows + t * inputs, inputs), fill(n));
+        check(answered(0, 0) && memcmp(state_area.at, values, n) == 0, "the evaluator");
+        for (k = 0, j = 0; k < n; k++)
+            if (source.at[RECORD * k] == OUTPUT)
+                check(outputs[t * outs + j++] == values[k], "each wave is plain logic's row");
+    }
+    memset(stepped, 0, 2 * m);
+    for (t = 0; t < R + depth; t++) {
+        do_step(source, capacity, mapped, part(t < R ? rows + t * inputs : spent, inputs),
+                part(stepped, 2 * m));
+        memcpy(stepped, state_area.at, 2 * m);
+    }
+    check(memcmp(stepped, state, 2 * m) == 0, "the run's state is what its steps leave");
+    /* From any bytes: D steps later the outputs are plain logic's. */
+    for (k = 0; k < 2 * m; k++)
+        stepped[k] = (uint8_t)below(256);
+    for (t = 0; t < R + depth; t++) {
+        do_step(source, capacity, mapped, part(t < R ? rows + t * inputs : spent, inputs),
+                part(stepped, 2 * m));
+        for (k = 0; k < m; k++)
+            check(state_area.at[m + k] == (stepped[k] != 0), "the older values as 0 or 1");
+        memcpy(stepped, state_area.at, 2 * m);
+        if (t < depth)
+            continue;
+        for (k = 0, j = 0; k < n; k++)
+            if (source.at[RECORD * k] == OUTPUT)
+                check(stepped[k] == outputs[(t - depth) * outs + j++], "a step's outputs");
+    }
+}
+
+/* Puts the buffers, the records from n on, in falling order: as legal as before. */
+static void reverse_buffers(uint8_t *records, size_t n, size_t m)
+{
+    static uint8_t old[sizeof mapped_bytes];
+    size_t k, j;
+    memcpy(old, records, RECORD * m);
+    for (k = 0; k < m; k++) {
+        uint8_t *to = records + RECORD * (k < n ? k : n + m - 1 - k);
+        memcpy(to, old + RECORD * k, RECORD);
+        for (j = 0; j < used_slots(to[0]); j++) {
+            size_t fanin = field(to + 4 + 2 * j);
+            fanin = fanin < n ? fanin : n + m - 1 - fanin;
+            to[4 + 2 * j] = (uint8_t)fanin;
+            to[5 + 2 * j] = (uint8_t)(fanin >> 8);
+        }
+    }
+}
+
+static void test_random_sources(void)
+{
+    unsigned long k, mapped_count = 0;
+    begin("random sound netlists through all calls");
+    for (k = 0; k < 6000; k++) {
+        struct bytes source = random_source(), mapped;
+        uint32_t capacity = 2 + below(3), buffers, total = 0, driver;
+        do_map(source, capacity, fill(RECORD * 2000));
+        check(answer[0] == 0 || answer[0] == 8, "accepted, or no tree");
+        if (answer[0] == 8) {
+            driver = answer[1];
+            do_count(source, capacity, driver);
+            check(accepted(NO_TREE), "the count of the driver that 8 names");
+            continue;
+        }
+        mapped_count++;
+        buffers = answer[3];
+        mapped = part(mapped_bytes, RECORD * answer[2]);
+        memcpy(mapped_bytes, mapped_area.at, mapped.len);
+        check(number_of(BUFFER, mapped) == buffers, "the buffers written are those answered");
+        do_verify(source, capacity, mapped);
+        check(accepted(buffers), "the verifier accepts what the mapper writes");
+        for (driver = 0; driver < source.len / RECORD; driver++)
+            if (source.at[RECORD * driver] != OUTPUT) {
+                do_count(source, capacity, driver);
+                total += answer[2];
+            }
+        check(total == buffers, "the counts of all nets add up");
+        if (k % 8 == 0)
+            hold_waves(source, capacity, mapped);
+        reverse_buffers(mapped_bytes, source.len / RECORD, mapped.len / RECORD);
+        do_verify(source, capacity, mapped);
+        check(accepted(buffers), "the same buffers in falling order");
+        if (k % 8 == 4)
+            hold_waves(source, capacity, mapped);
+        mapped_bytes[below((uint32_t)mapped.len)] ^= (uint8_t)(1 << below(8));
+        do_verify(source, capacity, mapped);
+        check(within(0, 0) || within(12, 17), "one bit changed");
+        if (answer[0] == 0)
+            hold_waves(source, capacity, mapped);
+    }
+    check(mapped_count > 500, "enough netlists were accepted");
+    end();
+}
+
+static void fill_filler(void)
+{
+    size_t k;
+    for (k = 0; k < sizeof filler; k++)
+        filler[k] = (uint8_t)(k * 7 + 161);
+}
+
+static void test_all(void)
+{
+    static void (*const tests[])(void) = {
+        test_map_worked, test_count_worked, test_count_limits, test_run_worked, test_run_limits,
+        test_capacities, test_source_lengths, test_source_records, test_source_order,
+        test_map_sizes, test_count_record, test_mapped_length, test_mapped_records,
+        test_mapped_nets, test_mapped_accepted, test_rows, test_random_bytes, test_random_sources
+    };
+    size_t k;
+    for (k = 0; k < sizeof tests / sizeof tests[0]; k++) {
+        fill_filler();
+        tests[k]();
+    }
+}
+
+int main(void)
+{
+    static const char *const names[PLACEMENTS] = {
+        "guard bytes on both sides", "areas up to a protected page", "areas from a protected page",
+        "null pointers for empty areas"
+    };
+    struct area *const areas[] = { &source_area, &mapped_area, &rows_area, &state_area,
+                                   &outputs_area, &answer_area };
+    size_t k;
+    setvbuf(stdout, NULL, _IOLBF, 0);
+    for (k = 0; k < sizeof areas / sizeof areas[0]; k++)
+        make_block(areas[k]);
+    make_worked();
+    for (placement = MIDDLE; placement < PLACEMENTS; placement++) {
+        printf("== %s\n", names[placement]);
+        test_all();
+    }
+    printf("%lu passed, %lu failed\n", passed, failed);
+    return failed != 0;
+}
