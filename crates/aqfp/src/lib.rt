@@ -88,7 +88,7 @@ pub extern "C" fn aqfp_map(
     answer_mapping(answer, mapper::map_netlist(source, capacity, mapped))
 }
 
-// The count of one net: number, place, fewest buffers.
+// The count of one net: number, place, fewest buffers, or what stands for no tree.
 #[no_mangle]
 pub extern "C" fn aqfp_count(
     source: &[u8],

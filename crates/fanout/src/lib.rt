@@ -18,10 +18,10 @@ pub enum Count {
 }
 
 // Distances of a row, from 0 on.
-const DISTANCES: usize = 4096;
+pub const DISTANCES: usize = 4096;
 
 // Slots that a driver may feed.
-const DRIVER_CAPACITY: u32 = 1;
+pub const DRIVER_CAPACITY: u32 = 1;
 
 // One more sink at a distance.
 fn add_sink(row: &mut [u32; DISTANCES], distance: usize)

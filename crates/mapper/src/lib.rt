@@ -16,6 +16,8 @@ ghost use Rattle.mapper.specs.Answer.{treesBelow, gates, share, refusal,
 ghost use Rattle.mapper.specs.View.{noEnds, blockEnds, blockView};
 ghost use Rattle.mapper.specs.Chains.{slotEnd, Linked, Chained, Filled, Walkable, Walked, Stale, Measured, sizingOf, levelRecord, Net, Based, Hung, Hangable, Noded, Writable, Wrote, relinked, relinkedAt, Counted, Maps};
 use facts::Checked;
+use fanout::DISTANCES;
+use fanout::DRIVER_CAPACITY;
 use netlist::BUFFER;
 use netlist::MAPPED_LIMIT;
 use netlist::Record;
@@ -23,15 +25,10 @@ use netlist::SLOTS;
 use netlist::UNUSED;
 use netlist::WIDTH;
 
-// Distances of a row, records and slots of the largest source.
-const DISTANCES: usize = 4096;
-
+// Records and slots of the largest source.
 const RECORDS: usize = netlist::SOURCE_LIMIT;
 
 const SINKS: usize = SLOTS * RECORDS;
-
-// Slots that a driver may feed.
-const DRIVER_CAPACITY: u32 = 1;
 
 // Junctions of a gate and of a buffer.
 const GATE_PRICE: u32 = 6;

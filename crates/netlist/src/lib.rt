@@ -34,6 +34,10 @@ pub const SOURCE_LIMIT: usize = 4096;
 
 pub const MAPPED_LIMIT: usize = 60000;
 
+pub const LEAST_CAPACITY: u32 = 2;
+
+pub const MOST_CAPACITY: u32 = 4;
+
 pub const INPUT: u8 = 0;
 
 pub const AND: u8 = 1;
@@ -53,7 +57,7 @@ pub struct Record {
     pub kind: u8,
     pub inversion: u8,
     pub level: u16,
-    pub slots: [u16; 3],
+    pub slots: [u16; SLOTS],
 }
 
 // How many slots a kind uses: slots 0 to arity - 1.
@@ -111,7 +115,7 @@ pub fn blank() -> Record
         kind: ABSENT,
         inversion: 0,
         level: 0,
-        slots: [UNUSED; 3],
+        slots: [UNUSED; SLOTS],
     }
 }
 
@@ -353,10 +357,10 @@ pub fn check_source(bytes: &[u8]) -> Checked
 pub fn check_input(capacity: u32, bytes: &[u8]) -> Checked
     ensures { λ a. ⌜ a ≡ inputChecks capacity (now (bytes .entry)) ⌝ }
 {
-    if capacity < 2 {
+    if capacity < LEAST_CAPACITY {
         return Checked::Refused(1, 0);
     }
-    if 4 < capacity {
+    if MOST_CAPACITY < capacity {
         return Checked::Refused(1, 0);
     }
     check_source(bytes)

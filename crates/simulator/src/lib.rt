@@ -20,9 +20,6 @@ use netlist::Record;
 // The most rows of a run.
 const ROW_LIMIT: u32 = 10000;
 
-// How many of its used slots must be 1 for AND and MAJ to be 1; for every other kind one must.
-const MOST: usize = 2;
-
 // The numbers of a run: records of the source, bytes of a row, bytes of an output row, mapped records, and D.
 struct Shape {
     sources: usize,
@@ -74,14 +71,14 @@ fn turn(bits: u8, value: bool) -> bool
     if bits % 2 == 1 { !value } else { value }
 }
 
-// How many slots must be 1.
+// How many of its used slots must be 1 for a record to be 1: two for AND and MAJ, else one.
 fn threshold(kind: u8) -> usize
     ensures { λ r. ⌜ r ≡ Logic.threshold kind ⌝ }
 {
     if kind == netlist::AND {
-        return MOST;
+        return 2;
     }
-    if kind == netlist::MAJORITY { MOST } else { 1 }
+    if kind == netlist::MAJORITY { 2 } else { 1 }
 }
 
 // How many used slots of a record are 1.
@@ -518,7 +515,7 @@ pub fn run(
 ) -> Checked
     ensures answer { λ a. ⌜ a ≡ runAnswer (now (source .entry)) capacity (now (mapped .entry)) «row_count» (now (rows .entry)) (now (state .entry)) (now (outputs .entry)) ⌝ }
     ensures area { λ a. ⌜ now (state .exit) ≡ runArea (now (source .entry)) capacity (now (mapped .entry)) «row_count» (now (rows .entry)) (now (state .entry)) (now (outputs .entry)) ⌝ }
-    ensures rows { λ a. ⌜ now (outputs .exit) ≡ runOutputs (now (source .entry)) capacity (now (mapped .entry)) «row_count» (now (rows .entry)) (now (state .entry)) (now (outputs .entry)) ⌝ }
+    ensures outputs { λ a. ⌜ now (outputs .exit) ≡ runOutputs (now (source .entry)) capacity (now (mapped .entry)) «row_count» (now (rows .entry)) (now (state .entry)) (now (outputs .entry)) ⌝ }
 {
     let checked = check_run(source, capacity, mapped, row_count, rows, state, outputs);
     match checked {

@@ -33,17 +33,18 @@ ghost use Rattle.verifier.specs.Checks.{
   verifyAnswer,
 };
 use facts::Checked;
+use fanout::DRIVER_CAPACITY;
 use netlist::Record;
 use netlist::arity;
 use netlist::record_at;
 use netlist::record_count;
 use netlist::slot;
 
-// Slots that an input or a gate may feed.
-const DRIVER_CAPACITY: u32 = 1;
-
 // What stands for a driver that is not known yet.
 const UNKNOWN: u16 = 65535;
+
+// Entries of the local arrays: one for each record of a mapped netlist.
+const RECORDS: usize = netlist::MAPPED_LIMIT;
 
 // Where a count of check 17 stops: one above the largest capacity.
 const STOP: u8 = 5;
@@ -208,7 +209,7 @@ fn check_places(source: &[u8], mapped: &[u8], m: u32) -> Checked
 }
 
 // The driver of record x, back through buffers: the level falls at each call. What a walk finds is kept for the next.
-fn walk(mapped: &[u8], drivers: &mut [u16; 60000], level: u16, x: u16) -> u16
+fn walk(mapped: &[u8], drivers: &mut [u16; RECORDS], level: u16, x: u16) -> u16
     requires { ⌜ Walkable (netlist (now mapped)) (now drivers) level x ⌝ }
     ensures { λ d. ⌜ Walked (netlist (now (mapped .entry))) x d (now (drivers .exit)) ⌝ }
 {
@@ -230,7 +231,7 @@ fn walk(mapped: &[u8], drivers: &mut [u16; 60000], level: u16, x: u16) -> u16
 }
 
 // Check 16 of one used slot of a source record a that stands mapped as r: traced to another driver.
-fn strays(mapped: &[u8], drivers: &mut [u16; 60000], a: Record, x: u16, j: usize) -> bool
+fn strays(mapped: &[u8], drivers: &mut [u16; RECORDS], a: Record, x: u16, j: usize) -> bool
     requires { ⌜ Walkable (netlist (now mapped)) (now drivers) (recordAt (now mapped) x .level) x ⌝ }
     ensures { λ b. ⌜ Answered (netlist (now (mapped .entry))) b (not (eqb (driver (netlist (now (mapped .entry))) x) (Records.slot a j))) (now (drivers .exit)) ⌝ }
 {
@@ -238,7 +239,7 @@ fn strays(mapped: &[u8], drivers: &mut [u16; 60000], a: Record, x: u16, j: usize
 }
 
 // Check 16 of the first n slots.
-fn any_strays(mapped: &[u8], drivers: &mut [u16; 60000], a: Record, r: Record, n: usize) -> bool
+fn any_strays(mapped: &[u8], drivers: &mut [u16; RECORDS], a: Record, r: Record, n: usize) -> bool
     requires { ⌜ AllWalkable (netlist (now mapped)) (now drivers) r n ⌝ }
     ensures { λ b. ⌜ Answered (netlist (now (mapped .entry))) b (any (Checks.strays (netlist (now (mapped .entry))) a r) n) (now (drivers .exit)) ⌝ }
 {
@@ -259,7 +260,7 @@ fn check_traces(source: &[u8], mapped: &[u8], n: u32) -> Checked
     requires { ⌜ n ≡ recordCount (now source) ⌝ }
     ensures { λ a. ⌜ a ≡ scan (traceCheck (netlist (now (source .entry))) (netlist (now (mapped .entry)))) 0 n ⌝ }
 {
-    let mut drivers = [UNKNOWN; 60000];
+    let mut drivers = [UNKNOWN; RECORDS];
     let mut k: u32 = 0;
     while k < n {
         let a = record_at(source, k as usize);
@@ -278,7 +279,7 @@ fn check_traces(source: &[u8], mapped: &[u8], n: u32) -> Checked
 }
 
 // One more slot that x feeds, up to the stop.
-fn feed(counts: &mut [u8; 60000], x: usize)
+fn feed(counts: &mut [u8; RECORDS], x: usize)
     requires { ⌜ length (now counts) ≡ mappedLimit ⌝ }
     ensures { λ _. ⌜ now (counts .exit) ≡ fedOnce (now (counts .entry)) x ⌝ }
 {
@@ -291,7 +292,7 @@ fn feed(counts: &mut [u8; 60000], x: usize)
 }
 
 // Every used slot of a record is counted.
-fn feed_slots(counts: &mut [u8; 60000], r: Record)
+fn feed_slots(counts: &mut [u8; RECORDS], r: Record)
     requires { ⌜ length (now counts) ≡ mappedLimit ⌝ }
     ensures { λ _. ⌜ now (counts .exit) ≡ fedBy (now (counts .entry)) r (Kinds.arity (r .kind)) ⌝ }
 {
@@ -304,7 +305,7 @@ fn feed_slots(counts: &mut [u8; 60000], r: Record)
 }
 
 // The used slots of the first m records are counted.
-fn feed_records(counts: &mut [u8; 60000], mapped: &[u8], m: u32)
+fn feed_records(counts: &mut [u8; RECORDS], mapped: &[u8], m: u32)
     requires { ⌜ now counts ≡ replicate mappedLimit 0 ⌝ }
     ensures { λ _. ⌜ now (counts .exit) ≡ tally (netlist (now (mapped .entry))) m ⌝ }
 {
@@ -327,7 +328,7 @@ fn capacity_of(capacity: u32, kind: u8) -> u32
 }
 
 // Check 17 of every record, rising, by the counts of all its used slots.
-fn check_counts(counts: &[u8; 60000], mapped: &[u8], capacity: u32, m: u32) -> Checked
+fn check_counts(counts: &[u8; RECORDS], mapped: &[u8], capacity: u32, m: u32) -> Checked
     requires { ⌜ Countable (netlist (now mapped)) capacity m ⌝ }
     requires { ⌜ now counts ≡ tally (netlist (now mapped)) m ⌝ }
     ensures { λ a. ⌜ a ≡ scan (feedCheck capacity (netlist (now (mapped .entry)))) 0 m ⌝ }
@@ -348,7 +349,7 @@ fn check_feeds(mapped: &[u8], capacity: u32, m: u32) -> Checked
     requires { ⌜ Countable (netlist (now mapped)) capacity m ⌝ }
     ensures { λ a. ⌜ a ≡ scan (feedCheck capacity (netlist (now (mapped .entry)))) 0 m ⌝ }
 {
-    let mut counts = [0u8; 60000];
+    let mut counts = [0u8; RECORDS];
     feed_records(&mut counts, mapped, m);
     check_counts(&counts, mapped, capacity, m)
 }
