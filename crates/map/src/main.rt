@@ -5,7 +5,7 @@ ghost use Rattle.mapper.specs.Answer.{mapAnswer};
 use libc::STDIN_FILENO;
 use libc::STDOUT_FILENO;
 
-// One byte and a source one byte longer than the longest.
+// One byte, and a source of one record more than the longest.
 const INPUT_LIMIT: usize = 40971;
 
 const AREA: usize = 60000;
