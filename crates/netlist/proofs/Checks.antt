@@ -1,10 +1,11 @@
 -- Laws of checks 1 to 7, with premises as the code has them: what each test gives of the check's answer.
-use Prim.Native.Nat.{ℕ, _+_, _*_, _%_, _^_, _<_, _≤_}
+use Prim.Native.Nat.{ℕ, zero, suc, _+_, _*_, _%_, _^_, _<_, _≤_}
 use native.Mathlib.Decide.{decLt}
 use native.Mathlib.Nat.{one-mul, mod-eq-of-lt}
+use native.Mathlib.Numerals.{add-one}
 use native.Mathlib.Omega.{arith}
 use mathlib.Core.Path.{_≡_, refl, sym, ap, _∙_}
-use mathlib.Core.Bool.{Bool, true, false, not}
+use mathlib.Core.Bool.{Bool, true, false, cond, not}
 use mathlib.Core.List.{List, []}
 use lib.ListN.{length, List·getD-eq-default}
 use lib.Pow.{pow-lt}
@@ -14,15 +15,16 @@ use lib.Dec.{ltb, leb, eqb}
 use borrow.Author.Tests.{lt-ltb, le-ltb, le-leb, lt-leb, eq-eqb, ne-eqb, ltb-false}
 use Rattle.facts.specs.declared.Checked.{Checked}
 use Rattle.facts.specs.declared.Checked.the-variants.{Passed, Refused}
-use Rattle.facts.specs.Checks.{scan}
+use Rattle.facts.specs.Checks.{check, scan}
 use Rattle.facts.specs.Sums.{any, seek}
-use Rattle.facts.proofs.Bools.{or-false}
+use Rattle.facts.proofs.Bools.{or-false, or-r}
 use Rattle.facts.proofs.Sums.{any-none}
-use Rattle.facts.proofs.Loops.{Seeking, seek-more, seek-here, seek-end}
+use Rattle.facts.proofs.Reflect.{check-passed, then-passed, or-none, most-none, side-is}
+use Rattle.facts.proofs.Loops.{Seeking, seek-start, seek-more, seek-here, seek-end}
 use Rattle.netlist.specs.declared.Record.{Record}
 use Rattle.netlist.specs.Kinds.{width, slots, unused, topLevel, sourceLimit, input, output, arities, arity, isGate, invertible}
 use Rattle.netlist.specs.Records.{Netlist, netlist, recordCount, recordBytes, recordAt, slot, isOutput, depth}
-use Rattle.netlist.specs.Checks.{badSlot, badSlots, notBelow, misplaced, structureOf, levelOf, recordChecks, sourceChecks, inputChecks}
+use Rattle.netlist.specs.Checks.{badKind, badInversion, badSlot, badSlots, notBelow, misplaced, structureOf, levelOf, recordChecks, sourceChecks, inputChecks}
 use Rattle.netlist.specs.View.{viewOf}
 use Rattle.netlist.proofs.Records.{record-past}
 
@@ -64,24 +66,49 @@ module _ (m : Netlist) (k : ℕ) (r : Record) (j : ℕ) (t a : ℕ) (p : t ≡ s
   pub slot-unused : a ≤ j → not (eqb t unused) ≡ badSlot m k r j
   slot-unused h = rw (le-ltb j (arity (r .kind)) (rw q at h), p)
 
-  pub fanin-level : (x : ℕ) → j < a → x ≡ m .at t .level → leb (r .level) x ≡ notBelow m r j
-  fanin-level x h e = rw (lt-ltb j (arity (r .kind)) (rw q at h), e, p)
+  pub fanin-level : (x y : ℕ) → j < a → y ≡ r .level → x ≡ m .at t .level → leb y x ≡ notBelow m r j
+  fanin-level x y h f e = rw (lt-ltb j (arity (r .kind)) (rw q at h), e, f, p)
+
+  -- where no slot is bad, a used one names an earlier record
+  pub fanin-inside : (n : ℕ) → k < n → j < a → badSlots m k r ≡ false → t < n
+  fanin-inside n l h e =
+      let u : j < arity (r .kind) = rw q at h in
+      let bad = any-none (badSlot m k r) slots .0 e j (omega (arith, arity-slots (r .kind))) in
+      let late = or-none _ _ .0 (side-is j (arity (r .kind)) _ _ false .0 bad .0 u) .0 in
+      omega (arith, most-none k (slot r j) .0 late)
 
 pub fanin-unused : (m : Netlist) (r : Record) (j a : ℕ) → a ≡ arity (r .kind) → a ≤ j → false ≡ notBelow m r j
 fanin-unused m r j a q h = rw (le-ltb j (arity (r .kind)) (rw q at h))
 
-module _ (deep : ℕ) (r : Record) where
-  pub level-large : topLevel < r .level → true ≡ misplaced deep r
-  level-large h = rw (lt-ltb topLevel (r .level) h)
+pub used-slots : (kind j a : ℕ) → a ≡ arity kind → j < a → j < slots
+used-slots kind j a e h = omega (arith, arity-slots kind)
 
-  pub level-input : r .level ≤ topLevel → r .kind ≡ input → not (eqb (r .level) 0) ≡ misplaced deep r
-  level-input h e = rw (le-ltb topLevel (r .level) h, e) (sym (or-false (not (eqb (r .level) 0))))
+-- a kind that the arms name uses the slots of that kind
+pub these-slots : (kind x named a : ℕ) → x ≡ kind → x ≡ named → a ≡ arity named → a ≡ arity kind
+these-slots kind x named a k n e = e ∙ ap arity (sym n ∙ k)
 
-  pub level-output : r .level ≤ topLevel → r .kind ≡ output → not (eqb (r .level) deep) ≡ misplaced deep r
-  level-output h e = rw (le-ltb topLevel (r .level) h, e)
+-- past the arms no kind of a source is left
+past-two : (kind : ℕ) → (kind ≡ 0 → ⊥) → (kind ≡ 1 → ⊥) → (kind ≡ 2 → ⊥) → 2 < kind
+past-two kind f g h = omega arith
 
-  pub level-gate : r .level ≤ topLevel → (r .kind ≡ input → ⊥) → (r .kind ≡ output → ⊥) → false ≡ misplaced deep r
-  level-gate h e f = rw (le-ltb topLevel (r .level) h, ne-eqb (r .kind) input e, ne-eqb (r .kind) output f)
+past-four : (kind : ℕ) → 2 < kind → (kind ≡ 3 → ⊥) → (kind ≡ 4 → ⊥) → 4 < kind
+past-four kind l f g = omega arith
+
+pub other-kind : (m : Netlist) (k kind : ℕ) → kind ≡ m .at k .kind → (kind ≡ 0 → ⊥) → (kind ≡ 1 → ⊥) → (kind ≡ 2 → ⊥) → (kind ≡ 3 → ⊥) → (kind ≡ 4 → ⊥) → Refused 4 k ≡ recordChecks m k
+other-kind m k kind e f g h i j = rw (← e, lt-ltb output kind (past-four kind (past-two kind f g h) i j))
+
+module _ (deep : ℕ) (r : Record) (kind level : ℕ) (k : kind ≡ r .kind) (l : level ≡ r .level) where
+  pub level-large : topLevel < level → true ≡ misplaced deep r
+  level-large h = rw (← l, lt-ltb topLevel level h)
+
+  pub level-input : level ≤ topLevel → kind ≡ input → not (eqb level 0) ≡ misplaced deep r
+  level-input h e = rw (← l, ← k, le-ltb topLevel level h, e) (sym (or-false (not (eqb level 0))))
+
+  pub level-output : level ≤ topLevel → kind ≡ output → not (eqb level deep) ≡ misplaced deep r
+  level-output h e = rw (← l, ← k, le-ltb topLevel level h, e)
+
+  pub level-gate : level ≤ topLevel → (kind ≡ input → ⊥) → (kind ≡ output → ⊥) → false ≡ misplaced deep r
+  level-gate h e f = rw (← l, ← k, le-ltb topLevel level h, ne-eqb kind input e, ne-eqb kind output f)
 
 -- D, as the loop finds it: n is the count, the first n records are searched
 module _ (bytes : List ℕ) (n : ℕ) (c : n ≡ recordCount bytes) where
@@ -102,21 +129,78 @@ module _ (bytes : List ℕ) (n : ℕ) (c : n ≡ recordCount bytes) where
   depth-none k i h =
       sym (depth-is n (seek-end outputs n k i h) ∙ ap (λ (r : Record). r .level) (record-past bytes n (omega (arith, c))))
 
+-- the first output among the records met so far: whether there was one, and D once there was
+module _ (bytes : List ℕ) (k : ℕ) where
+  abbrev met : ℕ → Bool
+  met = any (isOutput (netlist bytes))
+
+  unseen : (i : ℕ) → i ≤ recordCount bytes → met i ≡ false → Seeking (isOutput (netlist bytes)) (recordCount bytes) i
+  unfolding any
+  unseen zero l e = seek-start (isOutput (netlist bytes)) (recordCount bytes)
+  unseen (suc i) l e =
+      let h = or-none (met i) (isOutput (netlist bytes) i) .0 e in
+      rw (← add-one i) (seek-more (isOutput (netlist bytes)) (recordCount bytes) i (unseen i (omega arith) (h .0)) (omega arith) (h .1))
+
+  pub seen-start : false ≡ any (isOutput (netlist bytes)) 0
+  unfolding any
+  seen-start = refl
+
+  pub deep-start : 0 ≡ cond (any (isOutput (netlist bytes)) 0) (depth (netlist bytes)) 0
+  unfolding any
+  deep-start = refl
+
+  module _ (seen : Bool) (s : seen ≡ any (isOutput (netlist bytes)) k) where
+    pub seen-before : seen ≡ true → true ≡ any (isOutput (netlist bytes)) (k + 1)
+    unfolding any
+    seen-before t = rw (add-one k, ← s, t)
+
+    pub deep-before : (deep : ℕ) → deep ≡ cond (any (isOutput (netlist bytes)) k) (depth (netlist bytes)) 0 → seen ≡ true → deep ≡ cond (any (isOutput (netlist bytes)) (k + 1)) (depth (netlist bytes)) 0
+    deep-before deep d t = d ∙ rw (← s, ← seen-before t, t)
+
+    module _ (kind : ℕ) (e : kind ≡ recordAt bytes k .kind) (f : seen ≡ false) where
+      pub seen-here : eqb kind output ≡ any (isOutput (netlist bytes)) (k + 1)
+      unfolding any
+      seen-here = rw (add-one k, ← s, f, e)
+
+      pub deep-here : (level : ℕ) → k < recordCount bytes → kind ≡ output → level ≡ recordAt bytes k .level → level ≡ cond (any (isOutput (netlist bytes)) (k + 1)) (depth (netlist bytes)) 0
+      deep-here level l o y =
+          depth-here bytes (recordCount bytes) refl k kind level (unseen k (omega arith) (sym s ∙ f)) l e o y
+          ∙ rw (← seen-here, eq-eqb kind output o)
+
+      pub deep-other : (deep : ℕ) → deep ≡ cond (any (isOutput (netlist bytes)) k) (depth (netlist bytes)) 0 → (kind ≡ output → ⊥) → deep ≡ cond (any (isOutput (netlist bytes)) (k + 1)) (depth (netlist bytes)) 0
+      deep-other deep d o = d ∙ rw (← s, f, ← seen-here, ne-eqb kind output o)
+
+  -- the level met so far serves record k as D: it is D where the record is an output, and no other record is held to it
+  pub deep-serves : (deep : ℕ) → deep ≡ cond (any (isOutput (netlist bytes)) (k + 1)) (depth (netlist bytes)) 0 → misplaced deep (recordAt bytes k) ≡ misplaced (depth (netlist bytes)) (recordAt bytes k)
+  unfolding any
+  deep-serves deep d = go (isOutput (netlist bytes) k) refl
+    where
+      go : (b : Bool) → isOutput (netlist bytes) k ≡ b → misplaced deep (recordAt bytes k) ≡ misplaced (depth (netlist bytes)) (recordAt bytes k)
+      go true o = ap (λ (x : ℕ). misplaced x (recordAt bytes k)) (d ∙ rw (add-one k, o, or-r (met k) true refl))
+      go false o = rw o
+
 module _ (m : Netlist) (k : ℕ) (r : Record) where
-  pub kind-bad : output < r .kind → Refused 4 k ≡ structureOf m k r
-  kind-bad h = rw (lt-ltb output (r .kind) h)
+  module _ (kind : ℕ) (i : kind ≡ r .kind) where
+    pub kind-bad : output < kind → Refused 4 k ≡ structureOf m k r
+    kind-bad h = rw (← i, lt-ltb output kind h)
 
-  module _ (kind : r .kind ≤ output) (x : ℕ) (e : x ≡ 2 ^ invertible (r .kind)) where
-    pub inversion-bad : x ≤ r .inversion → Refused 5 k ≡ structureOf m k r
-    inversion-bad h = rw (le-ltb output (r .kind) kind, ← e, le-leb x (r .inversion) h)
+    module _ (l : kind ≤ output) (x y : ℕ) (e : x ≡ 2 ^ invertible kind) (f : y ≡ r .inversion) where
+      pub inversion-bad : x ≤ y → Refused 5 k ≡ structureOf m k r
+      inversion-bad h = rw (← i, ← f, le-ltb output kind l, ← e, le-leb x y h)
 
-    pub slots-bad : (b : Bool) → r .inversion < x → b ≡ badSlots m k r → b ≡ true → Refused 6 k ≡ structureOf m k r
-    slots-bad b h f t = rw (le-ltb output (r .kind) kind, ← e, lt-leb x (r .inversion) h, ← f, t)
+      pub slots-bad : (b : Bool) → y < x → b ≡ badSlots m k r → b ≡ true → Refused 6 k ≡ structureOf m k r
+      slots-bad b h g t = go (sym g ∙ t)
+        where
+          go : badSlots m k r ≡ true → Refused 6 k ≡ structureOf m k r
+          go s = rw (s, ← i, ← f, le-ltb output kind l, ← e, lt-leb x y h)
 
-    pub structure-good : (b : Bool) → r .inversion < x → b ≡ badSlots m k r → b ≡ false → Passed ≡ structureOf m k r
-    structure-good b h f t = rw (le-ltb output (r .kind) kind, ← e, lt-leb x (r .inversion) h, ← f, t)
+      pub structure-good : (b : Bool) → y < x → b ≡ badSlots m k r → b ≡ false → Passed ≡ structureOf m k r
+      structure-good b h g t = go (sym g ∙ t)
+        where
+          go : badSlots m k r ≡ false → Passed ≡ structureOf m k r
+          go s = rw (s, ← i, ← f, le-ltb output kind l, ← e, lt-leb x y h)
 
-  module _ (deep : ℕ) (d : deep ≡ depth m) (b : Bool) (e : b ≡ misplaced deep r) where
+  module _ (deep : ℕ) (d : misplaced deep r ≡ misplaced (depth m) r) (b : Bool) (e : b ≡ misplaced deep r) where
     pub misplaced-bad : b ≡ true → Refused 7 k ≡ levelOf m k r
     misplaced-bad t = rw (← d, ← e, t)
 
@@ -126,12 +210,18 @@ module _ (m : Netlist) (k : ℕ) (r : Record) where
     pub level-good : (f : Bool) → b ≡ false → f ≡ any (notBelow m r) slots → f ≡ false → Passed ≡ levelOf m k r
     level-good f t g u = rw (← d, ← e, t, ← g, u)
 
-  module _ (here : r ≡ m .at k) (a : Checked) (e : a ≡ structureOf m k r) where
-    pub record-level : (b : Checked) → a ≡ Passed → b ≡ levelOf m k r → b ≡ recordChecks m k
-    record-level b p f = f ∙ rw (← here, ← e, p)
+module _ (bytes : List ℕ) (k : ℕ) (a : Checked) (e : a ≡ structureOf (netlist bytes) k (recordAt bytes k)) where
+  -- where checks 4 to 6 pass, no slot is bad
+  pub slots-good : a ≡ Passed → badSlots (netlist bytes) k (recordAt bytes k) ≡ false
+  slots-good p =
+      let h = then-passed (check 4 k (badKind (recordAt bytes k))) _ .0 (sym e ∙ p) .1 in
+      check-passed 6 k (badSlots (netlist bytes) k (recordAt bytes k)) .0 (then-passed (check 5 k (badInversion (recordAt bytes k))) _ .0 h .1)
 
-    pub record-structure : (number place : ℕ) → a ≡ Refused number place → Refused number place ≡ recordChecks m k
-    record-structure number place p = rw (← here, ← e, p)
+  pub record-level : (b : Checked) → a ≡ Passed → b ≡ levelOf (netlist bytes) k (recordAt bytes k) → b ≡ recordChecks (netlist bytes) k
+  record-level b p f = f ∙ rw (← e, p)
+
+  pub record-structure : (number place : ℕ) → a ≡ Refused number place → Refused number place ≡ recordChecks (netlist bytes) k
+  record-structure number place p = rw (← e, p)
 
 module _ (bytes : List ℕ) where
   pub length-ragged : (length bytes % width ≡ 0 → ⊥) → Refused 2 0 ≡ sourceChecks bytes

@@ -8,8 +8,9 @@ use lib.ListN.{length, getD, take, drop, length-take, length-drop, List·getD-eq
 use lib.Seq.{getD-take, getD-drop}
 use borrow.Author.Tests.{lt-ltb, le-ltb}
 use Rattle.netlist.specs.declared.Record.{Record}
-use Rattle.netlist.specs.Kinds.{width, arities, arity}
-use Rattle.netlist.specs.Records.{field, decode, blank, recordCount, recordBytes, recordAt}
+use Rattle.netlist.specs.Kinds.{width, slots, unused, arities, arity}
+use Rattle.netlist.specs.Records.{tabulate, field, decode, blank, slot, recordCount, recordBytes, recordAt}
+use Rattle.netlist.proofs.Lists.{getD-tabulate}
 
 -- a kind past the table uses no slot
 pub no-arity : (kind : ℕ) → 6 ≤ kind → 0 ≡ arity kind
@@ -45,6 +46,13 @@ getD-any (x ∷ l) (suc i) d e h = getD-any l i d e (omega arith)
 pub getD-past : (l : List ℕ) (n i d : ℕ) → length l ≡ n → n ≤ i → d ≡ getD l i d
 getD-past l n i d e h = sym (List·getD-eq-default l d (omega arith))
 
+-- every slot of a blank record is unused
+blank-slot : (j : ℕ) → unused ≡ slot blank j
+blank-slot zero = refl
+blank-slot (suc zero) = refl
+blank-slot (suc (suc zero)) = refl
+blank-slot (suc (suc (suc j))) = refl
+
 module _ (bytes : List ℕ) (k : ℕ) where
   -- a part as code cuts it, as the definition has it
   pub part-record : take (width * k + width - width * k) (drop (width * k) bytes) ≡ recordBytes bytes k
@@ -68,6 +76,27 @@ module _ (bytes : List ℕ) (k : ℕ) where
       (byte-inside at (omega arith))
       (byte-inside (at + 1) h ∙ ap (λ (i : ℕ). getD bytes i 0) (sym (add-assoc (width * k) at 1)))
 
+  -- a field of record k where it stands in the whole
+  module _ (h : k < recordCount bytes) where
+    pub kind-inside : getD bytes (width * k) 0 ≡ recordAt bytes k .kind
+    kind-inside =
+        ap (λ (i : ℕ). getD bytes i 0) (sym (add-zero (width * k)))
+        ∙ sym (byte-inside 0 (omega arith))
+        ∙ ap (λ (r : Record). r .kind) (sym (record-inside h))
+
+    pub inversion-inside : getD bytes (width * k + 1) 0 ≡ recordAt bytes k .inversion
+    inversion-inside = sym (byte-inside 1 (omega arith)) ∙ ap (λ (r : Record). r .inversion) (sym (record-inside h))
+
+    pub level-inside : (x : ℕ) → x ≡ field bytes (width * k + 2) → x ≡ recordAt bytes k .level
+    level-inside x p = p ∙ sym (field-inside 2 (omega arith)) ∙ ap (λ (r : Record). r .level) (sym (record-inside h))
+
+    pub slot-inside : (j x : ℕ) → j < slots → x ≡ field bytes (width * k + (4 + 2 * j)) → x ≡ slot (recordAt bytes k) j
+    slot-inside j x l p =
+        p
+        ∙ sym (field-inside (4 + 2 * j) (omega arith))
+        ∙ sym (getD-tabulate (λ i. field (recordBytes bytes k) (4 + 2 * i)) slots j unused l)
+        ∙ ap (λ (r : Record). slot r j) (sym (record-inside h))
+
   -- what the code has of record k, where n is the count that it found
   module _ (n : ℕ) (e : n ≡ recordCount bytes) where
     pub part-length : (part : List ℕ) → k < n → part ≡ recordBytes bytes k → length part ≡ width
@@ -77,21 +106,20 @@ module _ (bytes : List ℕ) (k : ℕ) where
     pub read-inside : (part : List ℕ) (r : Record) → k < n → part ≡ recordBytes bytes k → r ≡ decode part → r ≡ recordAt bytes k
     read-inside part r h p q = q ∙ ap decode p ∙ sym (record-inside (rw e at h))
 
-    pub read-past : (r : Record) → n ≤ k → r ≡ blank → r ≡ recordAt bytes k
-    read-past r h p = p ∙ sym (record-past (rw e at h))
+    pub slot-beyond : (j : ℕ) → k < n → slots ≤ j → unused ≡ slot (recordAt bytes k) j
+    slot-beyond j h l =
+        getD-past (tabulate (λ i. field (recordBytes bytes k) (4 + 2 * i)) slots) slots j unused refl l
+        ∙ ap (λ (r : Record). slot r j) (sym (record-inside (rw e at h)))
 
-    pub kind-inside : k < n → getD bytes (width * k) 0 ≡ recordAt bytes k .kind
-    kind-inside h =
-        ap (λ (i : ℕ). getD bytes i 0) (sym (add-zero (width * k)))
-        ∙ sym (byte-inside 0 (omega arith))
-        ∙ ap (λ (r : Record). r .kind) (sym (record-inside (rw e at h)))
+    module _ (h : n ≤ k) where
+      pub read-past : (r : Record) → r ≡ blank → r ≡ recordAt bytes k
+      read-past r p = p ∙ sym (record-past (rw e at h))
 
-    pub level-inside : (x : ℕ) → k < n → x ≡ field bytes (width * k + 2) → x ≡ recordAt bytes k .level
-    level-inside x h p =
-        p ∙ sym (field-inside 2 (omega arith)) ∙ ap (λ (r : Record). r .level) (sym (record-inside (rw e at h)))
+      pub kind-past : blank .kind ≡ recordAt bytes k .kind
+      kind-past = ap (λ (r : Record). r .kind) (sym (record-past (rw e at h)))
 
-    pub kind-past : n ≤ k → blank .kind ≡ recordAt bytes k .kind
-    kind-past h = ap (λ (r : Record). r .kind) (sym (record-past (rw e at h)))
+      pub level-past : blank .level ≡ recordAt bytes k .level
+      level-past = ap (λ (r : Record). r .level) (sym (record-past (rw e at h)))
 
-    pub level-past : n ≤ k → blank .level ≡ recordAt bytes k .level
-    level-past h = ap (λ (r : Record). r .level) (sym (record-past (rw e at h)))
+      pub slot-past : (j : ℕ) → unused ≡ slot (recordAt bytes k) j
+      slot-past j = blank-slot j ∙ ap (λ (r : Record). slot r j) (sym (record-past (rw e at h)))

@@ -1,12 +1,13 @@
 // Records of ten bytes, the source reader (checks 1 to 7) and the record view.
 ghost use mathlib.Core.Path.{_≡_};
+ghost use mathlib.Core.Bool.{false, cond};
 ghost use Prim.Native.Nat.{_+_, _^_, _<_};
 ghost use lib.ListN.{length};
 ghost use Rattle.facts.specs.Checks.{scan};
 ghost use Rattle.facts.specs.Sums.{any};
 ghost use Rattle.netlist.specs.Kinds.{width, slots, invertible, isGate, isDriver};
 ghost use Rattle.netlist.specs.Kinds;
-ghost use Rattle.netlist.specs.Records.{field, decode, recordAt, recordCount, recordBytes, netlist};
+ghost use Rattle.netlist.specs.Records.{field, decode, recordAt, recordCount, recordBytes, netlist, isOutput};
 ghost use Rattle.netlist.specs.Records;
 ghost use Rattle.netlist.specs.Checks.{
   badSlot,
@@ -154,12 +155,45 @@ pub fn slot(r: Record, j: usize) -> u16
     if j < SLOTS { slots[j] } else { UNUSED }
 }
 
+// The kind of a record within the end.
+fn kind_of(bytes: &[u8], k: usize) -> u8
+    requires { ⌜ k < recordCount (now bytes) ⌝ }
+    ensures { λ r. ⌜ r ≡ recordAt (now (bytes .entry)) k .kind ⌝ }
+{
+    bytes[WIDTH * k]
+}
+
+// The inversion byte of a record within the end.
+fn inversion_of(bytes: &[u8], k: usize) -> u8
+    requires { ⌜ k < recordCount (now bytes) ⌝ }
+    ensures { λ r. ⌜ r ≡ recordAt (now (bytes .entry)) k .inversion ⌝ }
+{
+    bytes[WIDTH * k + 1]
+}
+
+// The level of a record within the end.
+fn level_of(bytes: &[u8], k: usize) -> u16
+    requires { ⌜ k < recordCount (now bytes) ⌝ }
+    ensures { λ r. ⌜ r ≡ recordAt (now (bytes .entry)) k .level ⌝ }
+{
+    two_bytes(bytes, WIDTH * k + 2)
+}
+
+// Slot j of a record within the end.
+fn slot_of(bytes: &[u8], k: usize, j: usize) -> u16
+    requires { ⌜ k < recordCount (now bytes) ⌝ }
+    requires { ⌜ j < slots ⌝ }
+    ensures { λ r. ⌜ r ≡ Records.slot (recordAt (now (bytes .entry)) k) j ⌝ }
+{
+    two_bytes(bytes, WIDTH * k + (4 + 2 * j))
+}
+
 // The kind of record k.
 pub fn kind_at(bytes: &[u8], k: usize) -> u8
     ensures { λ r. ⌜ r ≡ recordAt (now (bytes .entry)) k .kind ⌝ }
 {
     if k < record_count(bytes) {
-        bytes[WIDTH * k]
+        kind_of(bytes, k)
     } else {
         ABSENT
     }
@@ -170,7 +204,7 @@ pub fn level_at(bytes: &[u8], k: usize) -> u16
     ensures { λ r. ⌜ r ≡ recordAt (now (bytes .entry)) k .level ⌝ }
 {
     if k < record_count(bytes) {
-        two_bytes(bytes, WIDTH * k + 2)
+        level_of(bytes, k)
     } else {
         0
     }
@@ -180,7 +214,14 @@ pub fn level_at(bytes: &[u8], k: usize) -> u16
 pub fn slot_at(bytes: &[u8], k: usize, j: usize) -> u16
     ensures { λ r. ⌜ r ≡ Records.slot (recordAt (now (bytes .entry)) k) j ⌝ }
 {
-    slot(record_at(bytes, k), j)
+    if record_count(bytes) <= k {
+        return UNUSED;
+    }
+    if j < SLOTS {
+        slot_of(bytes, k, j)
+    } else {
+        UNUSED
+    }
 }
 
 // D: the level of the first output, 0 without outputs.
@@ -209,26 +250,31 @@ fn inversions(kind: u8) -> u8
 }
 
 // Check 6 of slot j of record k.
-fn bad_slot(bytes: &[u8], k: u32, r: Record, j: usize) -> bool
-    ensures { λ b. ⌜ b ≡ badSlot (netlist (now (bytes .entry))) k r j ⌝ }
+fn bad_slot(bytes: &[u8], k: usize, used: usize, j: usize) -> bool
+    requires { ⌜ k < recordCount (now bytes) ⌝ }
+    requires { ⌜ used ≡ Kinds.arity (recordAt (now bytes) k .kind) ⌝ }
+    requires { ⌜ j < slots ⌝ }
+    ensures { λ b. ⌜ b ≡ badSlot (netlist (now (bytes .entry))) k (recordAt (now (bytes .entry)) k) j ⌝ }
 {
-    let target = slot(r, j);
-    if j < arity(r.kind) {
-        if k <= target as u32 {
+    let target = slot_of(bytes, k, j);
+    if j < used {
+        if k <= target as usize {
             return true;
         }
-        return kind_at(bytes, target as usize) == OUTPUT;
+        return kind_of(bytes, target as usize) == OUTPUT;
     }
     target != UNUSED
 }
 
 // Check 6 of record k: some slot is bad.
-fn bad_slots(bytes: &[u8], k: u32, r: Record) -> bool
-    ensures { λ b. ⌜ b ≡ badSlots (netlist (now (bytes .entry))) k r ⌝ }
+fn bad_slots(bytes: &[u8], k: usize, used: usize) -> bool
+    requires { ⌜ k < recordCount (now bytes) ⌝ }
+    requires { ⌜ used ≡ Kinds.arity (recordAt (now bytes) k .kind) ⌝ }
+    ensures { λ b. ⌜ b ≡ badSlots (netlist (now (bytes .entry))) k (recordAt (now (bytes .entry)) k) ⌝ }
 {
     let mut j: usize = 0;
     while j < SLOTS {
-        if bad_slot(bytes, k, r, j) {
+        if bad_slot(bytes, k, used, j) {
             return true;
         }
         j += 1;
@@ -237,23 +283,29 @@ fn bad_slots(bytes: &[u8], k: u32, r: Record) -> bool
 }
 
 // Check 7 of one slot: a fanin that does not stand below the record.
-fn not_below(bytes: &[u8], r: Record, j: usize) -> bool
-    ensures { λ b. ⌜ b ≡ notBelow (netlist (now (bytes .entry))) r j ⌝ }
+fn not_below(bytes: &[u8], k: usize, used: usize, j: usize) -> bool
+    requires { ⌜ k < recordCount (now bytes) ⌝ }
+    requires { ⌜ used ≡ Kinds.arity (recordAt (now bytes) k .kind) ⌝ }
+    requires { ⌜ badSlots (netlist (now bytes)) k (recordAt (now bytes) k) ≡ false ⌝ }
+    ensures { λ b. ⌜ b ≡ notBelow (netlist (now (bytes .entry))) (recordAt (now (bytes .entry)) k) j ⌝ }
 {
-    if j < arity(r.kind) {
-        r.level <= level_at(bytes, slot(r, j) as usize)
+    if j < used {
+        level_of(bytes, k) <= level_of(bytes, slot_of(bytes, k, j) as usize)
     } else {
         false
     }
 }
 
 // Check 7 of the slots: some fanin does not stand below the record.
-fn any_not_below(bytes: &[u8], r: Record) -> bool
-    ensures { λ b. ⌜ b ≡ any (notBelow (netlist (now (bytes .entry))) r) slots ⌝ }
+fn any_not_below(bytes: &[u8], k: usize, used: usize) -> bool
+    requires { ⌜ k < recordCount (now bytes) ⌝ }
+    requires { ⌜ used ≡ Kinds.arity (recordAt (now bytes) k .kind) ⌝ }
+    requires { ⌜ badSlots (netlist (now bytes)) k (recordAt (now bytes) k) ≡ false ⌝ }
+    ensures { λ b. ⌜ b ≡ any (notBelow (netlist (now (bytes .entry))) (recordAt (now (bytes .entry)) k)) slots ⌝ }
 {
     let mut j: usize = 0;
     while j < SLOTS {
-        if not_below(bytes, r, j) {
+        if not_below(bytes, k, used, j) {
             return true;
         }
         j += 1;
@@ -262,71 +314,130 @@ fn any_not_below(bytes: &[u8], r: Record) -> bool
 }
 
 // Check 7 of the record's own level.
-fn is_misplaced(deep: u16, r: Record) -> bool
-    ensures { λ b. ⌜ b ≡ misplaced deep r ⌝ }
+fn is_misplaced(bytes: &[u8], deep: u16, k: usize) -> bool
+    requires { ⌜ k < recordCount (now bytes) ⌝ }
+    ensures { λ b. ⌜ b ≡ misplaced deep (recordAt (now (bytes .entry)) k) ⌝ }
 {
-    if TOP_LEVEL < r.level {
+    let kind = kind_of(bytes, k);
+    let level = level_of(bytes, k);
+    if TOP_LEVEL < level {
         return true;
     }
-    if r.kind == INPUT {
-        return r.level != 0;
+    if kind == INPUT {
+        return level != 0;
     }
-    if r.kind == OUTPUT {
-        return r.level != deep;
+    if kind == OUTPUT {
+        return level != deep;
     }
     false
 }
 
 // Checks 4 to 6 of record k.
-fn check_structure(bytes: &[u8], k: u32, r: Record) -> Checked
-    ensures { λ a. ⌜ a ≡ structureOf (netlist (now (bytes .entry))) k r ⌝ }
+fn check_structure(bytes: &[u8], k: u32, used: usize) -> Checked
+    requires { ⌜ k < recordCount (now bytes) ⌝ }
+    requires { ⌜ used ≡ Kinds.arity (recordAt (now bytes) k .kind) ⌝ }
+    ensures { λ a. ⌜ a ≡ structureOf (netlist (now (bytes .entry))) k (recordAt (now (bytes .entry)) k) ⌝ }
 {
-    if OUTPUT < r.kind {
+    let kind = kind_of(bytes, k as usize);
+    if OUTPUT < kind {
         return Checked::Refused(4, k);
     }
-    if inversions(r.kind) <= r.inversion {
+    if inversions(kind) <= inversion_of(bytes, k as usize) {
         return Checked::Refused(5, k);
     }
-    if bad_slots(bytes, k, r) {
+    if bad_slots(bytes, k as usize, used) {
         return Checked::Refused(6, k);
     }
     Checked::Passed
 }
 
-// Check 7 of record k, in a netlist whose first output stands at deep.
-fn check_level(bytes: &[u8], deep: u16, k: u32, r: Record) -> Checked
-    requires { ⌜ deep ≡ Records.depth (netlist (now bytes)) ⌝ }
-    ensures { λ a. ⌜ a ≡ levelOf (netlist (now (bytes .entry))) k r ⌝ }
+// Check 7 of record k, with the level of the first output in deep if record k is an output.
+fn check_level(bytes: &[u8], deep: u16, k: u32, used: usize) -> Checked
+    requires { ⌜ k < recordCount (now bytes) ⌝ }
+    requires { ⌜ used ≡ Kinds.arity (recordAt (now bytes) k .kind) ⌝ }
+    requires { ⌜ badSlots (netlist (now bytes)) k (recordAt (now bytes) k) ≡ false ⌝ }
+    requires { ⌜ misplaced deep (recordAt (now bytes) k) ≡ misplaced (Records.depth (netlist (now bytes))) (recordAt (now bytes) k) ⌝ }
+    ensures { λ a. ⌜ a ≡ levelOf (netlist (now (bytes .entry))) k (recordAt (now (bytes .entry)) k) ⌝ }
 {
-    if is_misplaced(deep, r) {
+    if is_misplaced(bytes, deep, k as usize) {
         return Checked::Refused(7, k);
     }
-    if any_not_below(bytes, r) {
+    if any_not_below(bytes, k as usize, used) {
         return Checked::Refused(7, k);
     }
     Checked::Passed
 }
 
-// Checks 4 to 7 of record k.
-fn check_record(bytes: &[u8], deep: u16, k: u32) -> Checked
-    requires { ⌜ deep ≡ Records.depth (netlist (now bytes)) ⌝ }
+// Checks 4 to 7 of record k, whose kind uses so many slots.
+fn check_used(bytes: &[u8], deep: u16, k: u32, used: usize) -> Checked
+    requires { ⌜ k < recordCount (now bytes) ⌝ }
+    requires { ⌜ used ≡ Kinds.arity (recordAt (now bytes) k .kind) ⌝ }
+    requires { ⌜ misplaced deep (recordAt (now bytes) k) ≡ misplaced (Records.depth (netlist (now bytes))) (recordAt (now bytes) k) ⌝ }
     ensures { λ a. ⌜ a ≡ recordChecks (netlist (now (bytes .entry))) k ⌝ }
 {
-    let r = record_at(bytes, k as usize);
-    let structure = check_structure(bytes, k, r);
+    let structure = check_structure(bytes, k, used);
     match structure {
-        Checked::Passed => check_level(bytes, deep, k, r),
+        Checked::Passed => check_level(bytes, deep, k, used),
         Checked::Refused(number, place) => Checked::Refused(number, place),
     }
 }
 
+// Checks 4 to 7 of record k.
+fn check_record(bytes: &[u8], deep: u16, k: u32) -> Checked
+    requires { ⌜ k < recordCount (now bytes) ⌝ }
+    requires { ⌜ misplaced deep (recordAt (now bytes) k) ≡ misplaced (Records.depth (netlist (now bytes))) (recordAt (now bytes) k) ⌝ }
+    ensures { λ a. ⌜ a ≡ recordChecks (netlist (now (bytes .entry))) k ⌝ }
+{
+    match kind_of(bytes, k as usize) {
+        INPUT => check_used(bytes, deep, k, arity(INPUT)),
+        AND => check_used(bytes, deep, k, arity(AND)),
+        OR => check_used(bytes, deep, k, arity(OR)),
+        MAJORITY => check_used(bytes, deep, k, arity(MAJORITY)),
+        OUTPUT => check_used(bytes, deep, k, arity(OUTPUT)),
+        _ => Checked::Refused(4, k),
+    }
+}
+
+// Whether record k or one before it is an output.
+fn output_seen(bytes: &[u8], k: usize, seen: bool) -> bool
+    requires { ⌜ k < recordCount (now bytes) ⌝ }
+    requires { ⌜ seen ≡ any (isOutput (netlist (now bytes))) k ⌝ }
+    ensures { λ b. ⌜ b ≡ any (isOutput (netlist (now (bytes .entry)))) (k + 1) ⌝ }
+{
+    if seen {
+        return true;
+    }
+    kind_of(bytes, k) == OUTPUT
+}
+
+// The level of the first output, 0 until one is seen.
+fn first_level(bytes: &[u8], k: usize, seen: bool, deep: u16) -> u16
+    requires { ⌜ k < recordCount (now bytes) ⌝ }
+    requires { ⌜ seen ≡ any (isOutput (netlist (now bytes))) k ⌝ }
+    requires { ⌜ deep ≡ cond (any (isOutput (netlist (now bytes))) k) (Records.depth (netlist (now bytes))) 0 ⌝ }
+    ensures { λ r. ⌜ r ≡ cond (any (isOutput (netlist (now (bytes .entry)))) (k + 1)) (Records.depth (netlist (now (bytes .entry)))) 0 ⌝ }
+{
+    if seen {
+        return deep;
+    }
+    if kind_of(bytes, k) == OUTPUT {
+        level_of(bytes, k)
+    } else {
+        deep
+    }
+}
+
 // Checks 4 to 7 of every record, rising.
-fn check_records(bytes: &[u8], deep: u16, n: u32) -> Checked
-    requires { ⌜ deep ≡ Records.depth (netlist (now bytes)) ⌝ }
+fn check_records(bytes: &[u8], n: u32) -> Checked
+    requires { ⌜ n ≡ recordCount (now bytes) ⌝ }
     ensures { λ a. ⌜ a ≡ scan (recordChecks (netlist (now (bytes .entry)))) 0 n ⌝ }
 {
+    let mut deep: u16 = 0;
+    let mut seen = false;
     let mut k: u32 = 0;
     while k < n {
+        deep = first_level(bytes, k as usize, seen, deep);
+        seen = output_seen(bytes, k as usize, seen);
         let checked = check_record(bytes, deep, k);
         match checked {
             Checked::Passed => {}
@@ -350,7 +461,7 @@ pub fn check_source(bytes: &[u8]) -> Checked
     if SOURCE_LIMIT < n {
         return Checked::Refused(3, 0);
     }
-    check_records(bytes, depth(bytes), n as u32)
+    check_records(bytes, n as u32)
 }
 
 // What every call with a capacity checks first: 1 to 7.

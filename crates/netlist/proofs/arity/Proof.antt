@@ -1,6 +1,6 @@
 -- `arity` meets its contract: by the kinds that its arms name.
-use Rattle.netlist.proofs.Records.{two-slots, one-slot, no-slot, no-arity}
 use borrow.Author.Needs.{needs}
+use Rattle.netlist.proofs.Records.{two-slots, one-slot, no-slot, no-arity}
 use Rattle.netlist.proofs.arity.Statement.{statement}
 use Rattle.netlist.proofs.arity.Tie as tie
 

@@ -1,38 +1,78 @@
--- `check_record` meets its contract: the structure is checked first, the level where it passed.
+-- `check_record` meets its contract: each arm knows the kind, and by it how many slots are used.
 use borrow.Author.Needs.{needs}
-use Rattle.netlist.proofs.Checks.{record-level, record-structure}
+use Rattle.netlist.proofs.Checks.{these-slots, other-kind}
 use Rattle.netlist.proofs.check_record.Statement.{statement}
 use Rattle.netlist.proofs.check_record.Tie as tie
 
-record-at-requires : tie.Need-record-at-requires
-record-at-requires c κs = search needs
+kind-of-requires : tie.Need-kind-of-requires
+kind-of-requires c κs = search needs
 
-check-structure-requires : tie.Need-check-structure-requires
-check-structure-requires c κs = search needs
+arity-requires : tie.Need-arity-requires
+arity-requires c κs = search needs
 
-enum-told : tie.Need-enum-told
-enum-told c = search needs
+check-used-requires : tie.Need-check-used-requires
+check-used-requires c κs = search (needs, these-slots)
 
-check-level-requires : tie.Need-check-level-requires
-check-level-requires c κs = search needs
+arity-requires-2 : tie.Need-arity-requires-2
+arity-requires-2 c κs = search needs
 
-enum-known-structure : tie.Need-enum-known-structure
-enum-known-structure c = search needs
+check-used-requires-2 : tie.Need-check-used-requires-2
+check-used-requires-2 c κs = search (needs, these-slots)
+
+arity-requires-3 : tie.Need-arity-requires-3
+arity-requires-3 c κs = search needs
+
+check-used-requires-3 : tie.Need-check-used-requires-3
+check-used-requires-3 c κs = search (needs, these-slots)
+
+arity-requires-4 : tie.Need-arity-requires-4
+arity-requires-4 c κs = search needs
+
+check-used-requires-4 : tie.Need-check-used-requires-4
+check-used-requires-4 c κs = search (needs, these-slots)
+
+arity-requires-5 : tie.Need-arity-requires-5
+arity-requires-5 c κs = search needs
+
+check-used-requires-5 : tie.Need-check-used-requires-5
+check-used-requires-5 c κs = search (needs, these-slots)
 
 returns : tie.Need-returns
-returns c = search record-level
+returns c = search needs
 
 returns-2 : tie.Need-returns-2
-returns-2 c = search record-structure
+returns-2 c = search needs
+
+returns-3 : tie.Need-returns-3
+returns-3 c = search needs
+
+returns-4 : tie.Need-returns-4
+returns-4 c = search needs
+
+returns-5 : tie.Need-returns-5
+returns-5 c = search needs
+
+returns-6 : tie.Need-returns-6
+returns-6 c = search other-kind
 
 pub check-record-spec : {M : Type 1} → statement M
 check-record-spec =
     tie.close
     (tie.spec
-    record-at-requires
-    check-structure-requires
-    enum-told
-    check-level-requires
-    enum-known-structure
+    kind-of-requires
+    arity-requires
+    check-used-requires
+    arity-requires-2
+    check-used-requires-2
+    arity-requires-3
+    check-used-requires-3
+    arity-requires-4
+    check-used-requires-4
+    arity-requires-5
+    check-used-requires-5
     returns
-    returns-2)
+    returns-2
+    returns-3
+    returns-4
+    returns-5
+    returns-6)

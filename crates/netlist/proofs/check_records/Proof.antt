@@ -1,23 +1,42 @@
--- `check_records` meets its contract: the answer from k on is the answer.
+-- `check_records` meets its contract: the answer from k on is the answer, and the first output below k gave the level.
 use Prim.Native.Nat.{_-_}
+use mathlib.Core.Path.{_≡_}
+use mathlib.Core.Bool.{cond}
 use borrow.Author.Needs.{needs}
+use Rattle.facts.specs.Sums.{any}
 use Rattle.facts.proofs.Loops.{Scanning, scan-start, scan-more, scan-stop, scan-end}
-use Rattle.netlist.specs.Records.{netlist}
+use Rattle.netlist.specs.Records.{netlist, isOutput, depth}
 use Rattle.netlist.specs.Checks.{recordChecks}
+use Rattle.netlist.proofs.Checks.{seen-start, deep-start, deep-serves}
 use Rattle.netlist.proofs.check_records.Statement.{statement}
 use Rattle.netlist.proofs.check_records.Tie as tie
 
 abbrev Inv-loop : tie.InvT-loop
-Inv-loop bytes deep n k₀ k = Scanning (recordChecks (netlist bytes)) n k
+Inv-loop bytes n deep₀ seen₀ k₀ deep seen k =
+    (seen ≡ any (isOutput (netlist bytes)) k)
+    × (deep ≡ cond (any (isOutput (netlist bytes)) k) (depth (netlist bytes)) 0)
+    × Scanning (recordChecks (netlist bytes)) n k
 
 abbrev μ-loop : tie.MeasureT-loop
-μ-loop bytes deep n k₀ k = n - k
+μ-loop bytes n deep₀ seen₀ k₀ deep seen k = n - k
 
 loop-holds : tie.Need-loop-holds Inv-loop μ-loop
-loop-holds c = search scan-start
+loop-holds c = search (needs, seen-start, deep-start, scan-start)
+
+cast-first-level : tie.Need-cast-first-level Inv-loop μ-loop
+cast-first-level c = search needs
+
+first-level-requires : tie.Need-first-level-requires Inv-loop μ-loop
+first-level-requires c κs = search needs
+
+cast-output-seen : tie.Need-cast-output-seen Inv-loop μ-loop
+cast-output-seen c = search needs
+
+output-seen-requires : tie.Need-output-seen-requires Inv-loop μ-loop
+output-seen-requires c κs = search needs
 
 check-record-requires : tie.Need-check-record-requires Inv-loop μ-loop
-check-record-requires c κs = search needs
+check-record-requires c κs = search (needs, deep-serves)
 
 enum-told : tie.Need-enum-told Inv-loop μ-loop
 enum-told c = search needs
@@ -35,7 +54,7 @@ loop-less : tie.Need-loop-less Inv-loop μ-loop
 loop-less c = search needs
 
 loop-again : tie.Need-loop-again Inv-loop μ-loop
-loop-again c = search scan-more
+loop-again c = (search needs, search needs, scan-more _ _ _ _ (search needs) (search needs) (c .before .before .check-record .ensures) (search needs))
 
 returns-2 : tie.Need-returns-2 Inv-loop μ-loop
 returns-2 c = search scan-end
@@ -47,6 +66,10 @@ check-records-spec =
     Inv-loop
     μ-loop
     loop-holds
+    cast-first-level
+    first-level-requires
+    cast-output-seen
+    output-seen-requires
     check-record-requires
     enum-told
     enum-known-checked

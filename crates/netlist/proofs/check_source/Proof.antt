@@ -13,9 +13,6 @@ record-count-requires c κs = search needs
 returns-2 : tie.Need-returns-2
 returns-2 c = search length-large
 
-depth-requires : tie.Need-depth-requires
-depth-requires c κs = search needs
-
 cast-check-records : tie.Need-cast-check-records
 cast-check-records c = search needs
 
@@ -32,7 +29,6 @@ check-source-spec =
     returns
     record-count-requires
     returns-2
-    depth-requires
     cast-check-records
     check-records-requires
     returns-3)
