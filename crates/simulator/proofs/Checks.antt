@@ -22,6 +22,8 @@ use Rattle.verifier.specs.Checks.{verifyChecks}
 use Rattle.verifier.proofs.Accepted.{checks-passed}
 use Rattle.simulator.specs.Logic.{isInput, inputs, outputs, values}
 use Rattle.simulator.specs.Evaluate.{bitCheck, bitChecks, badAreas, evaluateChecks, evaluateAnswer, evaluateArea}
+use Rattle.netlist.specs.Source.{IsSource}
+use Rattle.verifier.specs.Legal.{Named}
 use Rattle.simulator.specs.Step.{rowLimit, badRows, stepped, Buffered, stepChecks, stepAnswer, stepArea}
 use Rattle.simulator.specs.Run.{after, steps, outputRows, badOutputs, runChecks, runAnswer, runArea, runOutputs}
 use Rattle.simulator.specs.Waves.{IsRun}
@@ -78,6 +80,9 @@ module _ (source row area : List ℕ) (a : Checked) where
   evaluate-areas b e h q = rw (← e, h) q
 
   module _ (e : a ≡ evaluateAnswer source row area) where
+    pub evaluate-source-is : a ≡ Passed → IsSource (netlist source)
+    evaluate-source-is h = evaluate-passed source row area .0 (sym e ∙ h) .0 .isSource
+
     pub evaluate-room : (n : ℕ) → a ≡ Passed → n ≡ recordCount source → length area ≡ n
     evaluate-room n h q = evaluate-passed source row area .0 (sym e ∙ h) .2 ∙ sym q
 
@@ -133,6 +138,10 @@ module _ (source mapped row area : List ℕ) (b : Bool) (e : b ≡ badRows (netl
 pub judged-few : (source : List ℕ) (s : ℕ) (mapped : List ℕ) (a : Checked) → a ≡ verifyChecks source s mapped → a ≡ Passed → recordCount source ≤ sourceLimit
 judged-few source s mapped a e h = checks-passed source s mapped .0 (sym e ∙ h) .isSource .isSource .few
 
+-- its mapped netlist's used slots name records
+pub judged-named : (source : List ℕ) (s : ℕ) (mapped : List ℕ) → verifyChecks source s mapped ≡ Passed → Named (netlist mapped)
+judged-named source s mapped e = checks-passed source s mapped .0 e .legal .named
+
 -- and from its size on the mapped netlist has buffers alone
 pub judged-buffered : (source : List ℕ) (s : ℕ) (mapped : List ℕ) → verifyChecks source s mapped ≡ Passed → Buffered mapped (recordCount source)
 judged-buffered source s mapped e =
@@ -156,6 +165,9 @@ module _ (source : List ℕ) (s : ℕ) (mapped row area : List ℕ) (a : Checked
   module _ (e : a ≡ stepAnswer source s mapped row area) where
     pub step-room : (m : ℕ) → a ≡ Passed → m ≡ recordCount mapped → length area ≡ 2 * m
     step-room m h q = step-passed source s mapped row area .0 (sym e ∙ h) .2 ∙ ap (λ (k : ℕ). 2 * k) (sym q)
+
+    pub step-named : a ≡ Passed → Named (netlist mapped)
+    step-named h = judged-named source s mapped (step-passed source s mapped row area .0 (sym e ∙ h) .0)
 
     pub step-buffered : (n : ℕ) → a ≡ Passed → n ≡ recordCount source → Buffered mapped n
     step-buffered n h q =
@@ -210,6 +222,9 @@ module _ (source : List ℕ) (s : ℕ) (mapped : List ℕ) (r : ℕ) (rows area 
 
     pub run-few : a ≡ Passed → recordCount source ≤ sourceLimit
     run-few h = judged-few source s mapped Passed (sym (run-passed source s mapped r rows area outs .0 (sym e ∙ h) .0)) refl
+
+    pub run-named : a ≡ Passed → Named (netlist mapped)
+    run-named h = judged-named source s mapped (run-passed source s mapped r rows area outs .0 (sym e ∙ h) .0)
 
     pub run-buffered : a ≡ Passed → Buffered mapped (recordCount source)
     run-buffered h = judged-buffered source s mapped (run-passed source s mapped r rows area outs .0 (sym e ∙ h) .0)

@@ -19,6 +19,7 @@ use Rattle.netlist.specs.Records
 use Rattle.simulator.specs.Logic
 use Rattle.simulator.specs.Logic.{isInput, inputs, outputs, outputsBelow, outputRow}
 use Rattle.simulator.specs.Run.{rowAt, Room, put, after, steps, outputRows}
+use Rattle.verifier.specs.Legal.{Named}
 use Rattle.simulator.specs.Step.{rowLimit, stepped, Buffered}
 use Rattle.simulator.specs.declared.Shape.{Shape}
 use Rattle.simulator.specs.Shape.{Steppable, ShapeOf, Playable}
@@ -203,6 +204,7 @@ after-more mapped w rows k row state new e f g = rw (← f, ← e) g
 -- the state area is k of the first D steps on
 pub record Warming (mapped rows : List ℕ) (w n m deep k : ℕ) (state old : List ℕ) : Type 0 where
   pub records : m ≡ recordCount mapped
+  pub named : Named (netlist mapped)
   pub buffered : Buffered mapped n
   pub narrow : w ≤ sourceLimit
   pub shallow : deep < 2 ^ 16
@@ -217,6 +219,7 @@ module _ (mapped rows : List ℕ) where
   warming-start p state s e =
       record {
         records = s .records;
+        named = s .named;
         buffered = s .buffered;
         narrow = s .narrow;
         shallow = s .shallow;
@@ -233,6 +236,7 @@ module _ (mapped rows : List ℕ) where
         let long = state-long mapped w rows (suc k) m new next (c .records) in
         record {
           records = c .records;
+          named = c .named;
           buffered = c .buffered;
           narrow = c .narrow;
           shallow = c .shallow;
@@ -250,6 +254,7 @@ module _ (mapped rows : List ℕ) where
 -- the state area is D + t steps on, and the first t output rows are written
 pub record Playing (source mapped rows : List ℕ) (count w n m deep wide t : ℕ) (state first outs old : List ℕ) : Type 0 where
   pub records : m ≡ recordCount mapped
+  pub named : Named (netlist mapped)
   pub buffered : Buffered mapped n
   pub narrow : w ≤ sourceLimit
   pub shallow : deep < 2 ^ 16
@@ -273,6 +278,7 @@ module _ (source mapped rows : List ℕ) (count : ℕ) where
       let g = s .shape in
       record {
         records = g .steps .records;
+        named = g .steps .named;
         buffered = g .steps .buffered;
         narrow = g .steps .narrow;
         shallow = g .steps .shallow;
@@ -306,6 +312,7 @@ module _ (source mapped rows : List ℕ) (count : ℕ) where
     playing-more row new out e f g =
         record {
           records = c .records;
+          named = c .named;
           buffered = c .buffered;
           narrow = c .narrow;
           shallow = c .shallow;
@@ -379,9 +386,10 @@ module _ (source mapped rows : List ℕ) (r : ℕ) (area outs : List ℕ) (run :
       nothing [] h = refl
       nothing (x ∷ xs) h = absurd (omega arith)
 
-  pub played-state : (p : Shape) (state : List ℕ) → (r ≡ 0 → ⊥) → ShapeOf source mapped p → state ≡ after (netlist mapped) (p .inputs) rows (r + p .depth) →
-      state ≡ after (netlist mapped) (Logic.inputs (netlist source)) rows (steps (netlist source) r)
-  played-state p state h s e =
-      e
-      ∙ ap₂ (λ (w d : ℕ). after (netlist mapped) w rows (r + d)) (s .inputs) (s .depth)
-      ∙ ap (λ (b : Bool). after (netlist mapped) (Logic.inputs (netlist source)) rows (cond b 0 (r + Records.depth (netlist source)))) (sym (ne-eqb r 0 h))
+-- D steps and one for each row
+pub played-state : (source mapped rows : List ℕ) (r : ℕ) (p : Shape) (state : List ℕ) → (r ≡ 0 → ⊥) → ShapeOf source mapped p → state ≡ after (netlist mapped) (p .inputs) rows (r + p .depth) →
+    state ≡ after (netlist mapped) (Logic.inputs (netlist source)) rows (steps (netlist source) r)
+played-state source mapped rows r p state h s e =
+    e
+    ∙ ap₂ (λ (w d : ℕ). after (netlist mapped) w rows (r + d)) (s .inputs) (s .depth)
+    ∙ ap (λ (b : Bool). after (netlist mapped) (Logic.inputs (netlist source)) rows (cond b 0 (r + Records.depth (netlist source)))) (sym (ne-eqb r 0 h))

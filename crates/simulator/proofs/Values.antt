@@ -6,13 +6,14 @@ use mathlib.Core.List.{List}
 use native.Mathlib.Omega.{arith}
 use native.Mathlib.Nat.{div-one, div-div-eq-div-mul, pow-suc}
 use native.Mathlib.Numerals.{add-one}
-use lib.ListN.{length, List·getD-eq-default}
+use lib.ListN.{length, getD, List·getD-eq-default}
 use lib.Dec.{leb, eqb}
 use borrow.Author.Tests.{eq-eqb, ne-eqb}
 use Rattle.facts.specs.Sums.{bit, sum, count}
 use Rattle.netlist.specs.declared.Record.{Record}
 use Rattle.netlist.specs.Kinds.{arity, input, and, majority}
 use Rattle.netlist.specs.Records.{Netlist, slot}
+use Rattle.simulator.specs.Shape.{Wired}
 use Rattle.simulator.specs.Logic.{on, ofKind, turned, threshold, onesBelow, gate, functionIn, valueIn}
 
 -- past its end an area holds 0
@@ -80,9 +81,12 @@ module _ (r : Record) (held : List ℕ) (used : ℕ) where
   summing-start =
       record { within = omega arith; few = omega arith; left = sym (div-one (r .inversion)); so-far = refl }
 
-  pub summing-more : (bits total j x one : ℕ) (v t : Bool) → Summing r held used bits total j → j < used → x ≡ slot r j → v ≡ on held x → t ≡ turned bits v → one ≡ bit t → Summing r held used (bits / 2) (total + one) (j + 1)
+  pub slot-inside : (j x : ℕ) → Wired r (length held) → used ≡ arity (r .kind) → j < used → x ≡ slot r j → x < length held
+  slot-inside j x w q h e = rw e (w .below j (rw q at h))
+
+  pub summing-more : (bits total j x y one : ℕ) (t : Bool) → Summing r held used bits total j → j < used → x ≡ slot r j → y ≡ getD held x 0 → t ≡ turned bits (not (eqb y 0)) → one ≡ bit t → Summing r held used (bits / 2) (total + one) (j + 1)
   unfolding onesBelow count sum
-  summing-more bits total j x one v t s h e f g k =
+  summing-more bits total j x y one t s h e f g k =
       record {
         within = omega arith;
         few = omega (arith, s .few, bit-le t);
@@ -97,6 +101,9 @@ module _ (r : Record) (held : List ℕ) (used : ℕ) where
 
   pub summing-fits : (bits total j one : ℕ) (t : Bool) → Summing r held used bits total j → one ≡ bit t → j < used → used < 2 ^ 64 → total + one < 2 ^ 64
   summing-fits bits total j one t s e h l = omega (arith, s .few, bit-le t)
+
+pub wired-same : (r q : Record) (n : ℕ) → r ≡ q → Wired q n → Wired r n
+wired-same r q n e w = rw e w
 
 -- what a record holds next
 pub function-is :

@@ -4,16 +4,19 @@ use mathlib.Core.Path.{_≡_, refl, sym, _∙_, ap, ap₂, subst, subst₂}
 use mathlib.Core.Bool.{Bool, false, not}
 use mathlib.Core.List.{List, [], _∷_, _++_, append-nil, append-assoc}
 use native.Mathlib.Omega.{arith}
-use native.Mathlib.Nat.{add-sub-of-le, add-zero, add-suc, sub-zero}
+use native.Mathlib.Nat.{add-sub-of-le, add-zero, add-suc, sub-zero, sub-self}
 use native.Mathlib.Numerals.{add-one}
 use native.Mathlib.Decide.{decLt}
 use lib.ListN.{length, getD, take, drop, set, length-append, length-set, length-drop, take-append-drop, drop-of-length-le, List·getD-eq-default, List·getD-append}
-use lib.Seq.{take-all, drop-cons, set-at, append-snoc, take-at, drop-at, drop-drop, drop-append-add, getD-take, getD-drop, length-take-le}
+use lib.Seq.{take-all, drop-cons, set-at, append-snoc, take-at, drop-at, drop-drop, drop-append-add, getD-take, length-take-le}
 use lib.Dec.{eqb}
 use Rattle.facts.specs.Sums.{bit, sum, count}
 use Rattle.netlist.specs.Kinds.{input}
 use Rattle.netlist.specs.Records.{Netlist, netlist, recordAt, recordCount, slot, fanin, tabulate}
 use Rattle.simulator.specs.Logic.{on, isInput, valueIn, next, values}
+use Rattle.netlist.specs.Source.{IsSource}
+use Rattle.verifier.specs.Legal.{Named}
+use Rattle.simulator.specs.Shape.{Wired}
 use Rattle.simulator.specs.Step.{renewedBelow, older, stepped, Buffered, copied}
 use Rattle.netlist.proofs.Lists.{getD-tabulate}
 use Rattle.simulator.proofs.Areas.{on-bit, tabulate-cong}
@@ -124,6 +127,11 @@ module _ (m : ℕ) (old : List ℕ) where
       written-all _ (m + i) area old (k .so-far) (omega (arith, k .whole))
       ∙ ap (λ (n : ℕ). take m old ++ older n old) e
 
+-- a state area's second half
+length-half : (m : ℕ) (area old : List ℕ) → length area ≡ length old → length old ≡ 2 * m → length (take (length area - m) (drop m area)) ≡ m
+length-half m area old e w =
+    ap length (take-all (length area - m) (drop m area) (simp length-drop (omega arith))) ∙ simp length-drop (omega arith)
+
 -- the first i of n records of a netlist are passed: their new bytes are written and their inputs counted
 pub record Passing (bytes : List ℕ) (n : ℕ) (new : List ℕ) (given i : ℕ) (area old : List ℕ) : Type 0 where
   pub within : i ≤ n
@@ -187,6 +195,16 @@ module _ (bytes row : List ℕ) (n : ℕ) (old : List ℕ) where
       (sym (ap (values (netlist bytes) row) (add-one i)))
       (passing-more bytes n old given i row (values (netlist bytes) row i) _ area b x one p h (rw t at byte) kind more)
 
+  -- a source's slots name what is written
+  pub filling-wired : (given i : ℕ) (area : List ℕ) → IsSource (netlist bytes) → n ≡ recordCount bytes →
+      Passing bytes n (values (netlist bytes) row i) given i area old → i < n → Wired (recordAt bytes i) (length (take (i - 0) (drop 0 area)))
+  filling-wired given i area s e p h =
+      record {
+        below = λ j u.
+            rw (sub-zero i, length-take-le i area (omega (arith, p .room, p .same)))
+            (s .earlier i j (omega arith) u);
+      }
+
   pub filling-end : (given i : ℕ) (area : List ℕ) → Passing bytes n (values (netlist bytes) row i) given i area old → n ≤ i → length old ≡ n →
       area ≡ values (netlist bytes) row n
   filling-end given i area p h e =
@@ -213,74 +231,94 @@ module _ (bytes row : List ℕ) (n m : ℕ) (old : List ℕ) where
       (sym (ap (renewedBelow (netlist bytes) row (drop m old)) (add-one i)))
       (passing-more bytes n old given i row (drop m old) _ area b x one p h (rw t at byte) kind more)
 
+  -- a mapped netlist's slots name what the second half holds
+  pub renewing-wired : (given i : ℕ) (area : List ℕ) → Named (netlist bytes) → m ≡ recordCount bytes →
+      Passing bytes n (renewedBelow (netlist bytes) row (drop m old) i) given i area old → n ≤ m → length old ≡ 2 * m → i < n →
+      Wired (recordAt bytes i) (length (take (length area - m) (drop m area)))
+  renewing-wired given i area s e p l w h =
+      record {
+        below = λ j u.
+            rw (length-half m area old (p .same) w) (rw (← e) at (s i j (omega (arith, e)) u));
+      }
+
   pub renewing-end : (given i : ℕ) (area : List ℕ) → Passing bytes n (renewedBelow (netlist bytes) row (drop m old) i) given i area old → n ≤ i →
       area ≡ renewedBelow (netlist bytes) row (drop m old) n ++ drop n old
   renewing-end given i area p h =
       let e : i ≡ n = omega (arith, p .within) in
       p .so-far .parts ∙ ap (λ (k : ℕ). renewedBelow (netlist bytes) row (drop m old) k ++ drop k old) e
 
--- the first j of the records from n on have copied
-pub record Copying (mapped : List ℕ) (n m j : ℕ) (area old : List ℕ) : Type 0 where
+-- the records from n up to k have copied
+pub record Copying (mapped : List ℕ) (n m k : ℕ) (area old : List ℕ) : Type 0 where
   pub buffered : Buffered mapped n
   pub records : m ≡ recordCount mapped
   pub whole : length old ≡ 2 * m
-  pub within : j ≤ m - n
+  pub from : n ≤ k
+  pub within : k ≤ m
   pub same : length area ≡ length old
-  pub so-far : Written (take n old ++ copied mapped (drop m old) n j) (n + j) area old
+  pub so-far : Written (take n old ++ copied mapped (drop m old) n (k - n)) k area old
 
 module _ (mapped : List ℕ) (n m : ℕ) (old : List ℕ) where
-  pub copying-start : Buffered mapped n → m ≡ recordCount mapped → length old ≡ 2 * m → Copying mapped n m 0 old old
+  pub copying-start : Buffered mapped n → m ≡ recordCount mapped → length old ≡ 2 * m → Copying mapped n m n old old
   unfolding copied
   copying-start s e h =
       record {
         buffered = s;
         records = e;
         whole = h;
-        within = omega arith;
+        from = omega arith;
+        within = omega (arith, s .within);
         same = refl;
-        so-far = written-part n old (omega (arith, s .within));
+        so-far =
+            subst₂ (λ (j k : ℕ). Written (take n old ++ copied mapped (drop m old) n j) k old old)
+            (sym (sub-self n))
+            (add-zero n)
+            (written-part n old (omega (arith, s .within)));
       }
 
-  module _ (j : ℕ) (area : List ℕ) (c : Copying mapped n m j area old) (h : j < m - n) (x : ℕ) (e : x ≡ slot (recordAt mapped (n + j)) 0) where
-    pub copying-inside : m + x < length area
+  module _ (k : ℕ) (area : List ℕ) (c : Copying mapped n m k area old) (r : ℕ) (q : r ≡ recordCount mapped) (h : k < r) (x : ℕ) (e : x ≡ slot (recordAt mapped k) 0) where
+    pub copying-inside : x < length (take (length area - m) (drop m area))
     copying-inside =
-        omega (
-          arith,
-          c .buffered .named (n + j) (omega arith) (omega (arith, c .records)),
-          c .records,
-          c .same,
-          c .whole,
-        )
+        rw (length-half m area old (c .same) (c .whole))
+        (omega (arith, c .buffered .named k (c .from) (omega arith), c .records))
 
-    pub copying-more : Copying mapped n m (j + 1) (set area (n + j) (getD area (m + x) 0)) old
+    pub copying-more : (y : ℕ) → y ≡ getD (take (length area - m) (drop m area)) x 0 → Copying mapped n m (k + 1) (set area k y) old
     unfolding copied
-    copying-more =
+    copying-more y byte =
         record {
           buffered = c .buffered;
           records = c .records;
           whole = c .whole;
-          within = omega arith;
-          same = length-set area (n + j) _ ∙ c .same;
+          from = omega (arith, c .from);
+          within = omega (arith, c .records);
+          same = length-set area k y ∙ c .same;
           so-far =
-              subst₂ (λ (l : List ℕ) (k : ℕ). Written l k (set area (n + j) (getD area (m + x) 0)) old)
-              (append-assoc (take n old) (copied mapped (drop m old) n j) _
-              ∙ ap (λ (b : ℕ). take n old ++ (copied mapped (drop m old) n j ++ (b ∷ []))) byte
-              ∙ ap (λ (k : ℕ). take n old ++ copied mapped (drop m old) n k) (sym (add-one j)))
-              (omega arith)
-              (written-more _ (n + j) (getD area (m + x) 0) area old (c .so-far) (omega (arith, c .whole)));
+              subst₂ (λ (l : List ℕ) (i : ℕ). Written l i (set area k y) old)
+              (append-assoc (take n old) (copied mapped (drop m old) n (k - n)) _
+              ∙ ap (λ (b : ℕ). take n old ++ (copied mapped (drop m old) n (k - n) ++ (b ∷ []))) right
+              ∙ ap (λ (i : ℕ). take n old ++ copied mapped (drop m old) n i) (sym next))
+              (sym (add-one k))
+              (written-more _ k y area old (c .so-far) (omega (arith, c .whole, c .records)));
         }
       where
-        byte : getD area (m + x) 0 ≡ getD (drop m old) (slot (recordAt mapped (n + j)) 0) 0
-        byte =
-            sym (getD-drop m area x 0)
-            ∙ ap₂ (λ (l : List ℕ) (k : ℕ). getD l k 0) (drop-written _ (n + j) m area old (c .so-far) (omega arith)) e
+        next : k + 1 - n ≡ suc (k - n)
+        next = omega (arith, c .from)
 
-  pub copying-end : (j : ℕ) (area : List ℕ) → Copying mapped n m j area old → m - n ≤ j →
+        here : n + (k - n) ≡ k
+        here = omega (arith, c .from)
+
+        half : take (length area - m) (drop m area) ≡ drop m old
+        half =
+            take-all (length area - m) (drop m area) (simp length-drop (omega (arith, c .same, c .whole)))
+            ∙ drop-written _ k m area old (c .so-far) (c .within)
+
+        right : y ≡ getD (drop m old) (slot (recordAt mapped (n + (k - n))) 0) 0
+        right = byte ∙ ap₂ (λ (l : List ℕ) (i : ℕ). getD l i 0) half (e ∙ ap (λ (i : ℕ). slot (recordAt mapped i) 0) (sym here))
+
+  pub copying-end : (k : ℕ) (area : List ℕ) → Copying mapped n m k area old → (r : ℕ) → r ≡ recordCount mapped → r ≤ k →
       area ≡ (take n old ++ copied mapped (drop m old) n (m - n)) ++ drop m old
-  copying-end j area c h =
-      let e : j ≡ m - n = omega (arith, c .within) in
-      let f : n + j ≡ m = omega (arith, c .within, c .buffered .within, c .records) in
-      c .so-far .parts ∙ ap₂ (λ (i k : ℕ). (take n old ++ copied mapped (drop m old) n i) ++ drop k old) e f
+  copying-end k area c r q h =
+      let e : k ≡ m = omega (arith, c .within, c .records) in
+      c .so-far .parts ∙ ap (λ (i : ℕ). (take n old ++ copied mapped (drop m old) n (i - n)) ++ drop i old) e
 
 -- values kept as 0 or 1 stand for what the bytes stood for
 on-older : (m : ℕ) (area : List ℕ) (i : ℕ) → m ≤ length area → on (older m area) i ≡ on (take m area) i

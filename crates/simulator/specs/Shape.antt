@@ -1,18 +1,25 @@
--- The numbers of a run, as the code carries them.
+-- The numbers of a run, as the code carries them, and what it may read without a test.
 use Prim.Native.Nat.{ℕ, _*_, _^_, _<_, _≤_}
 use mathlib.Core.Path.{_≡_}
 use mathlib.Core.List.{List}
 use lib.ListN.{length}
-use Rattle.netlist.specs.Kinds.{sourceLimit}
-use Rattle.netlist.specs.Records.{netlist, recordCount}
+use Rattle.netlist.specs.declared.Record.{Record}
+use Rattle.netlist.specs.Kinds.{sourceLimit, arity}
+use Rattle.netlist.specs.Records.{netlist, recordCount, slot}
 use Rattle.netlist.specs.Records
+use Rattle.verifier.specs.Legal.{Named}
 use Rattle.simulator.specs.declared.Shape.{Shape}
 use Rattle.simulator.specs.Logic
 use Rattle.simulator.specs.Step.{rowLimit, Buffered}
 
+-- the used slots of a record name only the first n records
+pub record Wired (r : Record) (n : ℕ) : Type 0 where
+  pub below : (j : ℕ) → j < arity (r .kind) → slot r j < n
+
 -- p has the numbers by which a mapped netlist is stepped
 pub record Steppable (mapped : List ℕ) (p : Shape) : Type 0 where
   pub records : p .records ≡ recordCount mapped
+  pub named : Named (netlist mapped)
   pub buffered : Buffered mapped (p .sources)
   pub narrow : p .inputs ≤ sourceLimit
   pub shallow : p .depth < 2 ^ 16

@@ -7,12 +7,14 @@ ghost use Rattle.facts.specs.Sums.{count, bit};
 ghost use Rattle.netlist.specs.Kinds.{sourceLimit, arity};
 ghost use Rattle.netlist.specs.Records.{netlist, recordCount, recordAt, slot};
 ghost use Rattle.netlist.specs.Checks.{sourceChecks};
+ghost use Rattle.netlist.specs.Source.{IsSource};
+ghost use Rattle.verifier.specs.Legal.{Named};
 ghost use Rattle.simulator.specs.Logic.{on, ofKind, onesBelow, functionIn, valueIn, values, inputs, outputs, outputRow};
 ghost use Rattle.simulator.specs.Evaluate.{bitChecks, badAreas, evaluateChecks, evaluateAnswer, evaluateArea};
 ghost use Rattle.simulator.specs.Step.{rowLimit, renewedBelow, older, stepped, Buffered, copied, badRows, stepChecks, stepAnswer, stepArea};
 ghost use Rattle.simulator.specs.Run.{rowAt, Room, put, after, steps, outputRows, badOutputs, runChecks, runAnswer, runArea, runOutputs};
 ghost use Rattle.simulator.specs.Waves.{IsRun};
-ghost use Rattle.simulator.specs.Shape.{Steppable, ShapeOf, Playable};
+ghost use Rattle.simulator.specs.Shape.{Wired, Steppable, ShapeOf, Playable};
 ghost use Rattle.simulator.specs.Logic;
 use facts::Checked;
 use netlist::Record;
@@ -81,8 +83,17 @@ fn threshold(kind: u8) -> usize
     if kind == netlist::MAJORITY { 2 } else { 1 }
 }
 
+// Byte i of an area, within the end.
+fn held_at(area: &[u8], i: usize) -> u8
+    requires { ⌜ i < length (now area) ⌝ }
+    ensures { λ r. ⌜ r ≡ getD (now (area .entry)) i 0 ⌝ }
+{
+    area[i]
+}
+
 // How many used slots of a record are 1.
 fn ones(r: Record, held: &[u8]) -> usize
+    requires { ⌜ Wired r (length (now held)) ⌝ }
     ensures { λ n. ⌜ n ≡ onesBelow (r .inversion) (λ j. on (now (held .entry)) (slot r j)) (arity (r .kind)) ⌝ }
 {
     let used = netlist::arity(r.kind);
@@ -90,7 +101,7 @@ fn ones(r: Record, held: &[u8]) -> usize
     let mut total: usize = 0;
     let mut j: usize = 0;
     while j < used {
-        total += one_if(turn(bits, is_on(held, netlist::slot(r, j) as usize)));
+        total += one_if(turn(bits, held_at(held, netlist::slot(r, j) as usize) != 0));
         bits = bits / 2;
         j += 1;
     }
@@ -99,6 +110,7 @@ fn ones(r: Record, held: &[u8]) -> usize
 
 // A record's function of what an area holds.
 fn function_of(r: Record, held: &[u8]) -> bool
+    requires { ⌜ Wired r (length (now held)) ⌝ }
     ensures { λ v. ⌜ v ≡ functionIn r (now (held .entry)) ⌝ }
 {
     threshold(r.kind) <= ones(r, held)
@@ -106,6 +118,7 @@ fn function_of(r: Record, held: &[u8]) -> bool
 
 // What record i holds next, as a byte: an input byte `given` of the row, every other record its function.
 fn next_byte(bytes: &[u8], row: &[u8], given: usize, i: usize, held: &[u8]) -> u8
+    requires { ⌜ Wired (recordAt (now bytes) i) (length (now held)) ⌝ }
     ensures { λ b. ⌜ b ≡ bit (valueIn (recordAt (now (bytes .entry)) i) (on (now (row .entry)) given) (now (held .entry))) ⌝ }
 {
     let r = netlist::record_at(bytes, i);
@@ -129,7 +142,8 @@ fn keep(m: usize, state: &mut [u8])
 
 // The new values of the first n records, from what the second half holds.
 fn renew(mapped: &[u8], row: &[u8], n: usize, m: usize, state: &mut [u8])
-    requires { ⌜ (n ≤ m) × (length (now state) ≡ 2 * m) ⌝ }
+    requires { ⌜ Named (netlist (now mapped)) ⌝ }
+    requires { ⌜ (n ≤ m) × (m ≡ recordCount (now mapped)) × (length (now state) ≡ 2 * m) ⌝ }
     ensures { λ r. ⌜ now (state .exit) ≡ renewedBelow (netlist (now (mapped .entry))) (now (row .entry)) (drop m (now (state .entry))) n ++ drop n (now (state .entry)) ⌝ }
 {
     let mut given: usize = 0;
@@ -147,17 +161,16 @@ fn copy_buffers(mapped: &[u8], n: usize, m: usize, state: &mut [u8])
     requires { ⌜ (m ≡ recordCount (now mapped)) × (length (now state) ≡ 2 * m) ⌝ }
     ensures { λ r. ⌜ now (state .exit) ≡ (take n (now (state .entry)) ++ copied (now (mapped .entry)) (drop m (now (state .entry))) n (m - n)) ++ drop m (now (state .entry)) ⌝ }
 {
-    let buffers = m - n;
-    let mut j: usize = 0;
-    while j < buffers {
-        let fanin = netlist::slot_at(mapped, n + j, 0) as usize;
-        state[n + j] = state[m + fanin];
-        j += 1;
+    let mut k = n;
+    while k < netlist::record_count(mapped) {
+        state[k] = held_at(&state[m..], netlist::slot_at(mapped, k, 0) as usize);
+        k += 1;
     }
 }
 
 // One step in place, of a mapped netlist of n source records and buffers.
 fn advance(mapped: &[u8], row: &[u8], n: usize, m: usize, state: &mut [u8])
+    requires { ⌜ Named (netlist (now mapped)) ⌝ }
     requires { ⌜ Buffered (now mapped) n ⌝ }
     requires { ⌜ (m ≡ recordCount (now mapped)) × (length (now state) ≡ 2 * m) ⌝ }
     ensures { λ r. ⌜ now (state .exit) ≡ stepped (netlist (now (mapped .entry))) (now (row .entry)) (now (state .entry)) ⌝ }
@@ -169,6 +182,7 @@ fn advance(mapped: &[u8], row: &[u8], n: usize, m: usize, state: &mut [u8])
 
 // Plain logic's values, by rising index.
 fn fill(source: &[u8], row: &[u8], n: usize, area: &mut [u8])
+    requires { ⌜ IsSource (netlist (now source)) ⌝ }
     requires { ⌜ (n ≡ recordCount (now source)) × (length (now area) ≡ n) ⌝ }
     ensures { λ r. ⌜ now (area .exit) ≡ values (netlist (now (source .entry))) (now (row .entry)) n ⌝ }
 {
@@ -374,6 +388,7 @@ fn write_row(source: &[u8], state: &[u8], w: usize, t: usize, outs: &mut [u8])
 // The numbers of a run.
 fn shape_of(source: &[u8], mapped: &[u8]) -> Shape
     requires { ⌜ recordCount (now source) ≤ sourceLimit ⌝ }
+    requires { ⌜ Named (netlist (now mapped)) ⌝ }
     requires { ⌜ Buffered (now mapped) (recordCount (now source)) ⌝ }
     ensures { λ p. ⌜ ShapeOf (now (source .entry)) (now (mapped .entry)) p ⌝ }
 {
@@ -441,6 +456,7 @@ fn play(
     outs: &mut [u8],
 )
     requires { ⌜ recordCount (now source) ≤ sourceLimit ⌝ }
+    requires { ⌜ Named (netlist (now mapped)) ⌝ }
     requires { ⌜ Buffered (now mapped) (recordCount (now source)) ⌝ }
     requires { ⌜ IsRun (netlist (now source)) (netlist (now mapped)) «row_count» (now rows) (now state) (now outs) ⌝ }
     ensures { λ r. ⌜ now (state .exit) ≡ after (netlist (now (mapped .entry))) (inputs (netlist (now (source .entry)))) (now (rows .entry)) (steps (netlist (now (source .entry))) «row_count») ⌝ }

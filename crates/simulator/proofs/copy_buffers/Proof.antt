@@ -1,52 +1,51 @@
--- `copy_buffers` meets its contract: the first j of the buffers have copied, all else is as it was.
+-- `copy_buffers` meets its contract: the buffers below k have copied, all else is as it was.
 use borrow.Author.Needs.{needs}
 use Prim.Native.Nat.{_-_}
-use mathlib.Core.Path.{_≡_}
 use Rattle.simulator.proofs.Writes.{Copying, copying-start, copying-inside, copying-more, copying-end}
 use Rattle.simulator.proofs.copy_buffers.Statement.{statement}
 use Rattle.simulator.proofs.copy_buffers.Tie as tie
 
 abbrev Inv-loop : tie.InvT-loop
-Inv-loop mapped n m state₀ buffers j₀ state j = (buffers ≡ m - n) × Copying mapped n m j state state₀
+Inv-loop mapped n m state₀ k₀ state k = Copying mapped n m k state state₀
 
 abbrev μ-loop : tie.MeasureT-loop
-μ-loop mapped n m state₀ buffers j₀ state j = m - n - j
-
-sub-buffers : tie.Need-sub-buffers Inv-loop μ-loop
-sub-buffers c = search needs
+μ-loop mapped n m state₀ k₀ state k = m - k
 
 loop-holds : tie.Need-loop-holds Inv-loop μ-loop
 loop-holds c = search (needs, copying-start)
 
-add-slot-at : tie.Need-add-slot-at Inv-loop μ-loop
-add-slot-at c = search needs
+record-count-requires : tie.Need-record-count-requires Inv-loop μ-loop
+record-count-requires c κs = search needs
+
+sub-held-at : tie.Need-sub-held-at Inv-loop μ-loop
+sub-held-at c = search needs
+
+part-held-at-start : tie.Need-part-held-at-start Inv-loop μ-loop
+part-held-at-start c = search needs
+
+part-held-at-end : tie.Need-part-held-at-end Inv-loop μ-loop
+part-held-at-end c = search needs
 
 slot-at-requires : tie.Need-slot-at-requires Inv-loop μ-loop
 slot-at-requires c κs = search needs
 
-cast-fanin : tie.Need-cast-fanin Inv-loop μ-loop
-cast-fanin c = search needs
+cast-held-at : tie.Need-cast-held-at Inv-loop μ-loop
+cast-held-at c = search needs
 
-add-state : tie.Need-add-state Inv-loop μ-loop
-add-state c = search needs
-
-slice-read-state : tie.Need-slice-read-state Inv-loop μ-loop
-slice-read-state c = search copying-inside
-
-add-state-2 : tie.Need-add-state-2 Inv-loop μ-loop
-add-state-2 c = search needs
+held-at-requires : tie.Need-held-at-requires Inv-loop μ-loop
+held-at-requires c κs = search copying-inside
 
 slice-write-state : tie.Need-slice-write-state Inv-loop μ-loop
 slice-write-state c = search needs
 
-add-j : tie.Need-add-j Inv-loop μ-loop
-add-j c = search needs
+add-k : tie.Need-add-k Inv-loop μ-loop
+add-k c = search needs
 
 loop-less : tie.Need-loop-less Inv-loop μ-loop
 loop-less c = search needs
 
 loop-again : tie.Need-loop-again Inv-loop μ-loop
-loop-again c = (search needs, search copying-more)
+loop-again c = search copying-more
 
 same-length : tie.Need-same-length Inv-loop μ-loop
 same-length c = search needs
@@ -60,16 +59,16 @@ copy-buffers-spec =
     (tie.spec
     Inv-loop
     μ-loop
-    sub-buffers
     loop-holds
-    add-slot-at
+    record-count-requires
+    sub-held-at
+    part-held-at-start
+    part-held-at-end
     slot-at-requires
-    cast-fanin
-    add-state
-    slice-read-state
-    add-state-2
+    cast-held-at
+    held-at-requires
     slice-write-state
-    add-j
+    add-k
     loop-less
     loop-again
     same-length

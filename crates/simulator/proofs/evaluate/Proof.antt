@@ -1,5 +1,5 @@
 -- `evaluate` meets its contract: the area is written where the checks passed, and is as it was where they did not.
-use Rattle.simulator.proofs.Checks.{answer-is, evaluate-room, evaluate-writes, evaluate-keeps}
+use Rattle.simulator.proofs.Checks.{answer-is, evaluate-source-is, evaluate-room, evaluate-writes, evaluate-keeps}
 use borrow.Author.Needs.{needs}
 use Rattle.simulator.proofs.evaluate.Statement.{statement}
 use Rattle.simulator.proofs.evaluate.Tie as tie
@@ -14,7 +14,7 @@ record-count-requires : tie.Need-record-count-requires
 record-count-requires c κs = search needs
 
 fill-requires : tie.Need-fill-requires
-fill-requires c κs = search (needs, evaluate-room)
+fill-requires c κs = search (needs, evaluate-source-is, evaluate-room)
 
 enum-known-checked : tie.Need-enum-known-checked
 enum-known-checked c = search needs

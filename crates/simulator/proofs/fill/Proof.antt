@@ -5,7 +5,7 @@ use borrow.Author.Needs.{needs}
 use lib.ListN.{length}
 use Rattle.netlist.specs.Records.{netlist}
 use Rattle.simulator.specs.Logic.{values}
-use Rattle.simulator.proofs.Writes.{Passing, passing-fits, filling-start, filling-more, filling-end}
+use Rattle.simulator.proofs.Writes.{Passing, passing-fits, filling-wired, filling-start, filling-more, filling-end}
 use Rattle.simulator.proofs.fill.Statement.{statement}
 use Rattle.simulator.proofs.fill.Tie as tie
 
@@ -28,7 +28,7 @@ part-next-byte-end : tie.Need-part-next-byte-end Inv-loop μ-loop
 part-next-byte-end c = search needs
 
 next-byte-requires : tie.Need-next-byte-requires Inv-loop μ-loop
-next-byte-requires c κs = search needs
+next-byte-requires c κs = search filling-wired
 
 slice-write-area : tie.Need-slice-write-area Inv-loop μ-loop
 slice-write-area c = search needs

@@ -1,5 +1,5 @@
 -- `next_byte` meets its contract: an input is given its byte, every other record has its function's value.
-use Rattle.simulator.proofs.Values.{value-input, value-gate}
+use Rattle.simulator.proofs.Values.{wired-same, value-input, value-gate}
 use borrow.Author.Needs.{needs}
 use Rattle.simulator.proofs.next_byte.Statement.{statement}
 use Rattle.simulator.proofs.next_byte.Tie as tie
@@ -17,7 +17,7 @@ returns : tie.Need-returns
 returns c = search value-input
 
 function-of-requires : tie.Need-function-of-requires
-function-of-requires c κs = search needs
+function-of-requires c κs = search wired-same
 
 byte-of-requires-2 : tie.Need-byte-of-requires-2
 byte-of-requires-2 c κs = search needs

@@ -3,7 +3,7 @@ use borrow.Author.Needs.{needs}
 use Prim.Native.Nat.{_-_}
 use mathlib.Core.Path.{_≡_}
 use Rattle.netlist.specs.Kinds.{arity}
-use Rattle.simulator.proofs.Values.{Summing, summing-start, summing-more, summing-end, summing-fits}
+use Rattle.simulator.proofs.Values.{Summing, slot-inside, summing-start, summing-more, summing-end, summing-fits}
 use Rattle.simulator.proofs.ones.Statement.{statement}
 use Rattle.simulator.proofs.ones.Tie as tie
 
@@ -22,11 +22,11 @@ loop-holds c = search (needs, summing-start)
 slot-requires : tie.Need-slot-requires Inv-loop μ-loop
 slot-requires c κs = search needs
 
-cast-is-on : tie.Need-cast-is-on Inv-loop μ-loop
-cast-is-on c = search needs
+cast-held-at : tie.Need-cast-held-at Inv-loop μ-loop
+cast-held-at c = search needs
 
-is-on-requires : tie.Need-is-on-requires Inv-loop μ-loop
-is-on-requires c κs = search needs
+held-at-requires : tie.Need-held-at-requires Inv-loop μ-loop
+held-at-requires c κs = search (needs, slot-inside)
 
 turn-requires : tie.Need-turn-requires Inv-loop μ-loop
 turn-requires c κs = search needs
@@ -58,8 +58,8 @@ ones-spec =
     arity-requires
     loop-holds
     slot-requires
-    cast-is-on
-    is-on-requires
+    cast-held-at
+    held-at-requires
     turn-requires
     one-if-requires
     add-total

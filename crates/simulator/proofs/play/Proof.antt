@@ -29,7 +29,9 @@ same-length-3 : tie.Need-same-length-3
 same-length-3 c = search needs
 
 returns-2 : tie.Need-returns-2
-returns-2 c = (search played-state, search needs)
+returns-2 c =
+    let shaped = c .before .before .before .before .before .before .before .before .before .before .before in
+    (search (played-state, shaped .shape-of .ensures), search needs)
 
 pub play-spec : {M : Type 1} → statement M
 play-spec =

@@ -5,7 +5,7 @@ use mathlib.Core.Path.{_≡_}
 use lib.ListN.{length, drop}
 use Rattle.netlist.specs.Records.{netlist}
 use Rattle.simulator.specs.Step.{renewedBelow}
-use Rattle.simulator.proofs.Writes.{Passing, passing-fits, renewing-start, renewing-more, renewing-end}
+use Rattle.simulator.proofs.Writes.{Passing, passing-fits, renewing-wired, renewing-start, renewing-more, renewing-end}
 use Rattle.simulator.proofs.renew.Statement.{statement}
 use Rattle.simulator.proofs.renew.Tie as tie
 
@@ -28,7 +28,7 @@ part-next-byte-end : tie.Need-part-next-byte-end Inv-loop μ-loop
 part-next-byte-end c = search needs
 
 next-byte-requires : tie.Need-next-byte-requires Inv-loop μ-loop
-next-byte-requires c κs = search needs
+next-byte-requires c κs = search renewing-wired
 
 slice-write-state : tie.Need-slice-write-state Inv-loop μ-loop
 slice-write-state c = search needs

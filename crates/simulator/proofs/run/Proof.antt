@@ -1,5 +1,5 @@
 -- `run` meets its contract: both areas are written where the checks passed, and are as they were where they did not.
-use Rattle.simulator.proofs.Checks.{answer-is, run-few, run-buffered, run-areas, run-state, run-rows, run-keeps-state, run-keeps-rows}
+use Rattle.simulator.proofs.Checks.{answer-is, run-few, run-named, run-buffered, run-areas, run-state, run-rows, run-keeps-state, run-keeps-rows}
 use borrow.Author.Needs.{needs}
 use Rattle.simulator.proofs.run.Statement.{statement}
 use Rattle.simulator.proofs.run.Tie as tie
@@ -16,8 +16,11 @@ play-requires c κs =
     let accepted = told .before .before .check-run .ensures in (
       run-few _ _ _ _ _ _ _ _ accepted (told .enum-told .given .1),
       (
-        run-buffered _ _ _ _ _ _ _ _ accepted (told .enum-told .given .1),
-        run-areas _ _ _ _ _ _ _ _ accepted (told .enum-told .given .1),
+        run-named _ _ _ _ _ _ _ _ accepted (told .enum-told .given .1),
+        (
+          run-buffered _ _ _ _ _ _ _ _ accepted (told .enum-told .given .1),
+          run-areas _ _ _ _ _ _ _ _ accepted (told .enum-told .given .1),
+        ),
       ),
     )
 

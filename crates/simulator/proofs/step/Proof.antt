@@ -1,5 +1,5 @@
 -- `step` meets its contract: the area is one step on where the checks passed, and is as it was where they did not.
-use Rattle.simulator.proofs.Checks.{answer-is, step-buffered, step-room, step-writes, step-keeps}
+use Rattle.simulator.proofs.Checks.{answer-is, step-named, step-buffered, step-room, step-writes, step-keeps}
 use borrow.Author.Needs.{needs}
 use Rattle.simulator.proofs.step.Statement.{statement}
 use Rattle.simulator.proofs.step.Tie as tie
@@ -17,7 +17,7 @@ record-count-requires-2 : tie.Need-record-count-requires-2
 record-count-requires-2 c κs = search needs
 
 advance-requires : tie.Need-advance-requires
-advance-requires c κs = (search step-buffered, search (needs, step-room))
+advance-requires c κs = (search step-named, (search step-buffered, search (needs, step-room)))
 
 enum-known-checked : tie.Need-enum-known-checked
 enum-known-checked c = search needs
