@@ -1,9 +1,10 @@
 -- Laws of the chains of sinks: the first sink from a slot on, and the arrays that link each sink to the next.
 use Prim.Native.Nat.{ℕ, zero, suc, _+_, _-_, _*_, _≤_, _<_, _/_, _%_}
-use mathlib.Core.Path.{_≡_, refl, sym, _∙_, ap, subst}
+use mathlib.Core.Path.{_≡_, refl, sym, _∙_, ap, ap₂, subst}
 use mathlib.Core.Bool.{Bool, true, false, cond}
 use mathlib.Core.List.{List}
 use native.Mathlib.Omega.{arith}
+use native.Mathlib.Nat.{add-zero}
 use native.Mathlib.Numerals.{add-one}
 use native.Mathlib.Decide.{decLt, ℕ-discrete}
 use lib.ListN.{length, getD, set, replicate, length-set, length-replicate, getD-replicate}
@@ -11,10 +12,11 @@ use lib.Seq.{getD-set-same, getD-set-other}
 use borrow.Author.Tests.{lt-ltb, le-ltb, eq-eqb, ne-eqb}
 use Rattle.facts.specs.Sums.{count, seek}
 use Rattle.facts.proofs.Bools.{and-i, true-false}
-use Rattle.facts.proofs.Sums.{count-false}
+use Rattle.facts.proofs.Sums.{count-false, count-more, rank-lt}
 use Rattle.netlist.specs.Kinds.{slots, sourceLimit, arity}
-use Rattle.netlist.specs.Records.{Netlist}
+use Rattle.netlist.specs.Records.{Netlist, fanin}
 use Rattle.netlist.specs.Source.{IsSource}
+use Rattle.netlist.proofs.Checks.{arity-slots}
 use Rattle.mapper.specs.Chains.{slotEnd, usedSlot, faninSlot, namesSlot, nextSink, Linked}
 
 -- what holds only where p does is counted nowhere on the way to the first p
@@ -81,6 +83,16 @@ module _ (n : Netlist) (d : ℕ) where
   unfolding nextSink
   next-count q y h = seek-count (namesSlot n d) q y (slotEnd n - y) h
 
+  -- no sink of d stands between a slot and the next sink
+  pub next-none : (y z : ℕ) → y ≤ z → z < nextSink n d y → namesSlot n d z ≡ true → ⊥
+  next-none y z a b e =
+      omega (
+        arith,
+        next-count (namesSlot n d) y (λ x h. h),
+        rank-lt (namesSlot n d) z (nextSink n d y) b e,
+        count-more (namesSlot n d) y z a,
+      )
+
 module _ (n : Netlist) (first next : List ℕ) where
   -- no slot is linked yet: every first sink is the end
   pub link-start : first ≡ replicate sourceLimit (slotEnd n) → length next ≡ slots * sourceLimit → n .size ≤ sourceLimit → Linked n first next (slotEnd n)
@@ -141,28 +153,71 @@ module _ (n : Netlist) (first next : List ℕ) where
           ∙ ap (λ (d : ℕ). nextSink n d (suc x)) e)
       at-slot y a b v (no f) = getD-set-other next x y (getD first t 0) 0 f ∙ h .nexts y (omega arith) b v
 
--- one slot, as the code links it: kind and arity of its record, and the driver t that it names
-module _ (n : Netlist) (x kind a : ℕ) (s : IsSource n) (l : x < slotEnd n) (k : kind ≡ n .at (x / slots) .kind) (b : a ≡ arity kind) where
-  uses : x % slots < a → x % slots < arity (n .at (x / slots) .kind)
-  uses u = omega (arith, ap arity k)
+pub record-slots : (kind used : ℕ) → used ≡ arity kind → used ≤ slots
+record-slots kind used e = omega (arith, arity-slots kind)
 
-  named-driver : (t : ℕ) → x % slots < a → t ≡ faninSlot n x → t < n .size
-  named-driver t u e = omega (arith, s .earlier (x / slots) (x % slots) (omega arith) (uses u))
+-- record i, as the code links it: its used slots from the last one down
+module _ (n : Netlist) (i : ℕ) (first next : List ℕ) where
+  -- unused slots link nothing
+  link-skip : (x m : ℕ) → Linked n first next (x + m) → x + m ≤ slotEnd n →
+      ((z : ℕ) → x ≤ z → z < x + m → usedSlot n z ≡ false) → Linked n first next x
+  link-skip x zero h l u = rw (add-zero x) at h
+  link-skip x (suc m) h l u =
+      let e : x + suc m ≡ x + m + 1 = omega arith in
+      link-skip x m
+      (link-unused n first next (x + m) (subst (λ (y : ℕ). Linked n first next y) e h) (omega arith) (u (x + m) (omega arith) (omega arith)))
+      (omega arith)
+      (λ z a b. u z a (omega arith))
 
-  pub link-room : (t : ℕ) → x % slots < a → t ≡ faninSlot n x → t < sourceLimit
-  link-room t u e = omega (arith, named-driver t u e, s .few)
+  pub record-start : (used : ℕ) → i < n .size → used ≡ arity (n .at i .kind) → Linked n first next (slots * (i + 1)) →
+      Linked n first next (slots * i + used)
+  record-start used l e h =
+      link-skip (slots * i + used) (slots - used) (subst (λ (y : ℕ). Linked n first next y) all h) (omega (arith, fits)) unused
+    where
+      fits : used ≤ slots
+      fits = record-slots (n .at i .kind) used e
 
-  pub link-taken : (first next : List ℕ) (t : ℕ) → Linked n first next (x + 1) → x % slots < a → t ≡ faninSlot n x →
-      Linked n (set first t x) (set next x (getD first t 0)) x
-  link-taken first next t h u e = link-used n first next x t h l (s .few) e (named-driver t u e) (lt-ltb _ _ (uses u))
+      all : slots * (i + 1) ≡ slots * i + used + (slots - used)
+      all = omega (arith, fits)
 
-  pub link-left : (first next : List ℕ) → Linked n first next (x + 1) → a ≤ x % slots → Linked n first next x
-  link-left first next h u = link-unused n first next x h l (le-ltb (x % slots) (arity (n .at (x / slots) .kind)) (omega (arith, ap arity k)))
+      unused : (z : ℕ) → slots * i + used ≤ z → z < slots * i + used + (slots - used) → usedSlot n z ≡ false
+      unused z a b =
+          let r : z / slots ≡ i = omega (arith, fits) in
+          le-ltb (z % slots) (arity (n .at (z / slots) .kind)) (omega (arith, fits, ap (λ (x : ℕ). arity (n .at x .kind)) r))
 
--- from slot to slot downwards
+  -- slot j - 1 names the driver t
+  module _ (used j t : ℕ) (s : IsSource n) (l : i < n .size) (e : used ≡ arity (n .at i .kind)) (b : 0 < j) (c : j ≤ used)
+      (f : t ≡ fanin n i (j - 1)) where
+    pub link-room : t < sourceLimit
+    link-room = omega (arith, s .earlier i (j - 1) l (omega arith), s .few)
+
+    pub record-more : Linked n first next (slots * i + j) →
+        Linked n (set first t (slots * i + (j - 1))) (set next (slots * i + (j - 1)) (getD first t 0)) (slots * i + (j - 1))
+    record-more h =
+        link-used n first next (slots * i + (j - 1)) t (subst (λ (y : ℕ). Linked n first next y) here h) (omega (arith, fits)) (s .few)
+        (f ∙ sym (ap₂ (fanin n) record-of slot-of))
+        (omega (arith, s .earlier i (j - 1) l (omega arith)))
+        (ap₂ (Rattle.netlist.specs.Records.used n) record-of slot-of ∙ lt-ltb (j - 1) (arity (n .at i .kind)) (omega arith))
+      where
+        fits : used ≤ slots
+        fits = record-slots (n .at i .kind) used e
+
+        here : slots * i + j ≡ slots * i + (j - 1) + 1
+        here = omega arith
+
+        record-of : (slots * i + (j - 1)) / slots ≡ i
+        record-of = omega (arith, fits)
+
+        slot-of : (slots * i + (j - 1)) % slots ≡ j - 1
+        slot-of = omega (arith, fits)
+
+  pub record-end : (j : ℕ) → j ≤ 0 → Linked n first next (slots * i + j) → Linked n first next (slots * i)
+  record-end j l h = let e : slots * i + j ≡ slots * i = omega arith in subst (λ (y : ℕ). Linked n first next y) e h
+
+-- from record to record downwards
 module _ (n : Netlist) (first next : List ℕ) where
-  pub linked-below : (x : ℕ) → 0 < x → Linked n first next x → Linked n first next (x - 1 + 1)
-  linked-below x l h = let e : x ≡ x - 1 + 1 = omega arith in subst (λ (y : ℕ). Linked n first next y) e h
+  pub linked-below : (i : ℕ) → 0 < i → Linked n first next (slots * i) → Linked n first next (slots * (i - 1 + 1))
+  linked-below i l h = let e : i ≡ i - 1 + 1 = omega arith in subst (λ (y : ℕ). Linked n first next (slots * y)) e h
 
-  pub linked-end : (x : ℕ) → x ≤ 0 → Linked n first next x → Linked n first next 0
-  linked-end x l h = let e : x ≡ 0 = omega arith in subst (λ (y : ℕ). Linked n first next y) e h
+  pub linked-end : (i : ℕ) → i ≤ 0 → Linked n first next (slots * i) → Linked n first next 0
+  linked-end i l h = let e : slots * i ≡ 0 = omega arith in subst (λ (y : ℕ). Linked n first next y) e h

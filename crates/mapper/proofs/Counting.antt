@@ -42,10 +42,10 @@ pub record Counting (n : Netlist) (s m : ℕ) (row : List ℕ) (total d : ℕ) :
   pub clear : row ≡ replicate (suc topLevel) 0
 
 module _ (n : Netlist) (s : ℕ) where
-  pub count-start : (m : ℕ) → Counting n s m (replicate (suc topLevel) 0) 0 0
+  pub count-start : (m : ℕ) (row : List ℕ) → row ≡ replicate (suc topLevel) 0 → Counting n s m row 0 0
   unfolding sum
-  count-start m =
-      record { checks = scan-start (treeCheck n s) m; before = refl; small = omega arith; clear = refl }
+  count-start m row e =
+      record { checks = scan-start (treeCheck n s) m; before = refl; small = omega arith; clear = e }
 
   tree-small : (d : ℕ) → IsSource n → 2 ≤ s → d < n .size → treeSize n s d ≤ most
   tree-small d i l b =
@@ -67,6 +67,13 @@ module _ (n : Netlist) (s : ℕ) where
         sum-const most (n .size),
       )
 
+  pub count-stop : (row : List ℕ) (total d m : ℕ) (t : Tree) → Counting n s m row total d → d < m → Measured n s d t → driverCapacity < t .nodes →
+      Refuses 8 d ≡ sizingOf (treesBelow n s m) (sum (treeSize n s) m)
+  count-stop row total d m t h l g f =
+      ap (λ (a : Checked). sizingOf a (sum (treeSize n s) m))
+      (scan-stop (treeCheck n s) m d 8 d (treeCheck n s d) (h .checks) (omega arith) refl
+      (ap (λ (b : Bool). check 8 d (not b)) (lt-leb (nodesAt s (netRow n d) 1) driverCapacity (omega (arith, g .nodes)))))
+
   module _ (row : List ℕ) (total d m : ℕ) (h : Counting n s m row total d) (size : m ≤ n .size) where
     pub count-end : m ≤ d → Total total ≡ sizingOf (treesBelow n s m) (sum (treeSize n s) m)
     count-end l =
@@ -79,12 +86,6 @@ module _ (n : Netlist) (s : ℕ) where
       -- a net's buffers are few enough to add
       pub count-fits : Fits w64 (total + t .buffers)
       count-fits = omega (arith, h .small, g .buffers, tree-small d (chained .source) (c .0) (omega arith), chained .source .few)
-
-      pub count-stop : driverCapacity < t .nodes → Refuses 8 d ≡ sizingOf (treesBelow n s m) (sum (treeSize n s) m)
-      count-stop f =
-          ap (λ (a : Checked). sizingOf a (sum (treeSize n s) m))
-          (scan-stop (treeCheck n s) m d 8 d (treeCheck n s d) (h .checks) (omega arith) refl
-          (ap (λ (b : Bool). check 8 d (not b)) (lt-leb (nodesAt s (netRow n d) 1) driverCapacity (omega (arith, g .nodes)))))
 
       pub count-more : (after : List ℕ) → after ≡ replicate (suc topLevel) 0 → t .nodes ≤ driverCapacity →
           Counting n s m after (total + t .buffers) (d + 1)

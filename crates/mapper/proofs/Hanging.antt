@@ -12,7 +12,7 @@ use lib.Seq.{getD-set-same, getD-set-other}
 use borrow.Author.Tests.{ltb-true, eq-eqb, eqb-true}
 use Rattle.facts.specs.Sums.{count}
 use Rattle.facts.proofs.Bools.{and-l, and-r, and-i}
-use Rattle.facts.proofs.Sums.{count-append, count-cong, count-more, count₂-flat, rank-lt}
+use Rattle.facts.proofs.Sums.{count-append, count-cong, count₂-flat}
 use Rattle.netlist.specs.Kinds.{slots, topLevel, arity}
 use Rattle.netlist.specs.Records.{Netlist}
 use Rattle.fanout.specs.Nets.{sinkAt, nodesAt}
@@ -21,7 +21,7 @@ use Rattle.mapper.specs.Chains.{slotEnd, usedSlot, faninSlot, namesSlot,
 use Rattle.facts.proofs.Blocks.{block-before}
 use Rattle.mapper.proofs.Mapped.{tree-sum}
 use Rattle.mapper.proofs.Nodes.{pos, IsNode, nodes-split, source-node, parent-inside}
-use Rattle.mapper.proofs.Chains.{next-within, next-count}
+use Rattle.mapper.proofs.Chains.{next-within, next-none}
 use Rattle.mapper.proofs.Filling.{sinks-all, sinks-skip, sinks-none, sinks-below, sinks-here, sinks-other, OnChain, on-chain, chain-first, chain-next, chain-level}
 use Rattle.mapper.proofs.Planting.{parent-from}
 
@@ -48,16 +48,6 @@ rank-flat f p =
 
     slot-of : (y : ℕ) → y < p % slots → (slots * (p / slots) + y) % slots ≡ y
     slot-of y l = omega arith
-
--- no sink of d stands between a slot and the next sink
-next-none : (n : Netlist) (d y z : ℕ) → y ≤ z → z < nextSink n d y → namesSlot n d z ≡ true → ⊥
-next-none n d y z a b e =
-    omega (
-      arith,
-      next-count n d (namesSlot n d) y (λ x h. h),
-      rank-lt (namesSlot n d) z (nextSink n d y) b e,
-      count-more (namesSlot n d) y z a,
-    )
 
 -- how far slot p stands above d, and its number where d is the driver that it names
 abbrev away : Netlist → ℕ → ℕ → ℕ

@@ -1,14 +1,15 @@
--- Laws of one net's measure: the row is cleared, and its counts are those of the driver's net.
-use Prim.Native.Nat.{ℕ, suc, _+_, _*_, _≤_, _<_}
+-- Laws of one net's measure: no sink, one sink, or a row that is filled and drained; and of clearing a row.
+use Prim.Native.Nat.{ℕ, zero, suc, _+_, _-_, _*_, _≤_, _<_, _/_}
 use mathlib.Core.Path.{_≡_, refl, sym, _∙_, ap, subst}
 use mathlib.Core.Bool.{Bool, true, false, cond}
-use mathlib.Core.List.{List, []}
+use mathlib.Core.List.{List, [], _∷_}
 use native.Mathlib.Omega.{arith}
+use native.Mathlib.Nat.{div-self}
 use native.Mathlib.Decide.{decLt, ℕ-discrete}
 use lib.ListN.{length, getD, drop, set, replicate, length-set, length-replicate, List·getD-eq-default}
 use lib.Seq.{getD-set-same, getD-set-other, getD-drop, drop-nil, ext-getD}
 use borrow.Author.Tests.{leb-false}
-use Rattle.facts.proofs.Sums.{count₂-le}
+use Rattle.facts.proofs.Sums.{count₂-le, count₂-none}
 use Rattle.netlist.specs.Kinds.{slots, topLevel, sourceLimit, isDriver}
 use Rattle.netlist.specs.Records.{Netlist}
 use Rattle.netlist.specs.Source.{IsSource}
@@ -16,9 +17,11 @@ use Rattle.fanout.specs.Nets.{row, sinks, sinkAt, up, nodes, buffers, nodesAt, 
 use Rattle.fanout.proofs.Nets.{up-zero, row-length, row-at}
 use Rattle.mapper.specs.declared.Tree.{Tree}
 use Rattle.mapper.specs.Mapped.{netRow}
-use Rattle.mapper.specs.Chains.{Chained, Filled, Walkable, Walked, Stale, Measured}
+use Rattle.mapper.specs.Chains.{slotEnd, nextSink, sinksBelow, Chained, Filled, Walkable, Drained, Stale, Measured}
 use Rattle.mapper.proofs.Lists.{getD-replicated}
-use Rattle.mapper.proofs.Nodes.{nodes-none, buffers-none, no-sinks}
+use Rattle.mapper.proofs.Nodes.{nodes-none, buffers-none, sink-facts, no-sinks}
+use Rattle.mapper.proofs.Chains.{next-within}
+use Rattle.mapper.proofs.Filling.{sinks-all, sinks-skip, sinks-none, sinks-here, sinks-other, OnChain, on-chain, chain-first, chain-next, chain-level}
 
 -- entries below k are zero, and those beyond top
 pub record Clearing (counts : List ℕ) (top k : ℕ) : Type 0 where
@@ -66,17 +69,30 @@ row-small n d k i =
       | no l ↦ omega (arith, row-at n d k (omega arith), count₂-le (sinkAt n d k) slots (n .size), i .few)
     ]
 
+-- a distance without sinks
+row-none : (n : Netlist) (d x : ℕ) → sinks n d x ≡ 0 → getD (row n d) x 0 ≡ 0
+row-none n d x e =
+    elim (decLt topLevel x) [
+      | yes l ↦ List·getD-eq-default (row n d) 0 {n = x} (omega (arith, row-length n d))
+      | no l ↦ row-at n d x (omega arith) ∙ e
+    ]
+
+-- no sink stands beside its driver
+pub row-apart : (n : Netlist) (d : ℕ) → IsSource n → getD (row n d) 0 0 ≡ 0
+unfolding sinks
+row-apart n d i =
+    row-none n d 0
+    (count₂-none (sinkAt n d 0) slots (n .size)
+    (λ x j l b t.
+    let h = sink-facts n d 0 x j t in
+    omega (arith, i .lower x j l (h .inUse), ap (λ (y : ℕ). n .at y .level) (h .driver), h .level)))
+
 -- an output's row is as good as none
 module _ (n : Netlist) (s d k : ℕ) (i : IsSource n) (p : 0 < s) (l : d < n .size) where
   no-driver : isDriver (n .at d .kind) ≡ false → (x : ℕ) → getD (drop k (row n d)) x 0 ≡ 0
   no-driver e x =
       getD-drop k (row n d) x 0
-      ∙ elim (decLt topLevel (k + x)) [
-        | yes b ↦ List·getD-eq-default (row n d) 0 {n = k + x} (omega (arith, row-length n d))
-        | no b ↦
-            row-at n d (k + x) (omega arith)
-            ∙ no-sinks n d (k + x) i (omega (arith, leb-false (n .at d .kind) _ e, i .kinds d l))
-      ]
+      ∙ row-none n d (k + x) (no-sinks n d (k + x) i (omega (arith, leb-false (n .at d .kind) _ e, i .kinds d l)))
 
   pub net-nodes : nodesAt s (netRow n d) k ≡ nodesAt s (row n d) k
   unfolding netRow nodes
@@ -94,6 +110,106 @@ module _ (n : Netlist) (s d k : ℕ) (i : IsSource n) (p : 0 < s) (l : d < n .si
       go true e = refl
       go false e = ap (buffers s) (drop-nil k) ∙ sym (buffers-none s (drop k (row n d)) p (no-driver e))
 
+-- the measure of d's net is that of its row
+net-measured : (n : Netlist) (s d : ℕ) → IsSource n → 2 ≤ s → d < n .size → (t : Tree) →
+    t .nodes ≡ nodesAt s (row n d) 1 → t .buffers ≡ fewest s (row n d) → Measured n s d t
+net-measured n s d i p l t e f =
+    record {
+      nodes = e ∙ sym (net-nodes n s d 1 i (omega arith) l);
+      buffers = f ∙ sym (net-buffers n s d 1 i (omega arith) l);
+    }
+
+-- a row with one sink, at distance k
+record Lone (r : List ℕ) (k : ℕ) : Type 0 where
+  here : getD r k 0 ≡ 1
+  others : (x : ℕ) → (x ≡ k → ⊥) → getD r x 0 ≡ 0
+
+up-one : (s : ℕ) → 0 < s → up s 1 ≡ 1
+up-one s p = let e : 1 + (s - 1) ≡ s = omega arith in ap (λ (x : ℕ). x / s) e ∙ div-self p
+
+-- one buffer at each distance before it carries it
+lone-row : (s : ℕ) (r : List ℕ) (k : ℕ) → 0 < s → Lone r k → (nodes s r ≡ 1) × (buffers s r ≡ k)
+unfolding nodes buffers
+lone-row s [] k p h = absurd (omega (arith, h .here, List·getD-eq-default {A = ℕ} [] 0 {n = k} (omega arith)))
+lone-row s (c ∷ r) zero p h =
+    let z : (x : ℕ) → getD r x 0 ≡ 0 = λ x. h .others (suc x) (λ e. omega arith) in
+    let u : up s (nodes s r) ≡ 0 = ap (up s) (nodes-none s r p z) ∙ up-zero s p in
+    (omega (arith, u, h .here), omega (arith, u, buffers-none s r p z))
+lone-row s (c ∷ r) (suc k) p h =
+    let t = lone-row s r k p (record { here = h .here; others = λ x e. h .others (suc x) (λ f. e (omega arith)) }) in
+    let u : up s (nodes s r) ≡ 1 = ap (up s) (t .0) ∙ up-one s p in
+    (omega (arith, u, h .others 0 (λ e. omega arith)), omega (arith, u, t .1))
+
+-- d's chain by its first slot p: no sink, or one
+module _ (n : Netlist) (first next : List ℕ) (end d p : ℕ) (h : Chained n first next end) (e : p ≡ getD first d 0) (l : d < n .size) where
+  before : (k : ℕ) → sinksBelow n d k p ≡ 0
+  before k = ap (sinksBelow n d k) (chain-first n first next end d h p l e) ∙ sinks-skip n d k 0 ∙ sinks-none n d k
+
+  none : end ≤ p → (x : ℕ) → getD (drop 1 (row n d)) x 0 ≡ 0
+  none a x =
+      getD-drop 1 (row n d) x 0
+      ∙ row-none n d (1 + x) (sym (sinks-all n d (1 + x)) ∙ ap (sinksBelow n d (1 + x)) last ∙ before (1 + x))
+    where
+      last : slotEnd n ≡ p
+      last = omega (arith, h .stop, chain-first n first next end d h p l e, next-within n d 0 (omega arith))
+
+  pub measured-none : (s : ℕ) → (2 ≤ s) × (s ≤ 4) → end ≤ p → Measured n s d (record { nodes = 0; buffers = 0 })
+  measured-none s c a =
+      net-measured n s d (h .source) (c .0) l (record { nodes = 0; buffers = 0 })
+      (sym (nodes-none s (drop 1 (row n d)) (omega (arith, c .0)) (none a)))
+      (sym (buffers-none s (drop 1 (row n d)) (omega (arith, c .0)) (none a)))
+
+  module _ (a : p < end) (up low : ℕ) (eu : up ≡ n .at (p / slots) .level) (el : low ≡ n .at d .level) where
+    in-chain : p < slotEnd n
+    in-chain = omega (arith, h .stop)
+
+    on : OnChain n d p
+    on = subst (OnChain n d) (sym (chain-first n first next end d h p l e)) (on-chain n d 0 (omega arith))
+
+    above : n .at d .level < n .at (p / slots) .level
+    above = chain-level n first next end d h p on in-chain
+
+    pub lone-above : low ≤ up
+    lone-above = omega (arith, above)
+
+    pub lone-apart : 1 ≤ up - low
+    lone-apart = omega (arith, above)
+
+    module _ (q : ℕ) (f : q ≡ getD next p 0) (b : end ≤ q) where
+      all : (k : ℕ) → sinks n d k ≡ sinksBelow n d k (suc p)
+      all k = sym (sinks-all n d k) ∙ ap (sinksBelow n d k) last ∙ sinks-skip n d k (suc p)
+        where
+          last : slotEnd n ≡ nextSink n d (suc p)
+          last =
+              omega (arith, h .stop, chain-next n first next end d h p q on in-chain f, next-within n d (suc p) in-chain)
+
+      away : up - low ≡ n .at (p / slots) .level - n .at d .level
+      away = omega arith
+
+      lone : Lone (drop 1 (row n d)) (up - low - 1)
+      lone =
+          record {
+            here =
+                getD-drop 1 (row n d) (up - low - 1) 0
+                ∙ ap (λ (k : ℕ). getD (row n d) k 0) back
+                ∙ row-at n d (up - low) (omega (arith, h .source .levels (p / slots) (omega (arith, in-chain))))
+                ∙ all (up - low)
+                ∙ rw away (sinks-here n d p (on .sink in-chain) above)
+                ∙ ap suc (before (up - low));
+            others = λ x g.
+                getD-drop 1 (row n d) x 0
+                ∙ row-none n d (1 + x)
+                (all (1 + x) ∙ sinks-other n d p (on .sink in-chain) above (1 + x) (λ i. g (omega (arith, away))) ∙ before (1 + x));
+          }
+        where
+          back : 1 + (up - low - 1) ≡ up - low
+          back = omega (arith, above)
+
+      pub measured-one : (s : ℕ) → (2 ≤ s) × (s ≤ 4) → Measured n s d (record { nodes = 1; buffers = up - low - 1 })
+      measured-one s c =
+          let r = lone-row s (drop 1 (row n d)) (up - low - 1) (omega (arith, c .0)) lone in
+          net-measured n s d (h .source) (c .0) l (record { nodes = 1; buffers = up - low - 1 }) (sym (r .0)) (sym (r .1))
+
 module _ (n : Netlist) (first next : List ℕ) (end s d top : ℕ) (counts : List ℕ)
     (h : Chained n first next end) (c : (2 ≤ s) × (s ≤ 4)) (f : Filled n d counts top) where
   pub walkable : Walkable s counts top
@@ -103,28 +219,13 @@ module _ (n : Netlist) (first next : List ℕ) (end s d top : ℕ) (counts : Lis
         high = c .1;
         size = ap length (f .counted) ∙ row-length n d;
         near = f .near;
+        apart = ap (λ (r : List ℕ). getD r 0 0) (f .counted) ∙ row-apart n d (h .source);
         small = λ k. subst (λ (l : List ℕ). getD l k 0 ≤ slots * sourceLimit) (sym (f .counted)) (row-small n d k (h .source));
         beyond = f .beyond;
       }
 
-  module _ (after : List ℕ) (t : Tree) (w : Walked s counts after t) where
-    -- after the walk there are no buffers from top on
-    pub stale : Stale after top
-    stale =
-        record {
-          size = w .size;
-          near = f .near;
-          beyond = λ k l. w .at k (omega arith) ∙ ap (up s) (none k l) ∙ up-zero s (omega (arith, c .0));
-        }
-      where
-        none : (k : ℕ) → top < k → nodesAt s counts (suc k) ≡ 0
-        none k l =
-            nodes-none s (drop (suc k) counts) (omega (arith, c .0))
-            (λ x. getD-drop (suc k) counts x 0 ∙ f .beyond (suc k + x) (omega arith))
-
-    pub measured : d < n .size → Measured n s d t
-    measured l =
-        record {
-          nodes = w .nodes ∙ ap (λ (r : List ℕ). nodesAt s r 1) (f .counted) ∙ sym (net-nodes n s d 1 (h .source) (omega (arith, c .0)) l);
-          buffers = w .buffers ∙ ap (fewest s) (f .counted) ∙ sym (net-buffers n s d 1 (h .source) (omega (arith, c .0)) l);
-        }
+  pub measured : (after : List ℕ) (t : Tree) → Drained s counts after t → d < n .size → Measured n s d t
+  measured after t w l =
+      net-measured n s d (h .source) (c .0) l t
+      (w .nodes ∙ ap (λ (r : List ℕ). nodesAt s r 1) (f .counted))
+      (w .buffers ∙ ap (fewest s) (f .counted))

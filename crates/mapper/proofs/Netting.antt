@@ -1,24 +1,29 @@
 -- Laws of writing one net: what each step leaves is what the next one asks.
-use Prim.Native.Nat.{ℕ, zero, suc, _+_, _*_, _≤_, _<_}
+use Prim.Native.Nat.{ℕ, zero, suc, _+_, _*_, _≤_, _<_, _/_, _%_}
 use mathlib.Core.Path.{_≡_, refl, sym, _∙_, ap, ap₂, subst}
+use mathlib.Core.Bool.{true}
 use mathlib.Core.List.{List}
 use native.Mathlib.Omega.{arith}
 use native.Mathlib.Numerals.{add-one}
 use native.Mathlib.Decide.{decLt}
 use lib.ListN.{length, getD, drop, replicate, List·getD-eq-default}
 use lib.Seq.{getD-drop}
+use borrow.Author.Tests.{eq-eqb}
 use Rattle.facts.specs.Sums.{sum}
-use Rattle.netlist.specs.Kinds.{width, topLevel}
+use Rattle.facts.proofs.Bools.{and-i}
+use Rattle.netlist.specs.Kinds.{width, slots, topLevel}
 use Rattle.netlist.specs.Records.{Netlist}
 use Rattle.fanout.specs.Nets.{row, up, buffersAt}
 use Rattle.mapper.specs.declared.Tree.{Tree}
 use Rattle.mapper.specs.Bytes.{written}
-use Rattle.mapper.specs.Mapped.{buffersOf, treeSize, blockStart, mappedSize, mapped, Ready}
-use Rattle.mapper.specs.Chains.{Chained, Filled, Walkable, Walked, Stale, Net, Hung, Noded, Writable, Wrote}
+use Rattle.mapper.specs.Mapped.{buffersOf, treeSize, blockStart, mappedSize, sinkParent, mapped, Ready}
+use Rattle.mapper.specs.Chains.{slotEnd, usedSlot, faninSlot, nextSink, Chained, Filled, Walkable, Walked, Stale, Net, Hung, Noded, Writable, Wrote}
 use Rattle.mapper.proofs.Area.{written-none, written-more, written-length}
 use Rattle.facts.proofs.Blocks.{block-before}
 use Rattle.mapper.proofs.Nodes.{pos, nodes-none}
-use Rattle.mapper.proofs.Measuring.{walkable, net-nodes}
+use Rattle.mapper.proofs.Chains.{next-none}
+use Rattle.mapper.proofs.Filling.{chain-first}
+use Rattle.mapper.proofs.Measuring.{walkable, net-nodes, measured-none}
 
 module _ (n : Netlist) (s d : ℕ) (first next : List ℕ) (end : ℕ) (r : Ready n s) (h : Chained n first next end) (top : ℕ)
     (counts : List ℕ) (f : Filled n d counts top) where
@@ -67,6 +72,33 @@ module _ (n : Netlist) (s d top : ℕ) (counts : List ℕ) (g : Net n s d counts
 sum-last : (f : ℕ → ℕ) (n : ℕ) → sum f n + f n ≡ sum f (n + 1)
 unfolding sum
 sum-last f n = rw (add-one n) refl
+
+-- a driver without sinks has no buffers, and no slot names it
+module _ (n : Netlist) (s d at : ℕ) (first next : List ℕ) (end : ℕ) (counts base parents area : List ℕ)
+    (w : Writable n s d at first next end counts base parents area) where
+  pub net-none : (p : ℕ) → p ≡ getD first d 0 → end ≤ p → Wrote n s d at area counts base parents area at
+  net-none p e l =
+      record {
+        start = omega (arith, w .start, none, sum-last (treeSize n s) d);
+        clear = w .clear;
+        room = w .room;
+        hung = record { size = w .hung .size; at = λ y a u b. hangs y a u b (decLt (faninSlot n y) d) };
+        bytes = sym (ap (λ (c : ℕ). written (mapped n s) at c area) (sym none) ∙ written-none (mapped n s) at 0 area);
+      }
+    where
+      none : 0 ≡ treeSize n s d
+      none = measured-none n first next end d p (w .chained) e (w .driver) s (w .ready .low, w .ready .high) l .buffers
+
+      first-is : p ≡ nextSink n d 0
+      first-is = chain-first n first next end d (w .chained) p (w .driver) e
+
+      hangs : (y : ℕ) → y < slotEnd n → usedSlot n y ≡ true → faninSlot n y < d + 1 → Dec (faninSlot n y < d) →
+          getD parents y 0 ≡ sinkParent n s (y / slots) (y % slots)
+      hangs y a u b (yes m) = w .hung .at y a u m
+      hangs y a u b (no m) =
+          absurd
+          (next-none n d 0 y (omega arith) (omega (arith, first-is, w .chained .stop))
+          (and-i (usedSlot n y) _ u (eq-eqb (faninSlot n y) d (omega arith))))
 
 -- the nets of the drivers below d are written
 pub record Netting (n : Netlist) (s : ℕ) (area₀ : List ℕ) (d at : ℕ) (counts base parents area : List ℕ) : Type 0 where

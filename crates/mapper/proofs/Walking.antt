@@ -1,18 +1,19 @@
--- Laws of walking a row down in place: from distance k on the row holds the buffers.
+-- Laws of walking a row down in place: from distance k on the row holds the buffers, or nothing where it is drained.
 use Prim.Native.Nat.{ℕ, suc, _+_, _-_, _*_, _≤_, _<_, _/_}
 use mathlib.Core.Path.{_≡_, refl, sym, _∙_, ap}
 use mathlib.Core.List.{List, [], _∷_}
 use native.Mathlib.Omega.{arith}
 use native.Mathlib.Nat.{mul-le-mul-right, mul-suc}
-use native.Mathlib.Decide.{ℕ-discrete}
+use native.Mathlib.Decide.{decLt, ℕ-discrete}
 use mir.Val.{Fits}
 use mir.Syntax.{w32}
-use lib.ListN.{length, getD, drop, set, length-set, length-drop}
-use lib.Seq.{getD-set-same, getD-set-other, getD-drop}
+use lib.ListN.{length, getD, drop, set, replicate, length-set, length-drop, length-replicate}
+use lib.Seq.{getD-set-same, getD-set-other, getD-drop, ext-getD}
 use Rattle.netlist.specs.Kinds.{slots, topLevel, sourceLimit}
-use Rattle.fanout.specs.Nets.{up, nodes, buffers, nodesAt, buffersAt}
+use Rattle.fanout.specs.Nets.{up, nodes, buffers, nodesAt, buffersAt, fewest}
 use Rattle.fanout.proofs.Nets.{up-le, up-zero, nodes-at, buffers-from}
-use Rattle.mapper.specs.Chains.{Walkable, Walked}
+use Rattle.mapper.specs.Chains.{Walkable, Walked, Drained}
+use Rattle.mapper.proofs.Lists.{getD-replicated}
 use Rattle.mapper.proofs.Nodes.{nodes-none, buffers-none}
 
 -- at most half of the nodes, rounded up
@@ -38,15 +39,15 @@ buffers-small s c (here ∷ further) l h =
       mul-suc (2 * c) (length further),
     )
 
--- at distance k: its nodes, the buffers from there on, and the row, whose entries are sinks below k and buffers from k on
-pub record Walking (s : ℕ) (counts row : List ℕ) (k nodes buffers : ℕ) : Type 0 where
+-- at distance k: its nodes, the buffers from there on, and the row, whose entries are sinks below k and what is left from k on
+pub record Walking (s : ℕ) (counts : List ℕ) (left : ℕ → ℕ) (row : List ℕ) (k nodes buffers : ℕ) : Type 0 where
   pub from : 1 ≤ k
   pub to : k ≤ suc topLevel
   pub here : nodes ≡ nodesAt s counts k
   pub further : buffers ≡ Rattle.fanout.specs.Nets.buffers s (drop k counts)
   pub size : length row ≡ suc topLevel
   pub below : (x : ℕ) → x < k → getD row x 0 ≡ getD counts x 0
-  pub above : (x : ℕ) → k ≤ x → getD row x 0 ≡ buffersAt s counts x
+  pub above : (x : ℕ) → k ≤ x → getD row x 0 ≡ left x
 
 module _ (s : ℕ) (counts : List ℕ) (top : ℕ) (w : Walkable s counts top) where
   pos : 0 < s
@@ -55,8 +56,8 @@ module _ (s : ℕ) (counts : List ℕ) (top : ℕ) (w : Walkable s counts top) w
   none : (k x : ℕ) → top < k → getD (drop k counts) x 0 ≡ 0
   none k x l = getD-drop k counts x 0 ∙ w .beyond (k + x) (omega arith)
 
-  pub walk-start : Walking s counts counts (top + 1) 0 0
-  walk-start =
+  start : (left : ℕ → ℕ) → ((x : ℕ) → top < x → left x ≡ 0) → Walking s counts left counts (top + 1) 0 0
+  start left z =
       record {
         from = omega arith;
         to = omega (arith, w .near);
@@ -64,27 +65,23 @@ module _ (s : ℕ) (counts : List ℕ) (top : ℕ) (w : Walkable s counts top) w
         further = sym (buffers-none s (drop (top + 1) counts) pos (λ x. none (top + 1) x (omega arith)));
         size = w .size;
         below = λ x l. refl;
-        above = λ x l.
-            w .beyond x (omega arith)
-            ∙ sym (ap (up s) (nodes-none s (drop (suc x) counts) pos (λ y. none (suc x) y (omega arith))) ∙ up-zero s pos);
+        above = λ x l. w .beyond x (omega arith) ∙ sym (z x (omega arith));
       }
+
+  pub walk-start : Walking s counts (buffersAt s counts) counts (top + 1) 0 0
+  walk-start =
+      start (buffersAt s counts)
+      (λ x l. ap (up s) (nodes-none s (drop (suc x) counts) pos (λ y. none (suc x) y (omega arith))) ∙ up-zero s pos)
+
+  pub drain-start : Walking s counts (λ x. 0) counts (top + 1) 0 0
+  drain-start = start (λ x. 0) (λ x l. refl)
 
   small-from : (k x : ℕ) → getD (drop k counts) x 0 ≤ slots * sourceLimit
   small-from k x = omega (arith, getD-drop k counts x 0, w .small (k + x))
 
-  module _ (row : List ℕ) (k nodes buffers : ℕ) (h : Walking s counts row k nodes buffers) where
+  module _ (left : ℕ → ℕ) (row : List ℕ) (k nodes buffers : ℕ) (h : Walking s counts left row k nodes buffers) where
     pub walk-few : nodes ≤ 65535
     walk-few = omega (arith, h .here, nodes-small s (slots * sourceLimit) (drop k counts) (w .low) (small-from k))
-
-    pub walk-end : k ≤ 1 → Walked s counts row (record { nodes = nodes; buffers = buffers })
-    walk-end l =
-        let e : k ≡ 1 = omega (arith, h .from) in
-        record {
-          nodes = h .here ∙ ap (nodesAt s counts) e;
-          buffers = h .further ∙ ap (λ (k : ℕ). Rattle.fanout.specs.Nets.buffers s (drop k counts)) e;
-          size = h .size;
-          at = λ x m. h .above x (omega arith);
-        }
 
     module _ (l : 1 < k) (b : ℕ) (e : b ≡ up s nodes) where
       pub walk-room : k - 1 < suc topLevel
@@ -123,18 +120,62 @@ module _ (s : ℕ) (counts : List ℕ) (top : ℕ) (w : Walkable s counts top) w
             w .size,
           )
 
-      pub walk-more : Walking s counts (set row (k - 1) b) (k - 1) (b + getD row (k - 1) 0) (buffers + b)
-      walk-more =
+      more : (v : ℕ) → v ≡ left (k - 1) → Walking s counts left (set row (k - 1) v) (k - 1) (b + getD row (k - 1) 0) (buffers + b)
+      more v q =
           record {
             from = omega arith;
             to = omega (arith, h .to);
             here = nodes-here;
             further = all-buffers;
-            size = length-set row (k - 1) b ∙ h .size;
-            below = λ x m. getD-set-other row (k - 1) x b 0 (λ g. omega arith) ∙ h .below x (omega arith);
+            size = length-set row (k - 1) v ∙ h .size;
+            below = λ x m. getD-set-other row (k - 1) x v 0 (λ g. omega arith) ∙ h .below x (omega arith);
             above = λ x m. at x m (ℕ-discrete x (k - 1));
           }
         where
-          at : (x : ℕ) → k - 1 ≤ x → Dec (x ≡ k - 1) → getD (set row (k - 1) b) x 0 ≡ buffersAt s counts x
-          at x m (yes g) = rw g (getD-set-same row (k - 1) b 0 (omega (arith, h .to, h .size)) ∙ carried)
-          at x m (no g) = getD-set-other row (k - 1) x b 0 g ∙ h .above x (omega arith)
+          at : (x : ℕ) → k - 1 ≤ x → Dec (x ≡ k - 1) → getD (set row (k - 1) v) x 0 ≡ left x
+          at x m (yes g) = rw g (getD-set-same row (k - 1) v 0 (omega (arith, h .to, h .size)) ∙ q)
+          at x m (no g) = getD-set-other row (k - 1) x v 0 g ∙ h .above x (omega arith)
+
+    last : k ≤ 1 → k ≡ 1
+    last l = omega (arith, h .from)
+
+    nodes-last : k ≤ 1 → nodes ≡ nodesAt s counts 1
+    nodes-last l = h .here ∙ ap (nodesAt s counts) (last l)
+
+    buffers-last : k ≤ 1 → buffers ≡ fewest s counts
+    buffers-last l = h .further ∙ ap (λ (k : ℕ). Rattle.fanout.specs.Nets.buffers s (drop k counts)) (last l)
+
+  module _ (row : List ℕ) (k nodes buffers : ℕ) (h : Walking s counts (buffersAt s counts) row k nodes buffers) where
+    pub walk-more : (b : ℕ) → 1 < k → b ≡ up s nodes →
+        Walking s counts (buffersAt s counts) (set row (k - 1) b) (k - 1) (b + getD row (k - 1) 0) (buffers + b)
+    walk-more b l e = more (buffersAt s counts) row k nodes buffers h l b e b (carried (buffersAt s counts) row k nodes buffers h l b e)
+
+    pub walk-end : k ≤ 1 → Walked s counts row (record { nodes = nodes; buffers = buffers })
+    walk-end l =
+        record {
+          nodes = nodes-last (buffersAt s counts) row k nodes buffers h l;
+          buffers = buffers-last (buffersAt s counts) row k nodes buffers h l;
+          size = h .size;
+          at = λ x m. h .above x (omega arith);
+        }
+
+  module _ (row : List ℕ) (k nodes buffers : ℕ) (h : Walking s counts (λ x. 0) row k nodes buffers) where
+    pub drain-more : (b : ℕ) → 1 < k → b ≡ up s nodes →
+        Walking s counts (λ x. 0) (set row (k - 1) 0) (k - 1) (b + getD row (k - 1) 0) (buffers + b)
+    drain-more b l e = more (λ x. 0) row k nodes buffers h l b e 0 refl
+
+    pub drain-end : k ≤ 1 → Drained s counts row (record { nodes = nodes; buffers = buffers })
+    drain-end l =
+        record {
+          nodes = nodes-last (λ x. 0) row k nodes buffers h l;
+          buffers = buffers-last (λ x. 0) row k nodes buffers h l;
+          clear =
+              ext-getD 0 row (replicate (suc topLevel) 0) (h .size ∙ sym (length-replicate {A = ℕ} (suc topLevel) 0))
+              (λ x m. at x (decLt 0 x) ∙ sym (getD-replicated (suc topLevel) x 0));
+        }
+      where
+        at : (x : ℕ) → Dec (0 < x) → getD row x 0 ≡ 0
+        at x (yes m) = h .above x (omega arith)
+        at x (no m) =
+            let e : x ≡ 0 = omega arith in
+            rw e (h .below 0 (omega (arith, h .from)) ∙ w .apart)

@@ -63,12 +63,13 @@ pub record Filled (n : Netlist) (d : ℕ) (counts : List ℕ) (top : ℕ) : Type
   pub near : top ≤ topLevel
   pub beyond : (k : ℕ) → top < k → getD counts k 0 ≡ 0
 
--- a row that can be walked down from distance top: its entries are small, and zero beyond
+-- a row that can be walked down from distance top to 1: its entries are small, and zero beyond
 pub record Walkable (s : ℕ) (counts : List ℕ) (top : ℕ) : Type 0 where
   pub low : 2 ≤ s
   pub high : s ≤ 4
   pub size : length counts ≡ suc topLevel
   pub near : top ≤ topLevel
+  pub apart : getD counts 0 0 ≡ 0
   pub small : (k : ℕ) → getD counts k 0 ≤ slots * sourceLimit
   pub beyond : (k : ℕ) → top < k → getD counts k 0 ≡ 0
 
@@ -78,6 +79,12 @@ pub record Walked (s : ℕ) (counts after : List ℕ) (t : Tree) : Type 0 where
   pub buffers : t .buffers ≡ fewest s counts
   pub size : length after ≡ suc topLevel
   pub at : (k : ℕ) → 1 ≤ k → getD after k 0 ≡ buffersAt s counts k
+
+-- a row that the walk leaves all zero
+pub record Drained (s : ℕ) (counts after : List ℕ) (t : Tree) : Type 0 where
+  pub nodes : t .nodes ≡ nodesAt s counts 1
+  pub buffers : t .buffers ≡ fewest s counts
+  pub clear : after ≡ replicate (suc topLevel) 0
 
 -- a row to be cleared up to distance top
 pub record Stale (counts : List ℕ) (top : ℕ) : Type 0 where

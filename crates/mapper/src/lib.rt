@@ -14,7 +14,7 @@ ghost use Rattle.mapper.specs.Bytes.{encode, encoded, put, written, byte
 ghost use Rattle.mapper.specs.Mapped.{treeSize, blockStart, mappedSize, bufferOf, mapped, Ready};
 ghost use Rattle.mapper.specs.Answer.{treesBelow, gates, share, refusal, figures, mapAnswer, mapArea};
 ghost use Rattle.mapper.specs.View.{noEnds, blockEnds, blockView};
-ghost use Rattle.mapper.specs.Chains.{slotEnd, Linked, Chained, Filled, Walkable, Walked, Stale, Measured, sizingOf, levelRecord, Net, Based, Hung, Hangable, Noded, Writable, Wrote, relinked, relinkedAt, Counted, Maps};
+ghost use Rattle.mapper.specs.Chains.{Linked, Chained, Filled, Walkable, Walked, Drained, Stale, Measured, sizingOf, levelRecord, Net, Based, Hung, Hangable, Noded, Writable, Wrote, relinked, relinkedAt, Counted, Maps};
 use facts::Checked;
 use fanout::DISTANCES;
 use fanout::DRIVER_CAPACITY;
@@ -78,33 +78,47 @@ fn amount(x: u32) -> usize
     x as usize
 }
 
-// Slot x, if used, comes before what its driver had first.
-fn link(source: &[u8], x: usize, first: &mut [u16; RECORDS], next: &mut [u16; SINKS])
+// The used slots of record i, from the last one down: each comes before what its driver had first.
+fn link_slots(
+    source: &[u8],
+    i: usize,
+    used: usize,
+    first: &mut [u16; RECORDS],
+    next: &mut [u16; SINKS],
+)
     requires { ⌜ IsSource (netlist (now source)) ⌝ }
-    requires { ⌜ x < slotEnd (netlist (now source)) ⌝ }
-    requires { ⌜ Linked (netlist (now source)) (now first) (now next) (x + 1) ⌝ }
-    ensures { λ _. ⌜ Linked (netlist (now (source .entry))) (now (first .exit)) (now (next .exit)) x ⌝ }
+    requires { ⌜ i < netlist (now source) .size ⌝ }
+    requires { ⌜ used ≡ arity (netlist (now source) .at i .kind) ⌝ }
+    requires { ⌜ Linked (netlist (now source)) (now first) (now next) (slots * (i + 1)) ⌝ }
+    ensures { λ _. ⌜ Linked (netlist (now (source .entry))) (now (first .exit)) (now (next .exit)) (slots * i) ⌝ }
 {
-    let i = x / SLOTS;
-    let j = x % SLOTS;
-    if j < netlist::arity(netlist::kind_at(source, i)) {
+    let mut j = used;
+    while 0 < j {
+        j -= 1;
         let d = netlist::slot_at(source, i, j) as usize;
+        let x = SLOTS * i + j;
         next[x] = first[d];
         first[d] = x as u16;
     }
 }
 
-// The chains of all slots, from the last slot down.
-fn link_all(source: &[u8], end: usize, first: &mut [u16; RECORDS], next: &mut [u16; SINKS])
+// The chains of all slots, from the last record down.
+fn link_all(source: &[u8], n: usize, first: &mut [u16; RECORDS], next: &mut [u16; SINKS])
     requires { ⌜ IsSource (netlist (now source)) ⌝ }
-    requires { ⌜ end ≡ slotEnd (netlist (now source)) ⌝ }
-    requires { ⌜ Linked (netlist (now source)) (now first) (now next) end ⌝ }
+    requires { ⌜ n ≡ recordCount (now source) ⌝ }
+    requires { ⌜ Linked (netlist (now source)) (now first) (now next) (slots * n) ⌝ }
     ensures { λ _. ⌜ Linked (netlist (now (source .entry))) (now (first .exit)) (now (next .exit)) 0 ⌝ }
 {
-    let mut x = end;
-    while 0 < x {
-        x -= 1;
-        link(source, x, first, next);
+    let mut i = n;
+    while 0 < i {
+        i -= 1;
+        link_slots(
+            source,
+            i,
+            netlist::arity(netlist::kind_at(source, i)),
+            first,
+            next,
+        );
     }
 }
 
@@ -182,6 +196,24 @@ fn walk_down(s: u32, top: usize, row: &mut [u32; DISTANCES]) -> Tree
     Tree { nodes, buffers }
 }
 
+// The same walk, which leaves the row all zero.
+fn drain(s: u32, top: usize, row: &mut [u32; DISTANCES]) -> Tree
+    requires { ⌜ Walkable s (now row) top ⌝ }
+    ensures { λ r. ⌜ Drained s (now (row .entry)) (now (row .exit)) r ⌝ }
+{
+    let mut nodes: u32 = 0;
+    let mut buffers: u32 = 0;
+    let mut k = top + 1;
+    while 1 < k {
+        k -= 1;
+        let carried = carriers(s, nodes);
+        nodes = carried + row[k];
+        row[k] = 0;
+        buffers += carried;
+    }
+    Tree { nodes, buffers }
+}
+
 // The row, all zero again: only distances up to top were touched.
 fn clear_row(top: usize, row: &mut [u32; DISTANCES])
     requires { ⌜ Stale (now row) top ⌝ }
@@ -194,7 +226,7 @@ fn clear_row(top: usize, row: &mut [u32; DISTANCES])
     }
 }
 
-// d's net: the nodes left at distance 1 and its buffers. The row is all zero before and after.
+// d's net: the nodes left at distance 1 and its buffers; one sink has a buffer at each distance before it. The row is all zero before and after.
 fn measure(
     source: &[u8],
     s: u32,
@@ -211,13 +243,25 @@ fn measure(
     ensures { λ r. ⌜ Measured (netlist (now (source .entry))) s d r ⌝ }
     ensures { λ _. ⌜ now (row .exit) ≡ replicate (suc topLevel) 0 ⌝ }
 {
+    let p = index(first[d]);
+    if end <= p {
+        return Tree {
+            nodes: 0,
+            buffers: 0,
+        };
+    }
+    if end <= index(next[p]) {
+        let k = netlist::level_at(source, p / SLOTS) - netlist::level_at(source, d);
+        return Tree {
+            nodes: 1,
+            buffers: k as u32 - 1,
+        };
+    }
     let top = fill_row(source, end, first, next, d, row);
-    let tree = walk_down(s, top, row);
-    clear_row(top, row);
-    tree
+    drain(s, top, row)
 }
 
-// Check 8 of the first m records, rising: the buffers of their trees, or the first driver without one.
+// Check 8 of the first m records, rising: the buffers of their trees, or the first driver without one. The row is all zero before and after.
 fn count_trees(
     source: &[u8],
     s: u32,
@@ -225,17 +269,19 @@ fn count_trees(
     end: usize,
     first: &[u16; RECORDS],
     next: &[u16; SINKS],
+    row: &mut [u32; DISTANCES],
 ) -> Sizing
     requires { ⌜ Chained (netlist (now source)) (now first) (now next) end ⌝ }
     requires { ⌜ (2 ≤ s) × (s ≤ 4) ⌝ }
     requires { ⌜ m ≤ recordCount (now source) ⌝ }
+    requires { ⌜ now row ≡ replicate (suc topLevel) 0 ⌝ }
     ensures { λ r. ⌜ r ≡ sizingOf (treesBelow (netlist (now (source .entry))) s m) (sum (treeSize (netlist (now (source .entry))) s) m) ⌝ }
+    ensures { λ _. ⌜ now (row .exit) ≡ replicate (suc topLevel) 0 ⌝ }
 {
-    let mut row = [0u32; DISTANCES];
     let mut total: usize = 0;
     let mut d: usize = 0;
     while d < m {
-        let tree = measure(source, s, end, first, next, d, &mut row);
+        let tree = measure(source, s, end, first, next, d, row);
         if DRIVER_CAPACITY < tree.nodes {
             return Sizing::Refuses(8, d as u32);
         }
@@ -427,6 +473,9 @@ fn write_net(
     requires { ⌜ Writable (netlist (now source)) s d at (now first) (now next) end (now row) (now base) (now parents) (now area) ⌝ }
     ensures { λ r. ⌜ Wrote (netlist (now (source .entry))) s d at (now (area .entry)) (now (row .exit)) (now (base .exit)) (now (parents .exit)) (now (area .exit)) r ⌝ }
 {
+    if end <= index(first[d]) {
+        return at;
+    }
     let top = grow(source, s, end, first, next, d, row);
     let after = write_buffers(source, s, d, at, top, row, base, area);
     hang_sinks(source, s, end, first, next, d, base, row, parents);
@@ -640,8 +689,9 @@ fn map_source(source: &[u8], s: u32, area: &mut [u8]) -> Mapping
     let end = SLOTS * n;
     let mut first = [end as u16; RECORDS];
     let mut next = [0u16; SINKS];
-    link_all(source, end, &mut first, &mut next);
-    let sizing = count_trees(source, s, n, end, &first, &next);
+    let mut row = [0u32; DISTANCES];
+    link_all(source, n, &mut first, &mut next);
+    let sizing = count_trees(source, s, n, end, &first, &next, &mut row);
     match sizing {
         Sizing::Total(total) => map_trees(source, s, n, end, &first, &next, total, area),
         Sizing::Refuses(number, place) => refuse(number, place),
@@ -681,7 +731,8 @@ fn start_of(
     requires { ⌜ m ≤ n ⌝ }
     ensures { λ r. ⌜ r ≡ blockStart (netlist (now (source .entry))) s m ⌝ }
 {
-    let sizing = count_trees(source, s, m, end, first, next);
+    let mut row = [0u32; DISTANCES];
+    let sizing = count_trees(source, s, m, end, first, next, &mut row);
     match sizing {
         Sizing::Total(total) => n + total,
         Sizing::Refuses(_, _) => 0,
@@ -741,8 +792,9 @@ fn source_ends(source: &[u8], s: u32, d: usize) -> Ends
     let end = SLOTS * n;
     let mut first = [end as u16; RECORDS];
     let mut next = [0u16; SINKS];
-    link_all(source, end, &mut first, &mut next);
-    let sizing = count_trees(source, s, n, end, &first, &next);
+    let mut row = [0u32; DISTANCES];
+    link_all(source, n, &mut first, &mut next);
+    let sizing = count_trees(source, s, n, end, &first, &next, &mut row);
     match sizing {
         Sizing::Total(total) => counted_ends(source, s, n, end, &first, &next, total, d),
         Sizing::Refuses(_, _) => no_ends(),

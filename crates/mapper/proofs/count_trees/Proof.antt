@@ -22,7 +22,10 @@ cast-t13 : tie.Need-cast-t13 Inv-loop μ-loop
 cast-t13 c = search needs
 
 returns : tie.Need-returns Inv-loop μ-loop
-returns c = search (needs, count-stop)
+returns c =
+    let m = c .before .before in
+    let l = m .before .before in
+    (count-stop _ _ _ _ _ _ _ (l .before .loop .inv) (l .loop-test .taken) (m .measure .ensures .0) (c .if1 .taken), search needs)
 
 cast-total : tie.Need-cast-total Inv-loop μ-loop
 cast-total c = search needs
@@ -40,7 +43,7 @@ loop-again : tie.Need-loop-again Inv-loop μ-loop
 loop-again c = search (needs, count-more)
 
 returns-2 : tie.Need-returns-2 Inv-loop μ-loop
-returns-2 c = search count-end
+returns-2 c = (search count-end, search needs)
 
 pub count-trees-spec : {M : Type 1} → statement M
 count-trees-spec =

@@ -17,7 +17,7 @@ link-all-requires : tie.Need-link-all-requires
 link-all-requires c κs = (search input-source, (search needs, search (needs, input-unlinked)))
 
 count-trees-requires : tie.Need-count-trees-requires
-count-trees-requires c κs = (search (needs, input-source), (search input-capacity, search needs))
+count-trees-requires c κs = (search (needs, input-source), (search input-capacity, (search needs, search needs)))
 
 enum-known-sizing : tie.Need-enum-known-sizing
 enum-known-sizing c = search needs

@@ -5,7 +5,7 @@ use Rattle.mapper.proofs.start_of.Statement.{statement}
 use Rattle.mapper.proofs.start_of.Tie as tie
 
 count-trees-requires : tie.Need-count-trees-requires
-count-trees-requires c κs = search needs
+count-trees-requires c κs = (search needs, (search needs, (search needs, search needs)))
 
 enum-known-sizing : tie.Need-enum-known-sizing
 enum-known-sizing c = search needs

@@ -1,11 +1,12 @@
 -- `walk_down` meets its contract: from distance k on the row holds the buffers.
+use Rattle.fanout.specs.Nets.{buffersAt}
 use Rattle.mapper.proofs.Walking.{Walking, walk-start, walk-few, walk-room, walk-nodes, walk-buffers, walk-more, walk-end}
 use borrow.Author.Needs.{needs}
 use Rattle.mapper.proofs.walk_down.Statement.{statement}
 use Rattle.mapper.proofs.walk_down.Tie as tie
 
 abbrev Inv-loop : tie.InvT-loop
-Inv-loop s top row₀ nodes₀ buffers₀ k₀ row nodes buffers k = Walking s row₀ row k nodes buffers
+Inv-loop s top row₀ nodes₀ buffers₀ k₀ row nodes buffers k = Walking s row₀ (buffersAt s row₀) row k nodes buffers
 
 abbrev μ-loop : tie.MeasureT-loop
 μ-loop s top row₀ nodes₀ buffers₀ k₀ row nodes buffers k = k
