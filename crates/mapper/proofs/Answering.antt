@@ -26,8 +26,8 @@ use Rattle.mapper.specs.Mapped.{treeSize, mappedSize, mapped, Ready}
 use Rattle.mapper.specs.Answer.{gatePrice, bufferPrice, gates, share, junctions, figures, answerOf, areaOf, refusal, noTree, treeCheck, treesBelow, treeChecks, tooLarge, tooShort, sourceMaps, mapChecks, mapAnswer, mapArea}
 use Rattle.mapper.specs.declared.Sizing.{Sizing}
 use Rattle.mapper.specs.declared.Sizing.the-variants.{Total, Refuses}
-use Rattle.mapper.specs.Chains.{Hung, Linked, sizingOf, slotEnd, Counted}
-use Rattle.mapper.proofs.Chains.{link-start}
+use Rattle.mapper.specs.Chains.{Linked, Chained, Hung, sizingOf, slotEnd, Counted}
+use Rattle.mapper.proofs.Chains.{link-start, chained-all}
 use Rattle.mapper.proofs.Counting.{total-small, refusing, counting}
 
 -- the share, where the whole is 0 and where it is not
@@ -92,8 +92,8 @@ module _ (n : Netlist) (N bs g : ℕ) (size : N ≡ n .size) (few : N ≤ source
   accepted D part f h = cc
 
 -- no sink hangs yet
-pub hung-start : (n : Netlist) (s : ℕ) (parents : List ℕ) → length parents ≡ slots * sourceLimit → Hung n s parents 0
-hung-start n s parents e = record { size = e; at = λ y a b c. absurd (omega arith) }
+pub hung-start : (n : Netlist) (s : ℕ) (first next : List ℕ) (end : ℕ) → Chained n first next 0 end → Hung n s first next 0 end
+hung-start n s first next end h = record { chained = h; at = λ y a b c. absurd (omega arith) }
 
 -- the answer and the area that the checks leave
 module _ (bytes : List ℕ) (s : ℕ) (area : List ℕ) where
@@ -152,6 +152,9 @@ module _ (bytes : List ℕ) (s : ℕ) (i : inputChecks s bytes ≡ Passed) where
     input-unlinked next l =
         rw size (link-start (netlist bytes) (replicate sourceLimit (slotEnd (netlist bytes))) next refl l (input-source .few))
 
+    pub input-chained : (first next : List ℕ) → Linked (netlist bytes) first next 0 → Chained (netlist bytes) first next 0 (slots * N)
+    input-chained first next l = chained-all (netlist bytes) first next (slots * N) input-source l (ap (λ (k : ℕ). slots * k) size)
+
     -- the trees are counted
     module _ (total : ℕ) (z : Sizing) (e : z ≡ sizingOf (treesBelow (netlist bytes) s N) (sum (treeSize (netlist bytes) s) N))
         (f : z ≡ Total total) where
@@ -161,7 +164,7 @@ module _ (bytes : List ℕ) (s : ℕ) (i : inputChecks s bytes ≡ Passed) where
           record {
             input = i;
             trees = ap (treesBelow (netlist bytes) s) (sym size) ∙ c .0;
-            chained = record { source = input-source; linked = l; stop = ap (λ (k : ℕ). slots * k) size };
+            chained = input-chained first next l;
             records = size;
             buffers = c .1 ∙ ap (sum (treeSize (netlist bytes) s)) size;
           }

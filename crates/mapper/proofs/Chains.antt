@@ -17,7 +17,7 @@ use Rattle.netlist.specs.Kinds.{slots, sourceLimit, arity}
 use Rattle.netlist.specs.Records.{Netlist, fanin}
 use Rattle.netlist.specs.Source.{IsSource}
 use Rattle.netlist.proofs.Checks.{arity-slots}
-use Rattle.mapper.specs.Chains.{slotEnd, usedSlot, faninSlot, namesSlot, nextSink, Linked}
+use Rattle.mapper.specs.Chains.{slotEnd, usedSlot, faninSlot, namesSlot, nextSink, Linked, Chained}
 
 -- what holds only where p does is counted nowhere on the way to the first p
 seek-count : (p q : ℕ → Bool) (y m : ℕ) → ((z : ℕ) → q z ≡ true → p z ≡ true) → count q (seek p y m) ≡ count q y
@@ -221,3 +221,25 @@ module _ (n : Netlist) (first next : List ℕ) where
 
   pub linked-end : (i : ℕ) → i ≤ 0 → Linked n first next (slots * i) → Linked n first next 0
   linked-end i l h = let e : slots * i ≡ 0 = omega arith in subst (λ (y : ℕ). Linked n first next y) e h
+
+-- once all slots are linked the chains of all drivers stand; those from a driver on stand from each later one on
+module _ (n : Netlist) (first next : List ℕ) (end : ℕ) where
+  pub chained-all : IsSource n → Linked n first next 0 → end ≡ slotEnd n → Chained n first next 0 end
+  chained-all s h e =
+      record {
+        source = s;
+        firsts = h .firsts;
+        nexts = λ y l u d. h .nexts y (omega arith) l u;
+        sinks = h .sinks;
+        stop = e;
+      }
+
+  pub chained-from : (c d : ℕ) → Chained n first next c end → c ≤ d → Chained n first next d end
+  chained-from c d h l =
+      record {
+        source = h .source;
+        firsts = h .firsts;
+        nexts = λ y a u b. h .nexts y a u (omega arith);
+        sinks = h .sinks;
+        stop = h .stop;
+      }

@@ -81,7 +81,7 @@ module _ (n : Netlist) (s : ℕ) where
         ap Total (h .before ∙ ap (sum (treeSize n s)) e)
         ∙ ap (λ (a : Checked). sizingOf a (sum (treeSize n s) m)) (scan-end (treeCheck n s) m d (h .checks) (omega arith))
 
-    module _ (first next : List ℕ) (end : ℕ) (t : Tree) (chained : Chained n first next end) (c : (2 ≤ s) × (s ≤ 4)) (l : d < m)
+    module _ (first next : List ℕ) (end : ℕ) (t : Tree) (chained : Chained n first next 0 end) (c : (2 ≤ s) × (s ≤ 4)) (l : d < m)
         (g : Measured n s d t) where
       -- a net's buffers are few enough to add
       pub count-fits : Fits w64 (total + t .buffers)

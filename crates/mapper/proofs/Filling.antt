@@ -14,6 +14,7 @@ use Rattle.facts.proofs.Bools.{and-l, and-r, and-i}
 use Rattle.facts.proofs.Sums.{count-true, count-false, count-none, count-le, count₂-flat}
 use Rattle.netlist.specs.Kinds.{slots, topLevel}
 use Rattle.netlist.specs.Records.{Netlist}
+use Rattle.netlist.specs.Source.{IsSource}
 use Rattle.fanout.specs.Nets.{row, sinks, sinkAt}
 use Rattle.fanout.proofs.Nets.{row-length, row-at}
 use Rattle.mapper.specs.Chains.{slotEnd, usedSlot, faninSlot, namesSlot, nextSink, sinksBelow, Chained, Filled}
@@ -58,24 +59,25 @@ pub record OnChain (n : Netlist) (d p : ℕ) : Type 0 where
   pub within : p ≤ slotEnd n
   pub sink : p < slotEnd n → namesSlot n d p ≡ true
 
--- of a chain: where it begins, its next slot, and what stands there
-module _ (n : Netlist) (first next : List ℕ) (end d : ℕ) (h : Chained n first next end) where
+-- of a chain: what stands at a slot, where it begins, and its next slot
+pub chain-level : (n : Netlist) (d p : ℕ) → IsSource n → OnChain n d p → p < slotEnd n → n .at d .level < n .at (p / slots) .level
+chain-level n d p i c l =
+    omega (
+      arith,
+      i .lower (p / slots) (p % slots) (omega arith) (ltb-true _ _ (and-l (usedSlot n p) _ (c .sink l))),
+      ap (λ (x : ℕ). n .at x .level) (eqb-true (faninSlot n p) d (and-r (usedSlot n p) _ (c .sink l))),
+    )
+
+module _ (n : Netlist) (first next : List ℕ) (end d : ℕ) (h : Chained n first next d end) where
   pub chain-first : (p : ℕ) → d < n .size → p ≡ getD first d 0 → p ≡ nextSink n d 0
-  chain-first p l e = e ∙ h .linked .firsts d l
+  chain-first p l e = e ∙ h .firsts d l
 
-  pub chain-next : (p q : ℕ) → OnChain n d p → p < slotEnd n → q ≡ getD next p 0 → q ≡ nextSink n d (suc p)
+  pub chain-next : (p q : ℕ) → namesSlot n d p ≡ true → p < slotEnd n → q ≡ getD next p 0 → q ≡ nextSink n d (suc p)
   chain-next p q c l e =
-      e
-      ∙ h .linked .nexts p (omega arith) l (and-l (usedSlot n p) _ (c .sink l))
-      ∙ ap (λ (x : ℕ). nextSink n x (suc p)) (eqb-true (faninSlot n p) d (and-r (usedSlot n p) _ (c .sink l)))
-
-  pub chain-level : (p : ℕ) → OnChain n d p → p < slotEnd n → n .at d .level < n .at (p / slots) .level
-  chain-level p c l =
-      omega (
-        arith,
-        h .source .lower (p / slots) (p % slots) (omega arith) (ltb-true _ _ (and-l (usedSlot n p) _ (c .sink l))),
-        ap (λ (x : ℕ). n .at x .level) (eqb-true (faninSlot n p) d (and-r (usedSlot n p) _ (c .sink l))),
-      )
+      e ∙ h .nexts p l (and-l (usedSlot n p) _ c) (omega (arith, named)) ∙ ap (λ (x : ℕ). nextSink n x (suc p)) named
+    where
+      named : faninSlot n p ≡ d
+      named = eqb-true (faninSlot n p) d (and-r (usedSlot n p) _ c)
 
 pub on-chain : (n : Netlist) (d y : ℕ) → y ≤ slotEnd n → OnChain n d (nextSink n d y)
 on-chain n d y l = record { within = next-within n d y l .1; sink = next-names n d y l }
@@ -88,7 +90,7 @@ pub record Filling (n : Netlist) (d p : ℕ) (counts : List ℕ) (top : ℕ) : T
   pub near : top ≤ topLevel
   pub beyond : (k : ℕ) → top < k → getD counts k 0 ≡ 0
 
-module _ (n : Netlist) (first next : List ℕ) (end d : ℕ) (h : Chained n first next end) (ld : d < n .size) where
+module _ (n : Netlist) (first next : List ℕ) (end d : ℕ) (h : Chained n first next d end) (ld : d < n .size) where
   pub fill-start : (p : ℕ) (counts : List ℕ) → p ≡ getD first d 0 → counts ≡ replicate (suc topLevel) 0 → Filling n d p counts 0
   fill-start p counts e f =
       record {
@@ -111,13 +113,13 @@ module _ (n : Netlist) (first next : List ℕ) (end d : ℕ) (h : Chained n firs
     in-chain = omega (arith, h .stop)
 
     pub fill-above : low ≤ up
-    fill-above = omega (arith, chain-level n first next end d h p (f .chain) in-chain)
+    fill-above = omega (arith, chain-level n d p (h .source) (f .chain) in-chain)
 
     pub fill-near : up - low < suc topLevel
     fill-near = omega (arith, h .source .levels (p / slots) (omega (arith, in-chain)))
 
     next-is : (q : ℕ) → q ≡ getD next p 0 → q ≡ nextSink n d (suc p)
-    next-is q e = chain-next n first next end d h p q (f .chain) in-chain e
+    next-is q e = chain-next n first next end d h p q (f .chain .sink in-chain) in-chain e
 
     -- a count stays small
     pub fill-fits : Fits w32 (getD counts (up - low) 0 + 1)
@@ -139,7 +141,7 @@ module _ (n : Netlist) (first next : List ℕ) (end d : ℕ) (h : Chained n firs
         named = f .chain .sink in-chain
 
         above : n .at d .level < n .at (p / slots) .level
-        above = chain-level n first next end d h p (f .chain) in-chain
+        above = chain-level n d p (h .source) (f .chain) in-chain
 
         away : up - low ≡ n .at (p / slots) .level - n .at d .level
         away = omega arith

@@ -17,11 +17,11 @@ use Rattle.netlist.specs.Kinds.{slots, topLevel, arity}
 use Rattle.netlist.specs.Records.{Netlist}
 use Rattle.fanout.specs.Nets.{sinkAt, nodesAt}
 use Rattle.mapper.specs.Mapped.{netRow, buffersOf, treeSize, parent, rank, sinkNumber, sinkParent, Ready}
-use Rattle.mapper.specs.Chains.{slotEnd, usedSlot, faninSlot, namesSlot, nextSink, sinksBelow, Hung, Hangable, Noded}
+use Rattle.mapper.specs.Chains.{slotEnd, usedSlot, faninSlot, namesSlot, nextSink, sinksBelow, Chained, Hung, Hangable, Noded}
 use Rattle.facts.proofs.Blocks.{block-before}
 use Rattle.mapper.proofs.Mapped.{tree-sum}
 use Rattle.mapper.proofs.Nodes.{pos, IsNode, nodes-split, source-node, parent-inside}
-use Rattle.mapper.proofs.Chains.{next-within, next-none}
+use Rattle.mapper.proofs.Chains.{next-within, next-none, chained-from}
 use Rattle.mapper.proofs.Filling.{sinks-all, sinks-skip, sinks-none, sinks-below, sinks-here, sinks-other, OnChain, on-chain, chain-first, chain-next, chain-level}
 use Rattle.mapper.proofs.Planting.{parent-from}
 
@@ -83,51 +83,55 @@ module _ (n : Netlist) (s : ℕ) (r : Ready n s) (d p : ℕ) (l : p < slotEnd n)
   sink-parent =
       ap (λ (d : ℕ). parent n s d (away n p d) (numbered n s p d)) driven ∙ ap (parent n s d (away n p d)) number-flat
 
--- d's sinks below slot p hang on their parents, and are counted behind the buffers of their distances
-pub record Hanging (n : Netlist) (s d p : ℕ) (counts parents : List ℕ) : Type 0 where
+-- d's sinks below slot p hang on their parents, and are counted behind the buffers of their distances; from p on d's chain stands
+pub record Hanging (n : Netlist) (s : ℕ) (first : List ℕ) (end d p : ℕ) (next counts : List ℕ) : Type 0 where
   pub chain : OnChain n d p
   pub size : length counts ≡ suc topLevel
   pub counted : (k : ℕ) → 1 ≤ k → k ≤ topLevel → getD counts k 0 ≡ buffersOf n s d k + sinksBelow n d k p
-  pub hung : Hung n s parents d
-  pub here : (y : ℕ) → y < p → y < slotEnd n → namesSlot n d y ≡ true → getD parents y 0 ≡ sinkParent n s (y / slots) (y % slots)
+  pub later : Chained n first next (d + 1) end
+  pub earlier : (y : ℕ) → y < slotEnd n → usedSlot n y ≡ true → faninSlot n y < d → getD next y 0 ≡ sinkParent n s (y / slots) (y % slots)
+  pub below : (y : ℕ) → y < p → y < slotEnd n → namesSlot n d y ≡ true → getD next y 0 ≡ sinkParent n s (y / slots) (y % slots)
+  pub above : (y : ℕ) → p ≤ y → y < slotEnd n → namesSlot n d y ≡ true → getD next y 0 ≡ nextSink n d (suc y)
 
-module _ (n : Netlist) (s d : ℕ) (first next : List ℕ) (end : ℕ) (counts₀ base parents₀ : List ℕ)
-    (h : Hangable n s d first next end counts₀ base parents₀) where
-  pub hang-start : (p : ℕ) → p ≡ getD first d 0 → Hanging n s d p counts₀ parents₀
+module _ (n : Netlist) (s d : ℕ) (first next₀ : List ℕ) (end : ℕ) (counts₀ base : List ℕ)
+    (h : Hangable n s d first next₀ end counts₀ base) where
+  pub hang-start : (p : ℕ) → p ≡ getD first d 0 → Hanging n s first end d p next₀ counts₀
   hang-start p e =
       record {
         chain = subst (OnChain n d) (sym g) (on-chain n d 0 (omega arith));
         size = h .rowed .size;
         counted = λ k a b. omega (arith, h .rowed .at k a b, ap (sinksBelow n d k) g, sinks-skip n d k 0, sinks-none n d k);
-        hung = h .hung;
-        here = λ y a b c. absurd (next-none n d 0 y (omega arith) (omega (arith, g)) c);
+        later = chained-from n first next₀ end d (d + 1) (h .hung .chained) (omega arith);
+        earlier = h .hung .at;
+        below = λ y a b c. absurd (next-none n d 0 y (omega arith) (omega (arith, g)) c);
+        above = λ y a b c. chain-next n first next₀ end d (h .hung .chained) y (getD next₀ y 0) c b refl;
       }
     where
       g : p ≡ nextSink n d 0
-      g = chain-first n first next end d (h .chained) p (h .driver) e
+      g = chain-first n first next₀ end d (h .hung .chained) p (h .driver) e
 
-  module _ (p : ℕ) (counts parents : List ℕ) (f : Hanging n s d p counts parents) where
+  module _ (p : ℕ) (next counts : List ℕ) (f : Hanging n s first end d p next counts) where
     module _ (l : p < end) (up low : ℕ) (eu : up ≡ n .at (p / slots) .level) (el : low ≡ n .at d .level) where
       in-chain : p < slotEnd n
-      in-chain = omega (arith, h .chained .stop)
+      in-chain = omega (arith, f .later .stop)
 
       named : namesSlot n d p ≡ true
       named = f .chain .sink in-chain
 
       above : n .at d .level < n .at (p / slots) .level
-      above = chain-level n first next end d (h .chained) p (f .chain) in-chain
+      above = chain-level n d p (h .ready .source) (f .chain) in-chain
 
       pub hang-above : low ≤ up
       hang-above = omega (arith, above)
 
       pub hang-near : up - low < suc topLevel
-      hang-near = omega (arith, h .chained .source .levels (p / slots) (omega (arith, in-chain)))
+      hang-near = omega (arith, h .ready .source .levels (p / slots) (omega (arith, in-chain)))
 
       next-is : (q : ℕ) → q ≡ getD next p 0 → q ≡ nextSink n d (suc p)
-      next-is q e = chain-next n first next end d (h .chained) p q (f .chain) in-chain e
+      next-is q e = e ∙ f .above p (omega arith) in-chain named
 
       pub hang-less : (q : ℕ) → q ≡ getD next p 0 → end - q < end - p
-      hang-less q e = omega (arith, next-is q e, next-within n d (suc p) in-chain, h .chained .stop)
+      hang-less q e = omega (arith, next-is q e, next-within n d (suc p) in-chain, f .later .stop)
 
       away-is : up - low ≡ away n p d
       away-is = omega arith
@@ -170,15 +174,26 @@ module _ (n : Netlist) (s d : ℕ) (first next : List ℕ) (end : ℕ) (counts�
           )
 
       pub hang-more : (q t : ℕ) → q ≡ getD next p 0 → t ≡ getD base (up - low) 0 + getD counts (up - low) 0 / s →
-          Hanging n s d q (set counts (up - low) (getD counts (up - low) 0 + 1)) (set parents p t)
+          Hanging n s first end d q (set next p t) (set counts (up - low) (getD counts (up - low) 0 + 1))
       hang-more q t e g =
           record {
             chain = subst (OnChain n d) (sym (next-is q e)) (on-chain n d (suc p) in-chain);
             size = length-set counts (up - low) _ ∙ f .size;
             counted = λ k a b. at k a b (ℕ-discrete k (up - low))
                 ∙ ap (λ (x : ℕ). buffersOf n s d k + x) (sym (ap (sinksBelow n d k) (next-is q e) ∙ sinks-skip n d k (suc p)));
-            hung = record { size = length-set parents p t ∙ f .hung .size; at = others };
-            here = λ y a b c. below y a b c (ℕ-discrete y p);
+            later =
+                record {
+                  source = f .later .source;
+                  firsts = f .later .firsts;
+                  nexts = λ y a u b. apart y (λ x. omega (arith, x)) ∙ f .later .nexts y a u b;
+                  sinks = length-set next p t ∙ f .later .sinks;
+                  stop = f .later .stop;
+                };
+            earlier = λ y a u b. apart y (λ x. omega (arith, x)) ∙ f .earlier y a u b;
+            below = λ y a b c. hung y a b c (ℕ-discrete y p);
+            above = λ y a b c.
+                getD-set-other next p y t 0 (λ x. omega (arith, next-further))
+                ∙ f .above y (omega (arith, next-further)) b c;
           }
         where
           at : (k : ℕ) → 1 ≤ k → k ≤ topLevel → Dec (k ≡ up - low) →
@@ -192,37 +207,38 @@ module _ (n : Netlist) (s d : ℕ) (first next : List ℕ) (end : ℕ) (counts�
               ∙ f .counted k a b
               ∙ ap (λ (x : ℕ). buffersOf n s d k + x) (sym (sinks-other n d p named above k (λ y. x (y ∙ sym away-is))))
 
-          others : (y : ℕ) → y < slotEnd n → usedSlot n y ≡ true → faninSlot n y < d → getD (set parents p t) y 0 ≡ sinkParent n s (y / slots) (y % slots)
-          others y a u b =
-              getD-set-other parents p y t 0
-              (λ x. omega (arith, ap (faninSlot n) x, eqb-true (faninSlot n p) d (and-r (usedSlot n p) _ named)))
-              ∙ f .hung .at y a u b
+          -- another driver's slot is another slot
+          apart : (y : ℕ) → (faninSlot n y ≡ d → ⊥) → getD (set next p t) y 0 ≡ getD next y 0
+          apart y b = getD-set-other next p y t 0 (λ x. b (ap (faninSlot n) x ∙ driven n s (h .ready) d p in-chain named))
 
-          below : (y : ℕ) → y < q → y < slotEnd n → namesSlot n d y ≡ true → Dec (y ≡ p) →
-              getD (set parents p t) y 0 ≡ sinkParent n s (y / slots) (y % slots)
-          below y a b c (yes x) =
+          next-further : p < q
+          next-further = omega (arith, next-is q e, next-within n d (suc p) in-chain)
+
+          hung : (y : ℕ) → y < q → y < slotEnd n → namesSlot n d y ≡ true → Dec (y ≡ p) →
+              getD (set next p t) y 0 ≡ sinkParent n s (y / slots) (y % slots)
+          hung y a b c (yes x) =
               rw x
-              (getD-set-same parents p t 0 (omega (arith, f .hung .size, in-chain, h .ready .source .few))
+              (getD-set-same next p t 0 (omega (arith, f .later .sinks, in-chain, h .ready .source .few))
               ∙ g
               ∙ sym hangs-on)
-          below y a b c (no x) =
-              getD-set-other parents p y t 0 x
+          hung y a b c (no x) =
+              getD-set-other next p y t 0 x
               ∙ elim (decLt y p) [
-                | yes m ↦ f .here y m b c
+                | yes m ↦ f .below y m b c
                 | no m ↦ absurd (next-none n d (suc p) y (omega arith) (omega (arith, next-is q e)) c)
               ]
 
     last : end ≤ p → p ≡ slotEnd n
-    last l = omega (arith, f .chain .within, h .chained .stop)
+    last l = omega (arith, f .chain .within, f .later .stop)
 
-    pub hang-hung : end ≤ p → Hung n s parents (d + 1)
+    pub hang-hung : end ≤ p → Hung n s first next (d + 1) end
     hang-hung l =
         record {
-          size = f .hung .size;
+          chained = f .later;
           at = λ y a u b.
               elim (decLt (faninSlot n y) d) [
-                | yes m ↦ f .hung .at y a u m
-                | no m ↦ f .here y (omega (arith, last l)) a (and-i (usedSlot n y) _ u (eq-eqb (faninSlot n y) d (omega arith)))
+                | yes m ↦ f .earlier y a u m
+                | no m ↦ f .below y (omega (arith, last l)) a (and-i (usedSlot n y) _ u (eq-eqb (faninSlot n y) d (omega arith)))
               ];
         }
 

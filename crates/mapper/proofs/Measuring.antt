@@ -141,7 +141,7 @@ lone-row s (c ∷ r) (suc k) p h =
     (omega (arith, u, h .others 0 (λ e. omega arith)), omega (arith, u, t .1))
 
 -- d's chain by its first slot p: no sink, or one
-module _ (n : Netlist) (first next : List ℕ) (end d p : ℕ) (h : Chained n first next end) (e : p ≡ getD first d 0) (l : d < n .size) where
+module _ (n : Netlist) (first next : List ℕ) (end d p : ℕ) (h : Chained n first next d end) (e : p ≡ getD first d 0) (l : d < n .size) where
   before : (k : ℕ) → sinksBelow n d k p ≡ 0
   before k = ap (sinksBelow n d k) (chain-first n first next end d h p l e) ∙ sinks-skip n d k 0 ∙ sinks-none n d k
 
@@ -167,7 +167,7 @@ module _ (n : Netlist) (first next : List ℕ) (end d p : ℕ) (h : Chained n fi
     on = subst (OnChain n d) (sym (chain-first n first next end d h p l e)) (on-chain n d 0 (omega arith))
 
     above : n .at d .level < n .at (p / slots) .level
-    above = chain-level n first next end d h p on in-chain
+    above = chain-level n d p (h .source) on in-chain
 
     pub lone-above : low ≤ up
     lone-above = omega (arith, above)
@@ -181,7 +181,7 @@ module _ (n : Netlist) (first next : List ℕ) (end d p : ℕ) (h : Chained n fi
         where
           last : slotEnd n ≡ nextSink n d (suc p)
           last =
-              omega (arith, h .stop, chain-next n first next end d h p q on in-chain f, next-within n d (suc p) in-chain)
+              omega (arith, h .stop, chain-next n first next end d h p q (on .sink in-chain) in-chain f, next-within n d (suc p) in-chain)
 
       away : up - low ≡ n .at (p / slots) .level - n .at d .level
       away = omega arith
@@ -211,7 +211,7 @@ module _ (n : Netlist) (first next : List ℕ) (end d p : ℕ) (h : Chained n fi
           net-measured n s d (h .source) (c .0) l (record { nodes = 1; buffers = up - low - 1 }) (sym (r .0)) (sym (r .1))
 
 module _ (n : Netlist) (first next : List ℕ) (end s d top : ℕ) (counts : List ℕ)
-    (h : Chained n first next end) (c : (2 ≤ s) × (s ≤ 4)) (f : Filled n d counts top) where
+    (h : Chained n first next d end) (c : (2 ≤ s) × (s ≤ 4)) (f : Filled n d counts top) where
   pub walkable : Walkable s counts top
   walkable =
       record {

@@ -21,11 +21,11 @@ use Rattle.mapper.specs.Chains.{slotEnd, usedSlot, faninSlot, nextSink, 
 use Rattle.mapper.proofs.Area.{written-none, written-more, written-length}
 use Rattle.facts.proofs.Blocks.{block-before}
 use Rattle.mapper.proofs.Nodes.{pos, nodes-none}
-use Rattle.mapper.proofs.Chains.{next-none}
+use Rattle.mapper.proofs.Chains.{next-none, chained-from}
 use Rattle.mapper.proofs.Filling.{chain-first}
 use Rattle.mapper.proofs.Measuring.{walkable, net-nodes, measured-none}
 
-module _ (n : Netlist) (s d : ℕ) (first next : List ℕ) (end : ℕ) (r : Ready n s) (h : Chained n first next end) (top : ℕ)
+module _ (n : Netlist) (s d : ℕ) (first next : List ℕ) (end : ℕ) (r : Ready n s) (h : Chained n first next d end) (top : ℕ)
     (counts : List ℕ) (f : Filled n d counts top) where
   pub net-walkable : Walkable s counts top
   net-walkable = walkable n first next end s d top counts h (r .low, r .high) f
@@ -74,64 +74,66 @@ unfolding sum
 sum-last f n = rw (add-one n) refl
 
 -- a driver without sinks has no buffers, and no slot names it
-module _ (n : Netlist) (s d at : ℕ) (first next : List ℕ) (end : ℕ) (counts base parents area : List ℕ)
-    (w : Writable n s d at first next end counts base parents area) where
-  pub net-none : (p : ℕ) → p ≡ getD first d 0 → end ≤ p → Wrote n s d at area counts base parents area at
+module _ (n : Netlist) (s d at : ℕ) (first next : List ℕ) (end : ℕ) (counts base area : List ℕ)
+    (w : Writable n s d at first next end counts base area) where
+  pub net-none : (p : ℕ) → p ≡ getD first d 0 → end ≤ p → Wrote n s d at first next end counts base area area at
   net-none p e l =
       record {
         start = omega (arith, w .start, none, sum-last (treeSize n s) d);
         clear = w .clear;
         room = w .room;
-        hung = record { size = w .hung .size; at = λ y a u b. hangs y a u b (decLt (faninSlot n y) d) };
+        hung =
+            record {
+              chained = chained-from n first next end d (d + 1) (w .hung .chained) (omega arith);
+              at = λ y a u b. hangs y a u b (decLt (faninSlot n y) d);
+            };
         bytes = sym (ap (λ (c : ℕ). written (mapped n s) at c area) (sym none) ∙ written-none (mapped n s) at 0 area);
       }
     where
       none : 0 ≡ treeSize n s d
-      none = measured-none n first next end d p (w .chained) e (w .driver) s (w .ready .low, w .ready .high) l .buffers
+      none = measured-none n first next end d p (w .hung .chained) e (w .driver) s (w .ready .low, w .ready .high) l .buffers
 
       first-is : p ≡ nextSink n d 0
-      first-is = chain-first n first next end d (w .chained) p (w .driver) e
+      first-is = chain-first n first next end d (w .hung .chained) p (w .driver) e
 
       hangs : (y : ℕ) → y < slotEnd n → usedSlot n y ≡ true → faninSlot n y < d + 1 → Dec (faninSlot n y < d) →
-          getD parents y 0 ≡ sinkParent n s (y / slots) (y % slots)
+          getD next y 0 ≡ sinkParent n s (y / slots) (y % slots)
       hangs y a u b (yes m) = w .hung .at y a u m
       hangs y a u b (no m) =
           absurd
-          (next-none n d 0 y (omega arith) (omega (arith, first-is, w .chained .stop))
+          (next-none n d 0 y (omega arith) (omega (arith, first-is, w .hung .chained .stop))
           (and-i (usedSlot n y) _ u (eq-eqb (faninSlot n y) d (omega arith))))
 
 -- the nets of the drivers below d are written
-pub record Netting (n : Netlist) (s : ℕ) (area₀ : List ℕ) (d at : ℕ) (counts base parents area : List ℕ) : Type 0 where
+pub record Netting (n : Netlist) (s : ℕ) (first : List ℕ) (end : ℕ) (area₀ : List ℕ) (d at : ℕ) (next counts base area : List ℕ) : Type 0 where
   pub within : d ≤ n .size
   pub start : at ≡ blockStart n s d
   pub clear : counts ≡ replicate (suc topLevel) 0
   pub room : length base ≡ suc topLevel
-  pub hung : Hung n s parents d
+  pub hung : Hung n s first next d end
   pub long : length area ≡ length area₀
   pub bytes : area ≡ written (mapped n s) (n .size) (sum (treeSize n s) d) area₀
 
-module _ (n : Netlist) (s : ℕ) (area₀ : List ℕ) (r : Ready n s) (fits : width * mappedSize n s ≤ length area₀) where
-  pub nets-start : (N : ℕ) (parents base : List ℕ) → N ≡ n .size → length base ≡ suc topLevel → Hung n s parents 0 →
-      Netting n s area₀ 0 N (replicate (suc topLevel) 0) base parents area₀
+module _ (n : Netlist) (s : ℕ) (first : List ℕ) (end : ℕ) (area₀ : List ℕ) (r : Ready n s) (fits : width * mappedSize n s ≤ length area₀) where
+  pub nets-start : (N : ℕ) (next counts base : List ℕ) → N ≡ n .size → counts ≡ replicate (suc topLevel) 0 → length base ≡ suc topLevel →
+      Hung n s first next 0 end → Netting n s first end area₀ 0 N next counts base area₀
   unfolding sum
-  nets-start N parents base e b h =
+  nets-start N next counts base e c b h =
       record {
         within = omega arith;
         start = omega arith;
-        clear = refl;
+        clear = c;
         room = b;
         hung = h;
         long = refl;
         bytes = sym (written-none (mapped n s) (n .size) 0 area₀);
       }
 
-  module _ (d at N : ℕ) (counts base parents area : List ℕ) (h : Netting n s area₀ d at counts base parents area) (size : N ≡ n .size) where
-    pub nets-writable : (first next : List ℕ) (end : ℕ) → Chained n first next end → d < N →
-        Writable n s d at first next end counts base parents area
-    nets-writable first next end c l =
+  module _ (d at N : ℕ) (next counts base area : List ℕ) (h : Netting n s first end area₀ d at next counts base area) (size : N ≡ n .size) where
+    pub nets-writable : d < N → Writable n s d at first next end counts base area
+    nets-writable l =
         record {
           ready = r;
-          chained = c;
           driver = omega arith;
           start = h .start;
           clear = h .clear;
@@ -140,9 +142,9 @@ module _ (n : Netlist) (s : ℕ) (area₀ : List ℕ) (r : Ready n s) (fits : wi
           long = omega (arith, h .long);
         }
 
-    pub nets-more : (after : ℕ) (counts′ base′ parents′ area′ : List ℕ) → d < N →
-        Wrote n s d at area counts′ base′ parents′ area′ after → Netting n s area₀ (d + 1) after counts′ base′ parents′ area′
-    nets-more after counts′ base′ parents′ area′ l w =
+    pub nets-more : (after : ℕ) (next′ counts′ base′ area′ : List ℕ) → d < N →
+        Wrote n s d at first next′ end counts′ base′ area area′ after → Netting n s first end area₀ (d + 1) after next′ counts′ base′ area′
+    nets-more after next′ counts′ base′ area′ l w =
         record {
           within = omega arith;
           start = w .start;
@@ -163,8 +165,8 @@ module _ (n : Netlist) (s : ℕ) (area₀ : List ℕ) (r : Ready n s) (fits : wi
         so-far : sum (treeSize n s) d + treeSize n s d ≡ sum (treeSize n s) (d + 1)
         so-far = sum-last (treeSize n s) d
 
-    pub nets-hung : N ≤ d → Hung n s parents (n .size)
-    nets-hung l = let e : d ≡ n .size = omega (arith, h .within) in subst (Hung n s parents) e (h .hung)
+    pub nets-hung : N ≤ d → Hung n s first next (n .size) end
+    nets-hung l = let e : d ≡ n .size = omega (arith, h .within) in subst (λ (x : ℕ). Hung n s first next x end) e (h .hung)
 
     pub nets-bytes : N ≤ d → area ≡ written (mapped n s) (n .size) (sum (treeSize n s) (n .size)) area₀
     nets-bytes l =

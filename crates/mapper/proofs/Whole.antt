@@ -24,8 +24,8 @@ tabulate-cong f g (suc n) h = ap₂ (λ (l : List ℕ) (x : ℕ). l ++ (x ∷ []
 abbrev withSlots : Record → List ℕ → Record
 withSlots r slots = record { kind = r .kind; inversion = r .inversion; level = r .level; slots = slots }
 
-module _ (bytes : List ℕ) (s : ℕ) (parents : List ℕ) (r : Ready (netlist bytes) s)
-    (h : Hung (netlist bytes) s parents (netlist bytes .size)) where
+module _ (bytes : List ℕ) (s : ℕ) (first parents : List ℕ) (end : ℕ) (r : Ready (netlist bytes) s)
+    (h : Hung (netlist bytes) s first parents (netlist bytes .size) end) where
   -- a slot as written is the slot of the mapped netlist
   new-slot : (i j : ℕ) → i < netlist bytes .size → j < slots →
       cond (used (netlist bytes) i j) (getD parents (slots * i + j) 0) (fanin (netlist bytes) i j)

@@ -51,10 +51,13 @@ pub record Linked (n : Netlist) (first next : List ℕ) (x : ℕ) : Type 0 where
   pub drivers : length first ≡ sourceLimit
   pub sinks : length next ≡ slots * sourceLimit
 
--- the chains of a source, with the slot where they end
-pub record Chained (n : Netlist) (first next : List ℕ) (end : ℕ) : Type 0 where
+-- the chains of a source's drivers from d on, with the slot where they end
+pub record Chained (n : Netlist) (first next : List ℕ) (d end : ℕ) : Type 0 where
   pub source : IsSource n
-  pub linked : Linked n first next 0
+  pub firsts : (x : ℕ) → x < n .size → getD first x 0 ≡ nextSink n x 0
+  pub nexts : (y : ℕ) → y < slotEnd n → usedSlot n y ≡ true → d ≤ faninSlot n y →
+      getD next y 0 ≡ nextSink n (faninSlot n y) (suc y)
+  pub sinks : length next ≡ slots * sourceLimit
   pub stop : end ≡ slotEnd n
 
 -- the row of d's net, and a distance beyond which it has no sinks
@@ -120,20 +123,19 @@ pub record Based (n : Netlist) (s d : ℕ) (base : List ℕ) : Type 0 where
   pub size : length base ≡ suc topLevel
   pub at : (k : ℕ) → 1 ≤ k → 0 < nodesAt s (netRow n d) k → getD base k 0 ≡ parent n s d k 0
 
--- what each sink of the drivers below d hangs on
-pub record Hung (n : Netlist) (s : ℕ) (parents : List ℕ) (d : ℕ) : Type 0 where
-  pub size : length parents ≡ slots * sourceLimit
+-- the chains of the drivers from d on, and in the same array what each sink of those before hangs on
+pub record Hung (n : Netlist) (s : ℕ) (first next : List ℕ) (d end : ℕ) : Type 0 where
+  pub chained : Chained n first next d end
   pub at : (y : ℕ) → y < slotEnd n → usedSlot n y ≡ true → faninSlot n y < d →
-      getD parents y 0 ≡ sinkParent n s (y / slots) (y % slots)
+      getD next y 0 ≡ sinkParent n s (y / slots) (y % slots)
 
 -- d's sinks to be hung
-pub record Hangable (n : Netlist) (s d : ℕ) (first next : List ℕ) (end : ℕ) (counts base parents : List ℕ) : Type 0 where
+pub record Hangable (n : Netlist) (s d : ℕ) (first next : List ℕ) (end : ℕ) (counts base : List ℕ) : Type 0 where
   pub ready : Ready n s
-  pub chained : Chained n first next end
   pub driver : d < n .size
   pub rowed : Rowed n s d counts
   pub based : Based n s d base
-  pub hung : Hung n s parents d
+  pub hung : Hung n s first next d end
 
 -- the row of d's net once its sinks are hung: the nodes at each distance
 pub record Noded (n : Netlist) (s d : ℕ) (counts : List ℕ) : Type 0 where
@@ -145,22 +147,21 @@ unfoldable pub levelRecord : ℕ → ℕ → ℕ → ℕ → Record
 levelRecord s level base j = bufferOf level (base + j / s)
 
 -- the arrays and the area before the net of d is written at record at
-pub record Writable (n : Netlist) (s d at : ℕ) (first next : List ℕ) (end : ℕ) (counts base parents area : List ℕ) : Type 0 where
+pub record Writable (n : Netlist) (s d at : ℕ) (first next : List ℕ) (end : ℕ) (counts base area : List ℕ) : Type 0 where
   pub ready : Ready n s
-  pub chained : Chained n first next end
   pub driver : d < n .size
   pub start : at ≡ blockStart n s d
   pub clear : counts ≡ replicate (suc topLevel) 0
   pub room : length base ≡ suc topLevel
-  pub hung : Hung n s parents d
+  pub hung : Hung n s first next d end
   pub long : width * mappedSize n s ≤ length area
 
 -- and after it
-pub record Wrote (n : Netlist) (s d at : ℕ) (area₀ counts base parents area : List ℕ) (next : ℕ) : Type 0 where
-  pub start : next ≡ blockStart n s (d + 1)
+pub record Wrote (n : Netlist) (s d at : ℕ) (first next : List ℕ) (end : ℕ) (counts base area₀ area : List ℕ) (after : ℕ) : Type 0 where
+  pub start : after ≡ blockStart n s (d + 1)
   pub clear : counts ≡ replicate (suc topLevel) 0
   pub room : length base ≡ suc topLevel
-  pub hung : Hung n s parents (d + 1)
+  pub hung : Hung n s first next (d + 1) end
   pub bytes : area ≡ written (mapped n s) at (treeSize n s d) area₀
 
 -- record r of index i, its used slots as the array of parents has them
@@ -181,7 +182,7 @@ relinkedAt bytes parents i = relinked (recordAt bytes i) parents i
 pub record Counted (bytes : List ℕ) (s size : ℕ) (first next : List ℕ) (end total : ℕ) : Type 0 where
   pub input : inputChecks s bytes ≡ Passed
   pub trees : treeChecks (netlist bytes) s ≡ Passed
-  pub chained : Chained (netlist bytes) first next end
+  pub chained : Chained (netlist bytes) first next 0 end
   pub records : size ≡ recordCount bytes
   pub buffers : total ≡ bufferTotal (netlist bytes) s
 
@@ -190,5 +191,5 @@ pub record Maps (bytes : List ℕ) (s size : ℕ) (first next : List ℕ) (end :
   pub maps : sourceMaps bytes s ≡ Passed
   pub capacity : (2 ≤ s) × (s ≤ 4)
   pub trees : treeChecks (netlist bytes) s ≡ Passed
-  pub chained : Chained (netlist bytes) first next end
+  pub chained : Chained (netlist bytes) first next 0 end
   pub records : size ≡ recordCount bytes

@@ -138,7 +138,7 @@ fn fill_row(
     d: usize,
     row: &mut [u32; DISTANCES],
 ) -> usize
-    requires { ⌜ Chained (netlist (now source)) (now first) (now next) end ⌝ }
+    requires { ⌜ Chained (netlist (now source)) (now first) (now next) d end ⌝ }
     requires { ⌜ d < netlist (now source) .size ⌝ }
     requires { ⌜ now row ≡ replicate (suc topLevel) 0 ⌝ }
     ensures { λ r. ⌜ Filled (netlist (now (source .entry))) d (now (row .exit)) r ⌝ }
@@ -236,7 +236,7 @@ fn measure(
     d: usize,
     row: &mut [u32; DISTANCES],
 ) -> Tree
-    requires { ⌜ Chained (netlist (now source)) (now first) (now next) end ⌝ }
+    requires { ⌜ Chained (netlist (now source)) (now first) (now next) d end ⌝ }
     requires { ⌜ (2 ≤ s) × (s ≤ 4) ⌝ }
     requires { ⌜ d < netlist (now source) .size ⌝ }
     requires { ⌜ now row ≡ replicate (suc topLevel) 0 ⌝ }
@@ -271,7 +271,7 @@ fn count_trees(
     next: &[u16; SINKS],
     row: &mut [u32; DISTANCES],
 ) -> Sizing
-    requires { ⌜ Chained (netlist (now source)) (now first) (now next) end ⌝ }
+    requires { ⌜ Chained (netlist (now source)) (now first) (now next) 0 end ⌝ }
     requires { ⌜ (2 ≤ s) × (s ≤ 4) ⌝ }
     requires { ⌜ m ≤ recordCount (now source) ⌝ }
     requires { ⌜ now row ≡ replicate (suc topLevel) 0 ⌝ }
@@ -408,30 +408,30 @@ fn write_buffers(
     at
 }
 
-// The sinks of d, along its chain: each hangs behind the buffers and the earlier sinks of its distance.
+// The sinks of d, along its chain: each hangs behind the buffers and the earlier sinks of its distance, and its parent takes the place of its next sink.
 fn hang_sinks(
     source: &[u8],
     s: u32,
     end: usize,
     first: &[u16; RECORDS],
-    next: &[u16; SINKS],
+    next: &mut [u16; SINKS],
     d: usize,
     base: &[u16; DISTANCES],
     row: &mut [u32; DISTANCES],
-    parents: &mut [u16; SINKS],
 )
-    requires { ⌜ Hangable (netlist (now source)) s d (now first) (now next) end (now row) (now base) (now parents) ⌝ }
-    ensures { λ _. ⌜ Hung (netlist (now (source .entry))) s (now (parents .exit)) (d + 1) ⌝ }
+    requires { ⌜ Hangable (netlist (now source)) s d (now first) (now next) end (now row) (now base) ⌝ }
+    ensures { λ _. ⌜ Hung (netlist (now (source .entry))) s (now (first .entry)) (now (next .exit)) (d + 1) end ⌝ }
     ensures { λ _. ⌜ Noded (netlist (now (source .entry))) s d (now (row .exit)) ⌝ }
 {
     let low = netlist::level_at(source, d);
     let mut p = index(first[d]);
     while p < end {
+        let after = index(next[p]);
         let k = (netlist::level_at(source, p / SLOTS) - low) as usize;
         let q = row[k];
-        parents[p] = parent_of(base[k], s, q);
         row[k] = q + 1;
-        p = index(next[p]);
+        next[p] = parent_of(base[k], s, q);
+        p = after;
     }
 }
 
@@ -446,7 +446,7 @@ fn grow(
     row: &mut [u32; DISTANCES],
 ) -> usize
     requires { ⌜ Ready (netlist (now source)) s ⌝ }
-    requires { ⌜ Chained (netlist (now source)) (now first) (now next) end ⌝ }
+    requires { ⌜ Chained (netlist (now source)) (now first) (now next) d end ⌝ }
     requires { ⌜ d < netlist (now source) .size ⌝ }
     requires { ⌜ now row ≡ replicate (suc topLevel) 0 ⌝ }
     ensures { λ r. ⌜ Net (netlist (now (source .entry))) s d (now (row .exit)) r ⌝ }
@@ -456,70 +456,56 @@ fn grow(
     top
 }
 
-// The net of d: its buffers go to the area from record at on, its sinks' parents to their array. The next record is handed back.
+// The net of d: its buffers go to the area from record at on, its sinks' parents to their slots. The next record is handed back.
 fn write_net(
     source: &[u8],
     s: u32,
     end: usize,
     first: &[u16; RECORDS],
-    next: &[u16; SINKS],
+    next: &mut [u16; SINKS],
     d: usize,
     at: usize,
     row: &mut [u32; DISTANCES],
     base: &mut [u16; DISTANCES],
-    parents: &mut [u16; SINKS],
     area: &mut [u8],
 ) -> usize
-    requires { ⌜ Writable (netlist (now source)) s d at (now first) (now next) end (now row) (now base) (now parents) (now area) ⌝ }
-    ensures { λ r. ⌜ Wrote (netlist (now (source .entry))) s d at (now (area .entry)) (now (row .exit)) (now (base .exit)) (now (parents .exit)) (now (area .exit)) r ⌝ }
+    requires { ⌜ Writable (netlist (now source)) s d at (now first) (now next) end (now row) (now base) (now area) ⌝ }
+    ensures { λ r. ⌜ Wrote (netlist (now (source .entry))) s d at (now (first .entry)) (now (next .exit)) end (now (row .exit)) (now (base .exit)) (now (area .entry)) (now (area .exit)) r ⌝ }
 {
     if end <= index(first[d]) {
         return at;
     }
     let top = grow(source, s, end, first, next, d, row);
     let after = write_buffers(source, s, d, at, top, row, base, area);
-    hang_sinks(source, s, end, first, next, d, base, row, parents);
+    hang_sinks(source, s, end, first, next, d, base, row);
     clear_row(top, row);
     after
 }
 
-// The nets of all drivers, rising: their buffers behind the source's records, and what each sink hangs on.
+// The nets of all drivers, rising: their buffers behind the source's records, and what each sink hangs on. The row is all zero before each.
 fn write_nets(
     source: &[u8],
     s: u32,
     n: usize,
     end: usize,
     first: &[u16; RECORDS],
-    next: &[u16; SINKS],
-    parents: &mut [u16; SINKS],
+    next: &mut [u16; SINKS],
+    row: &mut [u32; DISTANCES],
     area: &mut [u8],
 )
     requires { ⌜ Ready (netlist (now source)) s ⌝ }
-    requires { ⌜ Chained (netlist (now source)) (now first) (now next) end ⌝ }
     requires { ⌜ n ≡ recordCount (now source) ⌝ }
-    requires { ⌜ Hung (netlist (now source)) s (now parents) 0 ⌝ }
+    requires { ⌜ Hung (netlist (now source)) s (now first) (now next) 0 end ⌝ }
+    requires { ⌜ now row ≡ replicate (suc topLevel) 0 ⌝ }
     requires { ⌜ width * mappedSize (netlist (now source)) s ≤ length (now area) ⌝ }
-    ensures { λ _. ⌜ Hung (netlist (now (source .entry))) s (now (parents .exit)) (netlist (now (source .entry)) .size) ⌝ }
+    ensures { λ _. ⌜ Hung (netlist (now (source .entry))) s (now (first .entry)) (now (next .exit)) (netlist (now (source .entry)) .size) end ⌝ }
     ensures { λ _. ⌜ now (area .exit) ≡ written (mapped (netlist (now (source .entry))) s) (netlist (now (source .entry)) .size) (sum (treeSize (netlist (now (source .entry))) s) (netlist (now (source .entry)) .size)) (now (area .entry)) ⌝ }
 {
-    let mut row = [0u32; DISTANCES];
     let mut base = [0u16; DISTANCES];
     let mut at = n;
     let mut d: usize = 0;
     while d < n {
-        at = write_net(
-            source,
-            s,
-            end,
-            first,
-            next,
-            d,
-            at,
-            &mut row,
-            &mut base,
-            parents,
-            area,
-        );
+        at = write_net(source, s, end, first, next, d, at, row, &mut base, area);
         d += 1;
     }
 }
@@ -572,18 +558,19 @@ fn write_mapped(
     n: usize,
     end: usize,
     first: &[u16; RECORDS],
-    next: &[u16; SINKS],
+    next: &mut [u16; SINKS],
+    row: &mut [u32; DISTANCES],
     area: &mut [u8],
 )
     requires { ⌜ Ready (netlist (now source)) s ⌝ }
-    requires { ⌜ Chained (netlist (now source)) (now first) (now next) end ⌝ }
+    requires { ⌜ Chained (netlist (now source)) (now first) (now next) 0 end ⌝ }
     requires { ⌜ n ≡ recordCount (now source) ⌝ }
+    requires { ⌜ now row ≡ replicate (suc topLevel) 0 ⌝ }
     requires { ⌜ width * mappedSize (netlist (now source)) s ≤ length (now area) ⌝ }
     ensures { λ _. ⌜ now (area .exit) ≡ onto (bytesOf (mapped (netlist (now (source .entry))) s)) (now (area .entry)) ⌝ }
 {
-    let mut parents = [0u16; SINKS];
-    write_nets(source, s, n, end, first, next, &mut parents, area);
-    write_source(source, n, &parents, area);
+    write_nets(source, s, n, end, first, next, row, area);
+    write_source(source, n, next, area);
 }
 
 // 1 for true, 0 for false.
@@ -660,11 +647,13 @@ fn map_trees(
     n: usize,
     end: usize,
     first: &[u16; RECORDS],
-    next: &[u16; SINKS],
+    next: &mut [u16; SINKS],
     total: usize,
+    row: &mut [u32; DISTANCES],
     area: &mut [u8],
 ) -> Mapping
     requires { ⌜ Counted (now source) s n (now first) (now next) end total ⌝ }
+    requires { ⌜ now row ≡ replicate (suc topLevel) 0 ⌝ }
     ensures { λ r. ⌜ r ≡ mapAnswer (now (source .entry)) s (now (area .entry)) ⌝ }
     ensures { λ _. ⌜ now (area .exit) ≡ mapArea (now (source .entry)) s (now (area .entry)) ⌝ }
 {
@@ -675,7 +664,7 @@ fn map_trees(
     if area.len() < WIDTH * size {
         return refuse(10, 0);
     }
-    write_mapped(source, s, n, end, first, next, area);
+    write_mapped(source, s, n, end, first, next, row, area);
     accept(source, n, total as u32)
 }
 
@@ -693,7 +682,17 @@ fn map_source(source: &[u8], s: u32, area: &mut [u8]) -> Mapping
     link_all(source, n, &mut first, &mut next);
     let sizing = count_trees(source, s, n, end, &first, &next, &mut row);
     match sizing {
-        Sizing::Total(total) => map_trees(source, s, n, end, &first, &next, total, area),
+        Sizing::Total(total) => map_trees(
+            source,
+            s,
+            n,
+            end,
+            &first,
+            &mut next,
+            total,
+            &mut row,
+            area,
+        ),
         Sizing::Refuses(number, place) => refuse(number, place),
     }
 }

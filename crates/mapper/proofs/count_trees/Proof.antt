@@ -1,6 +1,7 @@
 -- `count_trees` meets its contract: the checks from driver d on are the checks, and the total is that of the drivers before d.
 use Prim.Native.Nat.{_-_}
 use Rattle.netlist.specs.Records.{netlist}
+use Rattle.mapper.proofs.Chains.{chained-from}
 use Rattle.mapper.proofs.Counting.{Counting, count-start, count-fits, count-stop, count-more, count-end}
 use borrow.Author.Needs.{needs}
 use Rattle.mapper.proofs.count_trees.Statement.{statement}
@@ -16,7 +17,7 @@ loop-holds : tie.Need-loop-holds Inv-loop μ-loop
 loop-holds c = search count-start
 
 measure-requires : tie.Need-measure-requires Inv-loop μ-loop
-measure-requires c κs = (search needs, (search needs, (search needs, search needs)))
+measure-requires c κs = (search (needs, chained-from), (search needs, (search needs, search needs)))
 
 cast-t13 : tie.Need-cast-t13 Inv-loop μ-loop
 cast-t13 c = search needs

@@ -8,10 +8,10 @@ use Rattle.mapper.proofs.hang_sinks.Statement.{statement}
 use Rattle.mapper.proofs.hang_sinks.Tie as tie
 
 abbrev Inv-loop : tie.InvT-loop
-Inv-loop source s end first next d base row₀ parents₀ low p₀ row parents p = (low ≡ recordAt source d .level) × Hanging (netlist source) s d p row parents
+Inv-loop source s end first next₀ d base row₀ low p₀ next row p = (low ≡ recordAt source d .level) × Hanging (netlist source) s first end d p next row
 
 abbrev μ-loop : tie.MeasureT-loop
-μ-loop source s end first next d base row₀ parents₀ low p₀ row parents p = end - p
+μ-loop source s end first next₀ d base row₀ low p₀ next row p = end - p
 
 level-at-requires : tie.Need-level-at-requires Inv-loop μ-loop
 level-at-requires c κs = search needs
@@ -28,6 +28,15 @@ index-requires c κs = search needs
 loop-holds : tie.Need-loop-holds Inv-loop μ-loop
 loop-holds c = (search needs, search hang-start)
 
+mul-index-2 : tie.Need-mul-index-2 Inv-loop μ-loop
+mul-index-2 c = search needs
+
+element-copy-out-index-2 : tie.Need-element-copy-out-index-2 Inv-loop μ-loop
+element-copy-out-index-2 c = search needs
+
+index-requires-2 : tie.Need-index-requires-2 Inv-loop μ-loop
+index-requires-2 c κs = search needs
+
 level-at-requires-2 : tie.Need-level-at-requires-2 Inv-loop μ-loop
 level-at-requires-2 c κs = search needs
 
@@ -43,21 +52,6 @@ mul-q c = search (needs, hang-near)
 element-copy-out-q : tie.Need-element-copy-out-q Inv-loop μ-loop
 element-copy-out-q c = search hang-near
 
-mul-parent-of : tie.Need-mul-parent-of Inv-loop μ-loop
-mul-parent-of c = search (needs, hang-near)
-
-element-copy-out-parent-of : tie.Need-element-copy-out-parent-of Inv-loop μ-loop
-element-copy-out-parent-of c = search hang-near
-
-parent-of-requires : tie.Need-parent-of-requires Inv-loop μ-loop
-parent-of-requires c κs = (search needs, search hang-parent)
-
-mul-parents : tie.Need-mul-parents Inv-loop μ-loop
-mul-parents c = search needs
-
-element-write-parents : tie.Need-element-write-parents Inv-loop μ-loop
-element-write-parents c = search needs
-
 add-row : tie.Need-add-row Inv-loop μ-loop
 add-row c = search hang-fits
 
@@ -67,14 +61,20 @@ mul-row c = search (needs, hang-near)
 element-write-row : tie.Need-element-write-row Inv-loop μ-loop
 element-write-row c = search hang-near
 
-mul-index-2 : tie.Need-mul-index-2 Inv-loop μ-loop
-mul-index-2 c = search needs
+mul-parent-of : tie.Need-mul-parent-of Inv-loop μ-loop
+mul-parent-of c = search (needs, hang-near)
 
-element-copy-out-index-2 : tie.Need-element-copy-out-index-2 Inv-loop μ-loop
-element-copy-out-index-2 c = search needs
+element-copy-out-parent-of : tie.Need-element-copy-out-parent-of Inv-loop μ-loop
+element-copy-out-parent-of c = search hang-near
 
-index-requires-2 : tie.Need-index-requires-2 Inv-loop μ-loop
-index-requires-2 c κs = search needs
+parent-of-requires : tie.Need-parent-of-requires Inv-loop μ-loop
+parent-of-requires c κs = (search needs, search hang-parent)
+
+mul-next : tie.Need-mul-next Inv-loop μ-loop
+mul-next c = search needs
+
+element-write-next : tie.Need-element-write-next Inv-loop μ-loop
+element-write-next c = search needs
 
 loop-less : tie.Need-loop-less Inv-loop μ-loop
 loop-less c = search hang-less
@@ -96,22 +96,22 @@ hang-sinks-spec =
     element-copy-out-index
     index-requires
     loop-holds
+    mul-index-2
+    element-copy-out-index-2
+    index-requires-2
     level-at-requires-2
     sub-k
     cast-k
     mul-q
     element-copy-out-q
-    mul-parent-of
-    element-copy-out-parent-of
-    parent-of-requires
-    mul-parents
-    element-write-parents
     add-row
     mul-row
     element-write-row
-    mul-index-2
-    element-copy-out-index-2
-    index-requires-2
+    mul-parent-of
+    element-copy-out-parent-of
+    parent-of-requires
+    mul-next
+    element-write-next
     loop-less
     loop-again
     returns)

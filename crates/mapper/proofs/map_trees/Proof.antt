@@ -23,7 +23,7 @@ returns-2 : tie.Need-returns-2
 returns-2 c = (search refused-short, search kept-short)
 
 write-mapped-requires : tie.Need-write-mapped-requires
-write-mapped-requires c κs = (search counted-ready, (search needs, (search needs, search mapped-room)))
+write-mapped-requires c κs = (search counted-ready, (search needs, (search needs, (search needs, search mapped-room))))
 
 cast-accept : tie.Need-cast-accept
 cast-accept c = search needs

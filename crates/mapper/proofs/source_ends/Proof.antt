@@ -1,5 +1,5 @@
 -- `source_ends` meets its contract: the chains, the trees, then 8 or what follows it.
-use Rattle.mapper.proofs.Answering.{input-source, input-capacity, input-end, input-unlinked, counted-all}
+use Rattle.mapper.proofs.Answering.{input-source, input-capacity, input-end, input-unlinked, input-chained, counted-all}
 use Rattle.mapper.proofs.View.{ends-tree}
 use borrow.Author.Needs.{needs}
 use Rattle.mapper.proofs.source_ends.Statement.{statement}
@@ -18,7 +18,7 @@ link-all-requires : tie.Need-link-all-requires
 link-all-requires c κs = (search input-source, (search needs, search (needs, input-unlinked)))
 
 count-trees-requires : tie.Need-count-trees-requires
-count-trees-requires c κs = (search (needs, input-source), (search input-capacity, (search needs, search needs)))
+count-trees-requires c κs = (search (needs, input-chained), (search input-capacity, (search needs, search needs)))
 
 enum-known-sizing : tie.Need-enum-known-sizing
 enum-known-sizing c = search needs

@@ -6,7 +6,7 @@ use Rattle.mapper.proofs.write_mapped.Statement.{statement}
 use Rattle.mapper.proofs.write_mapped.Tie as tie
 
 write-nets-requires : tie.Need-write-nets-requires
-write-nets-requires c κs = (search needs, (search needs, (search needs, (search (needs, hung-start), search needs))))
+write-nets-requires c κs = (search needs, (search needs, (search hung-start, (search needs, search needs))))
 
 write-source-requires : tie.Need-write-source-requires
 write-source-requires c κs = search needs

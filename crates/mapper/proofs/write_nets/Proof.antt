@@ -7,10 +7,10 @@ use Rattle.mapper.proofs.write_nets.Statement.{statement}
 use Rattle.mapper.proofs.write_nets.Tie as tie
 
 abbrev Inv-loop : tie.InvT-loop
-Inv-loop source s n end first next parents₀ area₀ row₀ base₀ at₀ d₀ parents area row base at d = Netting (netlist source) s area₀ d at row base parents area
+Inv-loop source s n end first next₀ row₀ area₀ base₀ at₀ d₀ next row area base at d = Netting (netlist source) s first end area₀ d at next row base area
 
 abbrev μ-loop : tie.MeasureT-loop
-μ-loop source s n end first next parents₀ area₀ row₀ base₀ at₀ d₀ parents area row base at d = n - d
+μ-loop source s n end first next₀ row₀ area₀ base₀ at₀ d₀ next row area base at d = n - d
 
 loop-holds : tie.Need-loop-holds Inv-loop μ-loop
 loop-holds c = search (needs, nets-start)
@@ -33,7 +33,7 @@ same-length c = search needs
 returns : tie.Need-returns Inv-loop μ-loop
 returns c =
     let pre = c .before .before .before .before .pre in
-    (search nets-hung, nets-bytes _ _ _ (pre .0) (pre .1 .1 .1 .1) _ _ _ _ _ _ _ (c .before .loop .inv) (pre .1 .1 .0) (c .loop-test .left))
+    (search nets-hung, nets-bytes _ _ _ _ _ (pre .0) (pre .1 .1 .1 .1) _ _ _ _ _ _ _ (c .before .loop .inv) (pre .1 .0) (c .loop-test .left))
 
 pub write-nets-spec : {M : Type 1} → statement M
 write-nets-spec =
