@@ -1,61 +1,60 @@
 -- Laws of checks 11 to 17, with premises as the code has them: what each test gives of the check's answer.
-use Prim.Native.Nat.{ℕ, _+_, _%_, _^_, _<_, _≤_}
+use Prim.Native.Nat.{ℕ, zero, suc, _+_, _-_, _%_, _^_, _<_, _≤_}
 use native.Mathlib.Omega.{arith}
+use native.Mathlib.Nat.{add-sub-of-le, add-zero, zero-add, suc-add, add-suc}
 use native.Mathlib.Numerals.{add-one}
-use mathlib.Core.Path.{_≡_, refl, sym, ap, _∙_}
-use mathlib.Core.Bool.{Bool, true, false, not}
+use mathlib.Core.Path.{_≡_, refl, sym, ap, ap₂, subst, _∙_}
+use mathlib.Core.Bool.{Bool, true, false, not, _&&_, _||_}
 use mathlib.Core.List.{List}
 use mathlib.Core.Logic.{_≢_}
 use lib.ListN.{length}
-use lib.Dec.{ltb, eqb}
-use borrow.Author.Tests.{lt-ltb, le-ltb, le-leb, lt-leb, eq-eqb, ne-eqb}
+use lib.Dec.{ltb, leb, eqb}
+use borrow.Author.Tests.{lt-ltb, le-ltb, le-leb, lt-leb, eq-eqb, ne-eqb, not-true}
 use Rattle.facts.specs.declared.Checked.{Checked}
 use Rattle.facts.specs.declared.Checked.the-variants.{Passed, Refused}
-use Rattle.facts.specs.Checks.{scan}
+use Rattle.facts.specs.Checks.{check, _andThen_, scan}
 use Rattle.facts.specs.Sums.{any}
-use Rattle.facts.proofs.Reflect.{reflect}
+use Rattle.facts.proofs.Bools.{true-false}
+use Rattle.facts.proofs.Reflect.{reflect, unlike-none}
 use Rattle.facts.proofs.Sums.{any-none}
-use Rattle.facts.proofs.Loops.{NoneYet, any-more, any-found, any-end}
+use Rattle.facts.proofs.Loops.{Scanning}
 use Rattle.netlist.specs.declared.Record.{Record}
-use Rattle.netlist.specs.Kinds.{width, slots, topLevel, mappedLimit, output, buffer, arity}
+use Rattle.netlist.specs.Kinds.{width, slots, unused, topLevel, mappedLimit, output, buffer, arity}
 use Rattle.netlist.specs.Records.{Netlist, netlist, recordCount, recordAt, blank, slot}
+use Rattle.netlist.specs.Source.{IsSource}
 use Rattle.netlist.specs.Checks.{inputChecks}
-use Rattle.netlist.proofs.Checks.{arity-slots}
-use Rattle.verifier.specs.Checks.{badEmpty, differs, noBuffer, badName, notOneLower, keepChecks, slotChecks, placeChecks, traceCheck, feedCheck, badLength, legalChecks, mappedChecks, verifyChecks}
-use Rattle.verifier.specs.Walking.{Placed}
-use Rattle.verifier.specs.Feeding.{Countable}
+use Rattle.netlist.proofs.Source.{input-passed as input}
+use Rattle.verifier.specs.Checks.{badEmpty, differs, noBuffer, badName, notOneLower, slotChecks, placeChecks, traceCheck, feedCheck, badLength, legalChecks, mappedChecks, verifyChecks}
+use Rattle.verifier.specs.Walking.{Sized, Driven, Placed}
+use Rattle.verifier.specs.Feeding.{stop, badSlot, bufferChecks}
 
--- the slots that a kind does not use, from the first of them to j, are as they should be
-pub record Emptied (kind : ℕ) (a r : Record) (j : ℕ) : Type 0 where
-  pub above : arity kind ≤ j
-  pub none : NoneYet (badEmpty kind a r) slots j
+-- a blank record's slots name nothing
+blank-slot : (j : ℕ) → slot blank j ≡ unused
+blank-slot zero = refl
+blank-slot (suc zero) = refl
+blank-slot (suc (suc zero)) = refl
+blank-slot (suc (suc (suc j))) = refl
 
-module _ (kind : ℕ) (a r : Record) where
-  pub empty-start : (x : ℕ) → x ≡ arity kind → Emptied kind a r x
-  empty-start x e =
-      rw e (record {
-        above = omega arith;
-        none = record {
-          within = arity-slots kind;
-          none = any-none (badEmpty kind a r) (arity kind) .1 (λ j l. rw (lt-leb (arity kind) j l));
-        };
-      })
+module _ (kind : ℕ) (r : Record) (j n : ℕ) (e : n ≡ arity kind) where
+  pub empty-from : (x : ℕ) → n ≤ j → x ≡ slot r j → not (eqb x unused) ≡ badEmpty kind blank r j
+  empty-from x l p = rw (le-leb (arity kind) j (rw e at l), blank-slot j, p)
 
-  pub empty-more : (j x y : ℕ) → Emptied kind a r j → j < slots → x ≡ slot r j → y ≡ slot a j → x ≡ y → Emptied kind a r (j + 1)
-  empty-more j x y i l p q e =
-      record {
-        above = omega (arith, i .above);
-        none = any-more (badEmpty kind a r) slots j false (i .none) l (sym (rw (le-leb (arity kind) j (i .above), eq-eqb (slot r j) (slot a j) (sym p ∙ e ∙ q)))) refl;
-      }
+  pub empty-below : j < n → false ≡ badEmpty kind blank r j
+  empty-below l = rw (lt-leb (arity kind) j (rw e at l))
 
-  pub empty-found : (j x y : ℕ) → Emptied kind a r j → j < slots → x ≡ slot r j → y ≡ slot a j → x ≢ y → true ≡ any (badEmpty kind a r) slots
-  empty-found j x y i l p q e =
-      any-found (badEmpty kind a r) slots j true l
-      (sym (rw (le-leb (arity kind) j (i .above), ne-eqb (slot r j) (slot a j) (λ f. e (p ∙ f ∙ sym q)))))
-      refl
+any-cong : (p q : ℕ → Bool) (n : ℕ) → ((j : ℕ) → j < n → p j ≡ q j) → any p n ≡ any q n
+unfolding any
+any-cong p q zero h = refl
+any-cong p q (suc n) h = ap₂ _||_ (any-cong p q n (λ j l. h j (omega arith))) (h n (omega arith))
 
-  pub empty-end : (j : ℕ) → Emptied kind a r j → slots ≤ j → false ≡ any (badEmpty kind a r) slots
-  empty-end j i l = any-end (badEmpty kind a r) slots j (i .none) l
+-- where a's unused slots name nothing, those of r are held to a's as to a blank record's
+empty-as : (a r : Record) → any (badEmpty (a .kind) blank a) slots ≡ false → any (badEmpty (a .kind) blank r) slots ≡ any (badEmpty (a .kind) a r) slots
+empty-as a r h = any-cong (badEmpty (a .kind) blank r) (badEmpty (a .kind) a r) slots (λ j l. go j (leb (arity (a .kind)) j) refl (any-none (badEmpty (a .kind) blank a) slots .0 h j l))
+  where
+    go : (j : ℕ) (b : Bool) → leb (arity (a .kind)) j ≡ b → (leb (arity (a .kind)) j && not (eqb (slot a j) (slot blank j))) ≡ false →
+        (b && not (eqb (slot r j) (slot blank j))) ≡ (b && not (eqb (slot r j) (slot a j)))
+    go j true e f = ap (λ (x : ℕ). not (eqb (slot r j) x)) (sym (unlike-none (slot a j) (slot blank j) .0 (rw e at f)))
+    go j false e f = refl
 
 module _ (a r : Record) where
   pub kind-differs : r .kind ≢ a .kind → true ≡ differs a r
@@ -70,9 +69,12 @@ module _ (a r : Record) where
       level-differs h =
           rw (eq-eqb (r .kind) (a .kind) kind, eq-eqb (r .inversion) (a .inversion) inversion, ne-eqb (r .level) (a .level) h)
 
-      pub slots-differ : (b : Bool) → r .level ≡ a .level → b ≡ any (badEmpty (a .kind) a r) slots → b ≡ differs a r
-      slots-differ b h e =
+      pub slots-differ :
+          (b : Bool) → r .level ≡ a .level → any (badEmpty (a .kind) blank a) slots ≡ false →
+          b ≡ any (badEmpty (a .kind) blank r) slots → b ≡ differs a r
+      slots-differ b h g e =
           e
+          ∙ empty-as a r g
           ∙ rw (eq-eqb (r .kind) (a .kind) kind, eq-eqb (r .inversion) (a .inversion) inversion, eq-eqb (r .level) (a .level) h)
 
 module _ (r : Record) where
@@ -87,30 +89,9 @@ module _ (r : Record) where
       pub level-no-buffer : topLevel < r .level → true ≡ noBuffer r
       level-no-buffer h = rw (eq-eqb (r .kind) buffer kind, eq-eqb (r .inversion) 0 inversion, lt-ltb topLevel (r .level) h)
 
-      pub slots-no-buffer : (a : Record) (b : Bool) → r .level ≤ topLevel → a ≡ blank → b ≡ any (badEmpty buffer a r) slots → b ≡ noBuffer r
-      slots-no-buffer a b h p e =
-          e ∙ rw (p, eq-eqb (r .kind) buffer kind, eq-eqb (r .inversion) 0 inversion, le-ltb topLevel (r .level) h)
-
-module _ (source : List ℕ) (k n : ℕ) (r : Record) (e : n ≡ recordCount source) where
-  module _ (a : Record) (b : Bool) (l : k < n) (p : a ≡ recordAt source k) (q : b ≡ differs a r) where
-    below : k < recordCount source
-    below = rw e at l
-
-    pub kept-bad : b ≡ true → Refused 12 k ≡ keepChecks (netlist source) k r
-    kept-bad t = rw (lt-ltb k (recordCount source) below, ← p, ← q, t)
-
-    pub kept-good : b ≡ false → Passed ≡ keepChecks (netlist source) k r
-    kept-good t = rw (lt-ltb k (recordCount source) below, lt-leb (recordCount source) k below, ← p, ← q, t)
-
-  module _ (b : Bool) (l : n ≤ k) (q : b ≡ noBuffer r) where
-    above : recordCount source ≤ k
-    above = rw e at l
-
-    pub buffer-bad : b ≡ true → Refused 13 k ≡ keepChecks (netlist source) k r
-    buffer-bad t = rw (le-ltb k (recordCount source) above, le-leb (recordCount source) k above, ← q, t)
-
-    pub buffer-good : b ≡ false → Passed ≡ keepChecks (netlist source) k r
-    buffer-good t = rw (le-ltb k (recordCount source) above, le-leb (recordCount source) k above, ← q, t)
+      pub slots-no-buffer : (b : Bool) → r .level ≤ topLevel → b ≡ any (badEmpty buffer blank r) slots → b ≡ noBuffer r
+      slots-no-buffer b h e =
+          e ∙ rw (eq-eqb (r .kind) buffer kind, eq-eqb (r .inversion) 0 inversion, le-ltb topLevel (r .level) h)
 
 module _ (m : Netlist) (r : Record) (j x : ℕ) (e : x ≡ slot r j) where
   pub name-past : (n : ℕ) → n ≡ m .size → n ≤ x → true ≡ badName m r j
@@ -122,23 +103,35 @@ module _ (m : Netlist) (r : Record) (j x : ℕ) (e : x ≡ slot r j) where
   pub fanin-lower : (y : ℕ) → y ≡ m .at x .level → not (eqb (r .level) (y + 1)) ≡ notOneLower m r j
   fanin-lower y q = rw (q, e, add-one (m .at (slot r j) .level))
 
-module _ (m : Netlist) (k : ℕ) (r : Record) (n : ℕ) (b : Bool) (p : n ≡ arity (r .kind)) (e : b ≡ any (badName m r) n) where
-  pub names-bad : b ≡ true → Refused 14 k ≡ slotChecks m k r
-  names-bad t = rw (← p, ← e, t)
+module _ (m : Netlist) (r : Record) (j : ℕ) (b : Bool) (e : b ≡ badName m r j) where
+  pub slot-named : b ≡ true → true ≡ badSlot m r j
+  slot-named t = rw (← e, t)
 
-  module _ (c : Bool) (t : b ≡ false) (f : c ≡ any (notOneLower m r) n) where
-    pub levels-bad : c ≡ true → Refused 15 k ≡ slotChecks m k r
-    levels-bad u = rw (← p, ← e, t, ← f, u)
+  pub slot-level : (c : Bool) → b ≡ false → c ≡ notOneLower m r j → c ≡ badSlot m r j
+  slot-level c t f = f ∙ rw (← e, t)
 
-    pub slots-good : c ≡ false → Passed ≡ slotChecks m k r
-    slots-good u = rw (← p, ← e, t, ← f, u)
+-- 14 and 15 pass where no used slot is bad
+module _ (m : Netlist) (k : ℕ) (r : Record) where
+  slots-fine : any (badSlot m r) (arity (r .kind)) ≡ false → slotChecks m k r ≡ Passed
+  slots-fine h = let f = simp reflect at h in simp reflect (λ j l. f j l .0, λ j l. f j l .1)
 
-module _ (n m : Netlist) (k : ℕ) (r : Record) (here : r ≡ m .at k) (a : Checked) (e : a ≡ keepChecks n k r) where
-  pub place-slots : (b : Checked) → a ≡ Passed → b ≡ slotChecks m k r → b ≡ placeChecks n m k
-  place-slots b p f = f ∙ rw (← here, ← e, p)
+  pub slots-passed : slotChecks m k r ≡ Passed → any (badSlot m r) (arity (r .kind)) ≡ false
+  slots-passed h = let f = simp reflect at h in simp reflect (λ j l. (f .0 j l, f .1 j l))
 
-  pub place-kept : (number place : ℕ) → a ≡ Refused number place → Refused number place ≡ placeChecks n m k
-  place-kept number place p = rw (← here, ← e, p)
+  pub slots-good : (b : Bool) → b ≡ not (any (badSlot m r) (arity (r .kind))) → b ≡ true → slotChecks m k r ≡ Passed
+  slots-good b e t = slots-fine (not-true (any (badSlot m r) (arity (r .kind))) (sym e ∙ t))
+
+  module _ (some : any (badSlot m r) (arity (r .kind)) ≡ true) (b : Bool) (n : ℕ) (p : n ≡ arity (r .kind)) (e : b ≡ any (badName m r) n) where
+    pub names-bad : b ≡ true → Refused 14 k ≡ slotChecks m k r
+    names-bad t = rw (← p, ← e, t)
+
+    pub levels-bad : b ≡ false → Refused 15 k ≡ slotChecks m k r
+    levels-bad t = rw (← p, ← e, t) (go (any (notOneLower m r) n) refl)
+      where
+        go : (c : Bool) → any (notOneLower m r) n ≡ c → Refused 15 k ≡ check 15 k c
+        go true u = refl
+        go false u =
+            absurd (true-false (any (badSlot m r) (arity (r .kind))) some (slots-passed (rw (← p, ← e, t, u))))
 
 module _ (records : ℕ) (bytes : List ℕ) where
   pub length-ragged : length bytes % width ≢ 0 → true ≡ badLength records bytes
@@ -151,6 +144,22 @@ module _ (records : ℕ) (bytes : List ℕ) where
     pub length-long : records ≤ m → ltb mappedLimit m ≡ badLength records bytes
     length-long h = rw (whole, le-ltb (recordCount bytes) records (rw e at h), e)
 
+-- an accepted source's unused slots name nothing
+pub source-empty : (source : List ℕ) (k : ℕ) (a : Record) → IsSource (netlist source) → k < recordCount source → a ≡ recordAt source k → any (badEmpty (a .kind) blank a) slots ≡ false
+source-empty source k a i l e =
+    rw e (simp reflect (λ j u g. i .empty k j l g u ∙ sym (blank-slot j)))
+
+-- record k below the source's size, and from there on
+module _ (n m : Netlist) (k : ℕ) where
+  pub kept-bad : k < n .size → differs (n .at k) (m .at k) ≡ true → placeChecks n m k ≡ Refused 12 k
+  kept-bad l t = rw (lt-ltb k (n .size) l, t)
+
+  pub kept-slots : k < n .size → differs (n .at k) (m .at k) ≡ false → placeChecks n m k ≡ slotChecks m k (m .at k)
+  kept-slots l t = rw (lt-ltb k (n .size) l, t, lt-leb (n .size) k l)
+
+  pub place-buffer : n .size ≤ k → placeChecks n m k ≡ bufferChecks m k
+  place-buffer l = rw (le-ltb k (n .size) l, le-leb (n .size) k l)
+
 -- what 12 to 15 leave for the trace
 pub placed : (n m : Netlist) → n .size ≤ m .size → scan (placeChecks n m) 0 (m .size) ≡ Passed → Placed n m
 placed n m whole h =
@@ -158,32 +167,79 @@ placed n m whole h =
     record {
       whole = whole;
       kinds = λ k l. f k (omega arith) .0 .0 l .0;
+      buffers = λ k l b. f k b .0 .1 l .0;
       named = λ k j l u. f k l .1 .0 j u .0;
       balanced = λ k j l u. f k l .1 .1 j u;
     }
 
-module _ (n : Netlist) (s : ℕ) (m : Netlist) (size : ℕ) (e : size ≡ m .size) (places : Checked) (p : places ≡ scan (placeChecks n m) 0 size) where
-  all-places : scan (placeChecks n m) 0 (m .size) ≡ places
-  all-places = sym (p ∙ ap (scan (placeChecks n m) 0) e)
+pub places-placed :
+    (n m : Netlist) (records size : ℕ) → Sized n m records size → scan (placeChecks n m) 0 (m .size) ≡ Passed → Placed n m
+places-placed n m records size sized h = placed n m (omega (arith, sized .records, sized .size, sized .whole)) h
 
-  pub legal-places : (number place : ℕ) → places ≡ Refused number place → Refused number place ≡ legalChecks n s m
+-- what 12 leaves: no record below the source's size is a buffer
+module _ (n m : Netlist) (records size : ℕ) (sized : Sized n m records size) where
+  pub driven : scan (placeChecks n m) 0 (n .size) ≡ Passed → Driven records m
+  driven h =
+      let f = simp reflect at h in
+      record {
+        driver = λ k l b. let g : k < n .size = omega (arith, sized .records) in omega (arith, f k g .0 .0 g .0, sized .source .kinds k g);
+      }
+
+  pub placed-driven : Placed n m → Driven records m
+  placed-driven p =
+      record {
+        driver = λ k l b. let g : k < n .size = omega (arith, sized .records) in omega (arith, p .kinds k g, sized .source .kinds k g);
+      }
+
+-- checks that agree on every place
+pub scan-cong : (f g : ℕ → Checked) (n : ℕ) → ((k : ℕ) → k < n → f k ≡ g k) → scan f 0 n ≡ scan g 0 n
+unfolding scan
+scan-cong f g n h = from 0 n (λ k l. h k (omega arith))
+  where
+    from : (i a : ℕ) → ((k : ℕ) → k < i + a → f k ≡ g k) → scan f i a ≡ scan g i a
+    from i zero e = refl
+    from i (suc a) e = ap₂ _andThen_ (e i (omega arith)) (from (suc i) a (λ k l. e k (omega arith)))
+
+-- a scan goes on where its first part passes, and stops where that stops
+module _ (f : ℕ → Checked) where
+  scan-split : (i a b : ℕ) → scan f i (a + b) ≡ (scan f i a andThen scan f (i + a) b)
+  unfolding scan
+  scan-split i zero b = rw (add-zero i, zero-add b)
+  scan-split i (suc a) b = rw (suc-add a b, add-suc i a, ← suc-add i a, scan-split (suc i) a b) (go (f i))
+    where
+      go : (c : Checked) → (c andThen (scan f (suc i) a andThen scan f (suc i + a) b)) ≡ ((c andThen scan f (suc i) a) andThen scan f (suc i + a) b)
+      go Passed = refl
+      go (Refused number place) = refl
+
+  module _ (a n : ℕ) (l : a ≤ n) where
+    parts : scan f 0 n ≡ (scan f 0 a andThen scan f a (n - a))
+    parts =
+        subst (λ (k : ℕ). scan f 0 k ≡ (scan f 0 a andThen scan f a (n - a))) (add-sub-of-le l)
+        (rw (zero-add a) at (scan-split 0 a (n - a)))
+
+    pub scan-onward : scan f 0 a ≡ Passed → Scanning f n a
+    scan-onward h = record { within = l; rest = sym (parts ∙ rw h) }
+
+    pub scan-early : (number place : ℕ) → scan f 0 a ≡ Refused number place → scan f 0 n ≡ Refused number place
+    scan-early number place h = parts ∙ rw h
+
+module _ (n : Netlist) (s : ℕ) (m : Netlist) where
+  pub legal-places : (number place : ℕ) → scan (placeChecks n m) 0 (m .size) ≡ Refused number place → Refused number place ≡ legalChecks n s m
   unfolding legalChecks
-  legal-places number place f = rw (all-places, f)
+  legal-places number place h = rw h
 
-  pub legal-placed : (records : ℕ) → records ≡ n .size → records ≤ size → places ≡ Passed → Placed n m
-  legal-placed records g l good = placed n m (omega arith) (all-places ∙ good)
+  pub legal-placed :
+      (a : Checked) → scan (placeChecks n m) 0 (m .size) ≡ Passed →
+      a ≡ (scan (traceCheck n m) 0 (n .size) andThen scan (feedCheck s m) 0 (m .size)) → a ≡ legalChecks n s m
+  unfolding legalChecks
+  legal-placed a good e = e ∙ rw good
 
-  module _ (records : ℕ) (g : records ≡ n .size) (good : places ≡ Passed) (traces : Checked) (q : traces ≡ scan (traceCheck n m) 0 records) where
-    all-traces : scan (traceCheck n m) 0 (n .size) ≡ traces
-    all-traces = sym (q ∙ ap (scan (traceCheck n m) 0) g)
+  module _ (traces : Checked) (q : traces ≡ scan (traceCheck n m) 0 (n .size)) where
+    pub placed-traces : (number place : ℕ) → traces ≡ Refused number place → Refused number place ≡ (scan (traceCheck n m) 0 (n .size) andThen scan (feedCheck s m) 0 (m .size))
+    placed-traces number place f = rw (← q, f)
 
-    pub legal-traces : (number place : ℕ) → traces ≡ Refused number place → Refused number place ≡ legalChecks n s m
-    unfolding legalChecks
-    legal-traces number place f = rw (all-places, good, all-traces, f)
-
-    pub legal-feeds : (a : Checked) → traces ≡ Passed → a ≡ scan (feedCheck s m) 0 size → a ≡ legalChecks n s m
-    unfolding legalChecks
-    legal-feeds a f h = h ∙ ap (scan (feedCheck s m) 0) e ∙ rw (all-places, good, all-traces, f)
+    pub placed-feeds : (a : Checked) → traces ≡ Passed → a ≡ scan (feedCheck s m) 0 (m .size) → a ≡ (scan (traceCheck n m) 0 (n .size) andThen scan (feedCheck s m) 0 (m .size))
+    placed-feeds a f h = h ∙ rw (← q, f)
 
 module _ (n : Netlist) (s : ℕ) (bytes : List ℕ) (records : ℕ) (e : records ≡ n .size) (b : Bool) (f : b ≡ badLength records bytes) where
   pub mapped-length : b ≡ true → Refused 11 0 ≡ mappedChecks n s bytes
@@ -194,7 +250,10 @@ module _ (n : Netlist) (s : ℕ) (bytes : List ℕ) (records : ℕ) (e : records
   unfolding mappedChecks
   mapped-legal a t g = g ∙ rw (← e, ← f, t)
 
--- what 1 and 11 leave: sizes that fit, and a capacity below the stop
+-- what 1 to 7 and 11 leave: a source, sizes that fit, and a capacity below the stop
+pub capacity-fits : (source : List ℕ) (s : ℕ) → inputChecks s source ≡ Passed → s < stop
+capacity-fits source s i = omega (arith, input s source i .high)
+
 module _ (records : ℕ) (bytes : List ℕ) (b : Bool) (f : b ≡ badLength records bytes) (t : b ≡ false) where
   within : (records ≤ recordCount bytes) × (recordCount bytes ≤ mappedLimit)
   within = let h : badLength records bytes ≡ false = sym f ∙ t in let g = simp reflect at h in (g .1 .0, g .1 .1)
@@ -205,12 +264,17 @@ module _ (records : ℕ) (bytes : List ℕ) (b : Bool) (f : b ≡ badLength reco
   pub mapped-fits : (m : ℕ) → m ≡ recordCount bytes → m < 2 ^ 32
   mapped-fits m e = omega (arith, within)
 
-  pub mapped-whole : (m : ℕ) → m ≡ recordCount bytes → records ≤ m
-  mapped-whole m e = omega (arith, within)
-
-  pub mapped-countable : (source : List ℕ) (s m : ℕ) → inputChecks s source ≡ Passed → m ≡ recordCount bytes → Countable (netlist bytes) s m
-  mapped-countable source s m i e =
-      record { capacity = omega (arith, simp reflect at i); size = e; fits = omega (arith, within) }
+  pub mapped-sized :
+      (source : List ℕ) (s m : ℕ) → inputChecks s source ≡ Passed → records ≡ recordCount source → m ≡ recordCount bytes →
+      Sized (netlist source) (netlist bytes) records m
+  mapped-sized source s m i e g =
+      record {
+        source = input s source i .isSource .isSource;
+        records = e;
+        size = g;
+        whole = omega (arith, within);
+        fits = omega (arith, within);
+      }
 
 module _ (source : List ℕ) (s : ℕ) (mapped : List ℕ) (input : Checked) (e : input ≡ inputChecks s source) where
   pub verify-input : (number place : ℕ) → input ≡ Refused number place → Refused number place ≡ verifyChecks source s mapped

@@ -1,6 +1,7 @@
 -- The counts of check 17: a count is the number of slots that a record feeds, cut off at the stop.
 use Prim.Native.Nat.{ℕ, zero, suc, _+_, _-_, _<_, _≤_, min}
 use native.Mathlib.Omega.{arith}
+use native.Mathlib.Decide.{decLt}
 use native.Mathlib.Nat.{add-sub-of-le}
 use native.Mathlib.Numerals.{add-one}
 use mathlib.Core.Path.{_≡_, refl, sym, ap, subst, _∙_}
@@ -8,28 +9,29 @@ use mathlib.Core.Logic.{_≢_}
 use mathlib.Core.Bool.{Bool, true, false, cond, _&&_}
 use mathlib.Core.List.{List}
 use lib.ListN.{length, getD, set, replicate, length-set, length-replicate, getD-replicate}
-use lib.Seq.{set-out, set-getD, getD-set-same, getD-set-other}
+use lib.Seq.{set-getD, getD-set-same, getD-set-other}
 use lib.Dec.{ltb, eqb}
-use borrow.Author.Tests.{lt-ltb, le-ltb, ltb-true, ltb-false, eqb-true, eqb-false, ne-eqb}
-use Rattle.facts.specs.Sums.{bit, sum, count, count₂}
+use borrow.Author.Tests.{lt-ltb, le-ltb, ltb-true, ltb-false, eqb-true, eqb-false, ne-eqb, not-false}
+use Rattle.facts.specs.Sums.{bit, sum, count, count₂, any}
+use Rattle.facts.specs.declared.Checked.{Checked}
 use Rattle.facts.specs.declared.Checked.the-variants.{Passed, Refused}
 use Rattle.facts.specs.Checks.{scan}
-use Rattle.facts.proofs.Bools.{and-l}
-use Rattle.facts.proofs.Loops.{Scanning, scan-more, scan-stop}
+use Rattle.facts.proofs.Bools.{and-l, true-false}
+use Rattle.facts.proofs.Loops.{NoneYet, any-start, any-more, any-found, any-end, Scanning, scan-start, scan-more, scan-stop, scan-end}
+use Rattle.facts.proofs.Reflect.{reflect}
 use Rattle.facts.proofs.Sums.{count-append, count-cong, count-none}
 use Rattle.netlist.specs.declared.Record.{Record}
-use Rattle.netlist.specs.Kinds.{mappedLimit, slots, buffer, arity}
-use Rattle.netlist.specs.Records.{Netlist, names, feeds, slot}
+use Rattle.netlist.specs.Kinds.{slots, buffer, arity}
+use Rattle.netlist.specs.Records.{Netlist, netlist, recordAt, recordCount, names, feeds, slot}
 use Rattle.netlist.proofs.Checks.{arity-slots}
-use Rattle.verifier.specs.Feeding.{stop, more, fedOnce, fedBy, tally, Countable}
 use Rattle.fanout.specs.Answer.{driverCapacity}
 use Rattle.verifier.specs.Legal.{capacityOf}
-use Rattle.verifier.specs.Checks.{feedCheck}
+use Rattle.verifier.specs.Checks.{differs, noBuffer, slotChecks, placeChecks, feedCheck}
+use Rattle.verifier.specs.Walking.{Sized, Placed}
+use Rattle.verifier.specs.Feeding.{stop, more, fedOnce, fedBy, tally, badSlot, bufferChecks, Fed, Tallied, Counted, capacityAt, countCheck}
+use Rattle.verifier.proofs.Checks.{slots-good, slots-passed, kept-bad, kept-slots, placed-driven, scan-cong, scan-onward, scan-early}
 
 module _ (counts : List ℕ) (x : ℕ) where
-  pub feed-past : length counts ≡ mappedLimit → mappedLimit ≤ x → counts ≡ fedOnce counts x
-  feed-past e h = sym (set-out counts x (more (getD counts x 0)) (omega arith))
-
   pub feed-full : stop ≤ getD counts x 0 → counts ≡ fedOnce counts x
   feed-full h = sym (rw (le-ltb (getD counts x 0) stop h) (set-getD counts x 0))
 
@@ -45,10 +47,10 @@ unfolding fedBy
 by-length counts r zero = refl
 by-length counts r (suc n) = once-length (fedBy counts r n) (slot r n) ∙ by-length counts r n
 
-pub tally-length : (m : Netlist) (n : ℕ) → length (tally m n) ≡ mappedLimit
+tally-length : (entries : ℕ) (m : Netlist) (n : ℕ) → length (tally entries m n) ≡ entries
 unfolding tally
-tally-length m zero = length-replicate {A = ℕ} mappedLimit 0
-tally-length m (suc n) = by-length (tally m n) (m .at n) (arity (m .at n .kind)) ∙ tally-length m n
+tally-length entries m zero = length-replicate {A = ℕ} entries 0
+tally-length entries m (suc n) = by-length (tally entries m n) (m .at n) (arity (m .at n .kind)) ∙ tally-length entries m n
 
 -- a count goes up by one where its record is named, and stops
 more-cut : (c : ℕ) → c ≤ stop → more c ≡ min stop (c + 1)
@@ -92,104 +94,263 @@ count-used p a w h =
     ))
 
 -- a count is the number of slots that name its record, cut off at the stop
-pub tally-count :
-    (m : Netlist) (n x : ℕ) → x < mappedLimit → getD (tally m n) x 0 ≡ min stop (count₂ (names m x) slots n)
+tally-count :
+    (entries : ℕ) (m : Netlist) (n x : ℕ) → x < entries → getD (tally entries m n) x 0 ≡ min stop (count₂ (names m x) slots n)
 unfolding tally count₂ sum
-tally-count m zero x l = getD-replicate mappedLimit x 0 0 l
-tally-count m (suc n) x l =
-    let ih = tally-count m n x l in
-    by-count (tally m n) (m .at n) (arity (m .at n .kind)) x (rw (tally-length m n) l) (omega arith)
+tally-count entries m zero x l = getD-replicate entries x 0 0 l
+tally-count entries m (suc n) x l =
+    let ih = tally-count entries m n x l in
+    by-count (tally entries m n) (m .at n) (arity (m .at n .kind)) x (rw (tally-length entries m n) l) (omega arith)
     ∙ omega (arith, count-used (λ j. eqb (slot (m .at n) j) x) (arity (m .at n .kind)) slots (arity-slots (m .at n .kind)))
 
--- the first j used slots of a record are counted
-pub record FedSlots (before counts : List ℕ) (r : Record) (n j : ℕ) : Type 0 where
-  pub within : j ≤ n
-  pub sized : length counts ≡ mappedLimit
+-- the first j slots of a record are good, and counted
+pub record FedSlots (m : Netlist) (r : Record) (n : ℕ) (before counts : List ℕ) (j : ℕ) : Type 0 where
+  pub none : NoneYet (badSlot m r) n j
   pub done : counts ≡ fedBy before r j
 
-module _ (before : List ℕ) (r : Record) (n : ℕ) where
-  pub slots-start : length before ≡ mappedLimit → FedSlots before before r n 0
+module _ (m : Netlist) (r : Record) (n : ℕ) (before : List ℕ) where
+  pub slots-start : FedSlots m r n before before 0
   unfolding fedBy
-  slots-start e = record { within = omega arith; sized = e; done = refl }
+  slots-start = record { none = any-start (badSlot m r) n; done = refl }
 
-  pub slots-more :
-      (counts after : List ℕ) (j x : ℕ) →
-      FedSlots before counts r n j →
-      j < n →
-      x ≡ slot r j →
-      after ≡ fedOnce counts x →
-      FedSlots before after r n (j + 1)
-  unfolding fedBy
-  slots-more counts after j x i l e f =
+  module _ (counts : List ℕ) (j : ℕ) (i : FedSlots m r n before counts j) where
+    pub slots-length : length counts ≡ length before
+    slots-length = ap length (i .done) ∙ by-length before r j
+
+    pub slots-end : n ≤ j → Fed m r n true before counts
+    slots-end l =
+        let w : j ≡ n = omega (arith, i .none .within) in
+        record {
+          good = rw (← any-end (badSlot m r) n j (i .none) l);
+          counted = λ t. i .done ∙ ap (fedBy before r) w;
+        }
+
+    module _ (l : j < n) (b : Bool) (e : b ≡ badSlot m r j) where
+      pub slots-bad : b ≡ true → Fed m r n false before counts
+      slots-bad t =
+          record {
+            good = rw (← any-found (badSlot m r) n j b l e t);
+            counted = λ t. absurd (true-false false t refl);
+          }
+
+      pub slots-room : (x : ℕ) → x ≡ slot r j → b ≡ false → m .size ≤ length before → x < length counts
+      slots-room x p t h =
+          let g : badSlot m r j ≡ false = sym e ∙ t in
+          let f = simp reflect at g in
+          rw (i .done, by-length before r j) (omega (arith, f .0 .0))
+
+    pub slots-more :
+        (after : List ℕ) (x : ℕ) (b : Bool) → j < n → x ≡ slot r j → after ≡ fedOnce counts x → b ≡ badSlot m r j → b ≡ false →
+        FedSlots m r n before after (j + 1)
+    unfolding fedBy
+    slots-more after x b l p f e t =
+        record {
+          none = any-more (badSlot m r) n j b (i .none) l e t;
+          done = f ∙ rw (add-one j, p, i .done);
+        }
+
+-- the used slots of a record are its first 0, 1, 2 or 3
+module _ (m : Netlist) (r : Record) (used : ℕ) (u : used ≡ arity (r .kind)) (before : List ℕ) where
+  pub used-none : used ≡ 0 → Fed m r (arity (r .kind)) true before before
+  unfolding fedBy any
+  used-none e = rw (← u, e) (record { good = refl; counted = λ t. refl })
+
+  module _ (b : Bool) (after : List ℕ) where
+    pub used-some : (n : ℕ) → used ≡ n → Fed m r n b before after → Fed m r (arity (r .kind)) b before after
+    used-some n e f = rw (← u, e) f
+
+    pub used-all : used ≢ 0 → used ≢ 1 → used ≢ 2 → Fed m r slots b before after → Fed m r (arity (r .kind)) b before after
+    used-all o p q f = used-some slots (omega (arith, arity-slots (r .kind))) f
+
+module _ (m : Netlist) where
+  pub tallied-start : (entries : ℕ) → m .size ≤ entries → Tallied m 0 (replicate entries 0)
+  unfolding tally
+  tallied-start entries l =
+      let e = length-replicate {A = ℕ} entries 0 in
+      record { room = rw e l; counted = rw e }
+
+  tallied-more : (k : ℕ) (before after : List ℕ) → Tallied m k before → after ≡ fedBy before (m .at k) (arity (m .at k .kind)) → Tallied m (k + 1) after
+  unfolding tally
+  tallied-more k before after t f =
+      let e : length after ≡ length before = ap length f ∙ by-length before (m .at k) (arity (m .at k .kind)) in
       record {
-        within = omega arith;
-        sized = rw (f, once-length counts x) (i .sized);
-        done = f ∙ rw (add-one j, e, i .done);
+        room = rw e (t .room);
+        counted = f ∙ rw (e, add-one k) (ap (λ (l : List ℕ). fedBy l (m .at k) (arity (m .at k .kind))) (t .counted));
       }
 
-  pub slots-end : (counts : List ℕ) (j : ℕ) → FedSlots before counts r n j → n ≤ j → n ≡ arity (r .kind) → counts ≡ fedBy before r (arity (r .kind))
-  slots-end counts j i l e = i .done ∙ ap (fedBy before r) (let w : j ≡ arity (r .kind) = omega (arith, i .within) in w)
+  counted-refused : (right : Checked) (number place k : ℕ) (counts : List ℕ) → right ≡ Refused number place → Counted (Refused number place) right m k counts
+  counted-refused right number place k counts e =
+      record { answer = sym e; tallied = λ p. absurd (let z : _≡_ {A = ℕ} 0 1 = cc in omega arith) }
 
--- the first k records are counted
-pub record FedRecords (m : Netlist) (counts : List ℕ) (n k : ℕ) : Type 0 where
-  pub within : k ≤ n
-  pub sized : length counts ≡ mappedLimit
-  pub done : counts ≡ tally m k
+  -- a record whose slots decide
+  module _ (right : Checked) (k : ℕ) (r : Record) (here : r ≡ m .at k) (decides : right ≡ slotChecks m k (m .at k))
+      (b : Bool) (before after : List ℕ) (f : Fed m r (arity (r .kind)) b before after) where
+    slots-counted : Tallied m k before → b ≡ true → Counted Passed right m (k + 1) after
+    slots-counted t e =
+        record {
+          answer = sym (decides ∙ rw (← here) (slots-good m k r b (f .good) e));
+          tallied = λ p. tallied-more k before after t (f .counted e ∙ rw here);
+        }
 
-module _ (m : Netlist) (n : ℕ) where
-  pub records-start : (counts : List ℕ) → counts ≡ replicate mappedLimit 0 → FedRecords m counts n 0
-  unfolding tally
-  records-start counts e =
-      record { within = omega arith; sized = rw e (length-replicate {A = ℕ} mappedLimit 0); done = e }
+    slots-blamed : (a : Checked) → b ≡ false → a ≡ slotChecks m k r → Counted a right m (k + 1) after
+    slots-blamed a e g =
+        record {
+          answer = g ∙ rw here (sym decides);
+          tallied = λ p. absurd (true-false b (f .good ∙ rw (slots-passed m k r (sym g ∙ p))) e);
+        }
 
-  pub records-more :
-      (counts after : List ℕ) (k : ℕ) (r : Record) →
-      FedRecords m counts n k →
-      k < n →
-      r ≡ m .at k →
-      after ≡ fedBy counts r (arity (r .kind)) →
-      FedRecords m after n (k + 1)
-  unfolding tally
-  records-more counts after k r i l e f =
-      let whole : after ≡ tally m (suc k) = f ∙ rw (e, i .done) in
-      record {
-        within = omega arith;
-        sized = rw whole (tally-length m (suc k));
-        done = rw (add-one k) whole;
-      }
+-- some slot of a record that was not fed is bad
+pub unfed : (m : Netlist) (r : Record) (n : ℕ) (b : Bool) (before after : List ℕ) → Fed m r n b before after → n ≡ arity (r .kind) → b ≡ false → any (badSlot m r) (arity (r .kind)) ≡ true
+unfed m r n b before after f u e = rw (← u) (not-false (any (badSlot m r) n) (sym (f .good) ∙ e))
 
-  pub records-end : (counts : List ℕ) (k : ℕ) → FedRecords m counts n k → n ≤ k → counts ≡ tally m n
-  records-end counts k i l = i .done ∙ ap (tally m) (let w : k ≡ n = omega (arith, i .within) in w)
+-- what the code has of record k: below the source's size
+module _ (source mapped : List ℕ) (k : ℕ) (a r : Record) (p : a ≡ recordAt source k) (q : r ≡ recordAt mapped k) (b : Bool) (e : b ≡ differs a r)
+    (l : k < recordCount source) where
+  pub record-differs :
+      (next : ℕ) (counts : List ℕ) → b ≡ true →
+      Counted (Refused 12 k) (placeChecks (netlist source) (netlist mapped) k) (netlist mapped) next counts
+  record-differs next counts t =
+      counted-refused (netlist mapped) _ 12 k next counts (kept-bad (netlist source) (netlist mapped) k l (rw (← p, ← q, ← e) t))
 
-pub capacity-buffer : (s kind : ℕ) → kind ≡ buffer → s ≡ capacityOf s kind
-capacity-buffer s kind e = rw e
+  module _ (same : b ≡ false) (c : Bool) (before after : List ℕ) (f : Fed (netlist mapped) r (arity (r .kind)) c before after) where
+    decides : placeChecks (netlist source) (netlist mapped) k ≡ slotChecks (netlist mapped) k (recordAt mapped k)
+    decides = kept-slots (netlist source) (netlist mapped) k l (rw (← p, ← q, ← e) same)
 
-pub capacity-other : (s kind : ℕ) → kind ≢ buffer → driverCapacity ≡ capacityOf s kind
-capacity-other s kind e = rw (ne-eqb kind buffer e)
+    pub record-counted :
+        Tallied (netlist mapped) k before → c ≡ true →
+        Counted Passed (placeChecks (netlist source) (netlist mapped) k) (netlist mapped) (k + 1) after
+    record-counted t g = slots-counted (netlist mapped) _ k r q decides c before after f t g
 
-capacity-below : (s kind : ℕ) → s < stop → capacityOf s kind < stop
-capacity-below s kind h = go (eqb kind buffer)
-  where
-    go : (b : Bool) → cond b s driverCapacity < stop
-    go true = h
-    go false = omega arith
+    pub record-blamed :
+        (x : Checked) → c ≡ false → x ≡ slotChecks (netlist mapped) k r →
+        Counted x (placeChecks (netlist source) (netlist mapped) k) (netlist mapped) (k + 1) after
+    record-blamed x g h = slots-blamed (netlist mapped) _ k r q decides c before after f x g h
+
+-- and from there on
+pub buffer-kind : (r : Record) (b : Bool) → b ≡ noBuffer r → b ≡ false → r .kind ≡ buffer
+buffer-kind r b e t = let h : noBuffer r ≡ false = sym e ∙ t in (simp reflect at h) .0
+
+pub buffer-uses : (r : Record) (b : Bool) → b ≡ noBuffer r → b ≡ false → 1 ≡ arity (r .kind)
+buffer-uses r b e t = rw (buffer-kind r b e t)
+
+module _ (mapped : List ℕ) (k : ℕ) (r : Record) (q : r ≡ recordAt mapped k) (b : Bool) (e : b ≡ noBuffer r) where
+  foreign : noBuffer (recordAt mapped k) ≡ b
+  foreign = rw (← q, e)
+
+  pub buffer-differs : (next : ℕ) (counts : List ℕ) → b ≡ true → Counted (Refused 13 k) (bufferChecks (netlist mapped) k) (netlist mapped) next counts
+  buffer-differs next counts t = counted-refused (netlist mapped) _ 13 k next counts (rw (foreign, t))
+
+  module _ (same : b ≡ false) (c : Bool) (before after : List ℕ) (f : Fed (netlist mapped) r 1 c before after) where
+    settles : bufferChecks (netlist mapped) k ≡ slotChecks (netlist mapped) k (recordAt mapped k)
+    settles = rw (foreign, same)
+
+    whole : Fed (netlist mapped) r (arity (r .kind)) c before after
+    whole = rw (← buffer-uses r b e same) f
+
+    pub buffer-counted :
+        Tallied (netlist mapped) k before → c ≡ true → Counted Passed (bufferChecks (netlist mapped) k) (netlist mapped) (k + 1) after
+    buffer-counted t g = slots-counted (netlist mapped) _ k r q settles c before after whole t g
+
+    pub buffer-blamed :
+        (x : Checked) → c ≡ false → x ≡ slotChecks (netlist mapped) k r →
+        Counted x (bufferChecks (netlist mapped) k) (netlist mapped) (k + 1) after
+    buffer-blamed x g h = slots-blamed (netlist mapped) _ k r q settles c before after whole x g h
+
+-- the answer from k on is the answer, and the first k records are counted
+pub record Counting (n m : Netlist) (records : ℕ) (counts : List ℕ) (k : ℕ) : Type 0 where
+  pub scanning : Scanning (placeChecks n m) records k
+  pub tallied : Tallied m k counts
+
+module _ (n m : Netlist) (records : ℕ) (counts : List ℕ) where
+  pub counting-start : Tallied m 0 counts → Counting n m records counts 0
+  counting-start t = record { scanning = scan-start (placeChecks n m) records; tallied = t }
+
+  pub counting-onward : (k : ℕ) → k ≤ records → scan (placeChecks n m) 0 k ≡ Passed → Tallied m k counts → Counting n m records counts k
+  counting-onward k l h t = record { scanning = scan-onward (placeChecks n m) k records l h; tallied = t }
+
+  module _ (k : ℕ) (i : Counting n m records counts k) (size : ℕ) (e : size ≡ records) where
+    pub counting-end : size ≤ k → Counted Passed (scan (placeChecks n m) 0 records) m records counts
+    counting-end l =
+        let w : k ≡ records = omega (arith, i .scanning .within) in
+        record { answer = scan-end (placeChecks n m) records k (i .scanning) (rw e at l); tallied = λ p. rw (← w) (i .tallied) }
+
+    module _ (l : k < size) (a : Checked) (after : List ℕ) (c : Counted a (placeChecks n m k) m (k + 1) after) where
+      pub counting-stop : (number place : ℕ) → a ≡ Refused number place → Counted (Refused number place) (scan (placeChecks n m) 0 records) m records after
+      counting-stop number place p =
+          counted-refused m _ number place records after (sym (scan-stop (placeChecks n m) records k number place a (i .scanning) (rw e at l) (c .answer) p))
+
+      pub counting-more : a ≡ Passed → Counting n m records after (k + 1)
+      counting-more p =
+          record { scanning = scan-more (placeChecks n m) records k a (i .scanning) (rw e at l) (c .answer) p; tallied = c .tallied p }
+
+-- what a part of the checks leaves for the next
+module _ (a right : Checked) (m : Netlist) (k : ℕ) (counts : List ℕ) (c : Counted a right m k counts) where
+  pub counted-passed : a ≡ Passed → right ≡ Passed
+  counted-passed p = sym (c .answer) ∙ p
+
+  pub counted-tallied : a ≡ Passed → Tallied m k counts
+  counted-tallied p = c .tallied p
+
+  pub counted-refusal : (number place : ℕ) → a ≡ Refused number place → right ≡ Refused number place
+  counted-refusal number place p = sym (c .answer) ∙ p
+
+pub counted-early :
+    (n m : Netlist) (a : Checked) (k next number place records size : ℕ) (counts after : List ℕ) →
+    Counted a (scan (placeChecks n m) 0 (n .size)) m k counts → a ≡ Refused number place → Sized n m records size →
+    Counted (Refused number place) (scan (placeChecks n m) 0 (m .size)) m next after
+counted-early n m a k next number place records size counts after c p sized =
+    counted-refused m _ number place next after
+    (scan-early (placeChecks n m) (n .size) (m .size) (omega (arith, sized .records, sized .size, sized .whole)) number place (sym (c .answer) ∙ p))
+
+pub capacity-driver : (s n k : ℕ) → k < n → driverCapacity ≡ capacityAt s n k
+capacity-driver s n k l = rw (lt-ltb k n l)
+
+pub capacity-buffer : (s n k : ℕ) → n ≤ k → s ≡ capacityAt s n k
+capacity-buffer s n k l = rw (le-ltb k n l)
 
 -- 17 by the counts
-module _ (m : Netlist) (s n : ℕ) (able : Countable m s n) (counts : List ℕ) (t : counts ≡ tally m n)
-    (k : ℕ) (i : Scanning (feedCheck s m) n k) (l : k < n) (f x c : ℕ) (g : f ≡ getD counts k 0) (p : x ≡ m .at k .kind) (q : c ≡ capacityOf s x) where
-  fed : f ≡ min stop (feeds m k)
-  unfolding feeds
-  fed = g ∙ ap (λ (l : List ℕ). getD l k 0) t ∙ tally-count m n k (omega (arith, able .fits)) ∙ ap (λ (n : ℕ). min stop (count₂ (names m k) slots n)) (able .size)
+module _ (n m : Netlist) (s records size : ℕ) (sized : Sized n m records size) (p : Placed n m) (below : s < stop) (counts : List ℕ) (t : Tallied m (m .size) counts) where
+  module _ (k : ℕ) (l : k < m .size) where
+    fed : getD counts k 0 ≡ min stop (feeds m k)
+    unfolding feeds
+    fed = ap (λ (l : List ℕ). getD l k 0) (t .counted) ∙ tally-count (length counts) m (m .size) k (omega (arith, t .room))
 
-  below : c < stop
-  below = rw q (capacity-below s x (able .capacity))
+    -- drivers stand below the source's size, buffers from there on
+    capacity : capacityAt s records k ≡ capacityOf s (m .at k .kind)
+    capacity = elim (decLt k records) [
+      | yes h ↦ rw (lt-ltb k records h, ne-eqb (m .at k .kind) buffer (placed-driven n m records size sized p .driver k h))
+      | no h ↦ (
+          let b : records ≤ k = omega arith in
+          let g : n .size ≤ k = omega (arith, sized .records) in
+          rw (le-ltb k records b, p .buffers k g l))
+    ]
 
-  pub feeds-more : f ≤ c → Scanning (feedCheck s m) n (k + 1)
-  feeds-more h =
-      let few : feeds m k ≤ capacityOf s (m .at k .kind) = rw (← p, ← q) (omega (arith, fed, below)) in
-      scan-more (feedCheck s m) n k Passed i l (sym (rw (le-ltb (capacityOf s (m .at k .kind)) (feeds m k) few))) refl
+    few : capacityAt s records k < stop
+    few = go (ltb k records)
+      where
+        go : (b : Bool) → cond b driverCapacity s < stop
+        go true = omega arith
+        go false = below
 
-  pub feeds-stop : c < f → Refused 17 k ≡ scan (feedCheck s m) 0 n
-  feeds-stop h =
-      let many : capacityOf s (m .at k .kind) < feeds m k = rw (← p, ← q) (omega (arith, fed)) in
-      scan-stop (feedCheck s m) n k 17 k (Refused 17 k) i l (sym (rw (lt-ltb (capacityOf s (m .at k .kind)) (feeds m k) many))) refl
+    count-feed : countCheck s records counts k ≡ feedCheck s m k
+    count-feed = elim (decLt (capacityAt s records k) (feeds m k)) [
+      | yes h ↦ rw (lt-ltb (capacityAt s records k) (getD counts k 0) (omega (arith, fed, few)), ← capacity, lt-ltb (capacityAt s records k) (feeds m k) h)
+      | no h ↦ (
+          let g : feeds m k ≤ capacityAt s records k = omega arith in
+          rw (le-ltb (capacityAt s records k) (getD counts k 0) (omega (arith, fed)), ← capacity, le-ltb (capacityAt s records k) (feeds m k) g))
+    ]
+
+  pub counts-room : size ≤ length counts
+  counts-room = omega (arith, t .room, sized .size)
+
+  pub counts-feeds : (a : Checked) → a ≡ scan (countCheck s records counts) 0 size → a ≡ scan (feedCheck s m) 0 (m .size)
+  counts-feeds a e = e ∙ ap (scan (countCheck s records counts) 0) (sized .size) ∙ scan-cong (countCheck s records counts) (feedCheck s m) (m .size) count-feed
+
+-- one record more by the counts
+module _ (s n : ℕ) (counts : List ℕ) (size k : ℕ) (i : Scanning (countCheck s n counts) size k) (l : k < size)
+    (f c : ℕ) (g : f ≡ getD counts k 0) (q : c ≡ capacityAt s n k) where
+  pub count-more : f ≤ c → Scanning (countCheck s n counts) size (k + 1)
+  count-more h = scan-more (countCheck s n counts) size k Passed i l (sym (rw (← q, ← g, le-ltb c f h))) refl
+
+  pub count-stop : c < f → Refused 17 k ≡ scan (countCheck s n counts) 0 size
+  count-stop h = scan-stop (countCheck s n counts) size k 17 k (Refused 17 k) i l (sym (rw (← q, ← g, lt-ltb c f h))) refl

@@ -1,44 +1,118 @@
 -- Laws of the walks of check 16, with premises as the code has them: a walk ends at the driver, and what is kept of it is right.
 use Prim.Native.Nat.{ℕ, _+_, _-_, _≤_, _<_}
 use native.Mathlib.Omega.{arith}
-use native.Mathlib.Decide.{ℕ-discrete}
-use mathlib.Core.Path.{_≡_, refl, sym, _∙_}
+use native.Mathlib.Decide.{ℕ-discrete, decLt}
+use mathlib.Core.Path.{_≡_, refl, sym, ap, _∙_}
 use mathlib.Core.Logic.{_≢_}
 use mathlib.Core.Bool.{Bool, true, false, not}
 use mathlib.Core.List.{List}
-use lib.ListN.{getD, set, replicate, length-set, length-replicate, getD-replicate}
+use lib.ListN.{length, getD, set, replicate, length-set, length-replicate, getD-replicate}
 use lib.Seq.{getD-set-same, getD-set-other}
 use lib.Dec.{eqb}
+use borrow.Author.Tests.{lt-ltb, le-ltb, eq-eqb, ne-eqb, not-true}
+use Rattle.facts.specs.declared.Checked.{Checked}
 use Rattle.facts.specs.declared.Checked.the-variants.{Passed, Refused}
 use Rattle.facts.specs.Checks.{check, scan}
 use Rattle.facts.specs.Sums.{any}
+use Rattle.facts.proofs.Reflect.{reflect}
+use Rattle.facts.proofs.Sums.{any-none}
 use Rattle.facts.proofs.Loops.{NoneYet, any-start, any-more, any-found, any-end, Scanning, scan-start, scan-more, scan-stop, scan-end}
 use Rattle.netlist.specs.declared.Record.{Record}
-use Rattle.netlist.specs.Kinds.{mappedLimit, buffer, arity}
+use Rattle.netlist.specs.Kinds.{buffer, arity}
 use Rattle.netlist.specs.Records.{Netlist, netlist, recordAt, recordCount, slot}
-use Rattle.verifier.specs.Trace.{driver}
-use Rattle.verifier.specs.Walking.{unknown, Known, Placed, Walkable, Walked, AllWalkable, Answered}
-use Rattle.verifier.specs.Checks.{strays, traceCheck}
-use Rattle.verifier.proofs.Trace.{buffer-named, buffer-level, driver-here, driver-back}
+use Rattle.verifier.specs.Trace.{walk, driver}
+use Rattle.verifier.specs.Walking.{Sized, Driven, Buffering, unknown, Known, knownDriver, Placed, Walkable, Walked, AllWalkable, Answered}
+use Rattle.verifier.specs.Feeding.{stop, badSlot, bufferChecks, Fed, Tallied, Counted}
+use Rattle.verifier.specs.Checks.{noBuffer, placeChecks, strays, traceCheck}
+use Rattle.verifier.proofs.Trace.{walk-here, walk-back, buffer-named, buffer-level, driver-here, driver-back}
+use Rattle.verifier.proofs.Checks.{driven, place-buffer}
+use Rattle.verifier.proofs.Feeding.{tallied-start, buffer-kind, Counting, counting-onward, counting-end, counting-stop, counting-more}
 
 -- one driver more is known
-keep : (m : Netlist) (drivers : List ℕ) (x d : ℕ) → Known m drivers → x < mappedLimit → d ≡ driver m x → Known m (set drivers x d)
+keep : (m : Netlist) (drivers : List ℕ) (x d : ℕ) → Known m drivers → x < m .size → (d ≢ unknown → d ≡ driver m x) → Known m (set drivers x d)
 keep m drivers x d k l e =
     record {
-      sized = length-set drivers x d ∙ k .sized;
+      room = rw (length-set drivers x d) (k .room);
       right = λ y h f.
           elim (ℕ-discrete y x) [
-            | yes p ↦ rw p (getD-set-same drivers x d 0 (omega (arith, k .sized)) ∙ e)
+            | yes p ↦
+                let q = getD-set-same drivers x d 0 (omega (arith, k .room)) in
+                rw p (q ∙ e (λ u. f (rw p (q ∙ u))))
             | no p ↦
                 let q = getD-set-other drivers x y d 0 p in
                 q ∙ k .right y h (λ u. f (q ∙ u))
           ];
     }
 
+known-none : (m : Netlist) (entries : ℕ) → m .size ≤ entries → Known m (replicate entries unknown)
+known-none m entries l =
+    record {
+      room = rw (length-replicate {A = ℕ} entries unknown) l;
+      right = λ x h f. absurd (f (getD-replicate entries x unknown 0 (omega arith)));
+    }
+
+-- with new counts and drivers, an entry for each record, the checks may start
+pub fresh :
+    (n m : Netlist) (first all entries s : ℕ) → Sized n m first all → s < stop → all ≤ entries →
+    Sized n m first all × ((s < stop) × (Tallied m 0 (replicate entries 0) × Known m (replicate entries unknown)))
+fresh n m first all entries s sized below l =
+    let h : m .size ≤ entries = omega (arith, sized .size) in
+    (sized, (below, (tallied-start m entries h, known-none m entries h)))
+
+module _ (n : ℕ) (drivers : List ℕ) (x : ℕ) where
+  pub known-driver : x < n → x ≡ knownDriver n drivers x
+  known-driver l = rw (lt-ltb x n l)
+
+  pub known-buffer : n ≤ x → getD drivers x 0 ≡ knownDriver n drivers x
+  known-buffer l = rw (le-ltb x n l)
+
+  -- what is known is right
+  known-right : (m : Netlist) (d : ℕ) → Known m drivers → Driven n m → x < m .size → d ≡ knownDriver n drivers x → d ≢ unknown → d ≡ driver m x
+  known-right m d k i l e h = elim (decLt x n) [
+    | yes b ↦ rw e (rw (lt-ltb x n b) (sym (walk-here m (m .at x .level) x (i .driver x b))))
+    | no b ↦ (
+        let g : d ≡ getD drivers x 0 = e ∙ rw (le-ltb x n (let c : n ≤ x = omega arith in c)) in
+        g ∙ k .right x l (λ u. h (g ∙ u)))
+  ]
+
+-- a buffer that passes 13 to 15 has its fanin's driver
+module _ (m : Netlist) (drivers : List ℕ) (known : Known m drivers) (n k : ℕ) (i : Buffering n m k) where
+  pub buffer-room : k < length drivers
+  buffer-room = omega (arith, i .here, known .room)
+
+  module _ (r : Record) (x : ℕ) (p : x ≡ slot r 0) (c : Bool) (before after : List ℕ) (f : Fed m r 1 c before after) (g : c ≡ true) where
+    fine : badSlot m r 0 ≡ false
+    fine = any-none (badSlot m r) 1 .0 (not-true (any (badSlot m r) 1) (sym (f .good) ∙ g)) 0 (omega arith)
+
+    named : x < m .size
+    named = let h = simp reflect at fine in rw p (h .0 .0)
+
+    pub fanin-room : x < length drivers
+    fanin-room = omega (arith, named, known .room)
+
+    buffer-driver : r ≡ m .at k → r .kind ≡ buffer → driver m k ≡ driver m x
+    buffer-driver q e =
+        let l = simp reflect at fine in
+        rw (p, q) (ap (λ (level : ℕ). walk m level k) (rw q at (l .1)) ∙ walk-back m (m .at (slot (m .at k) 0) .level) k (rw q at e))
+
+pub buffer-known :
+    (m : Netlist) (drivers : List ℕ) (n k d x : ℕ) (r : Record) (b c : Bool) (before after : List ℕ) →
+    d ≡ knownDriver n drivers x → x ≡ slot r 0 → r ≡ m .at k → b ≡ noBuffer r → b ≡ false → Fed m r 1 c before after → c ≡ true →
+    Known m drivers → Buffering n m k → Known m (set drivers k d)
+buffer-known m drivers n k d x r b c before after h p q e t f g known i =
+    keep m drivers k d known (i .here) (
+    λ u.
+    known-right n drivers x m d known (i .driven) (named m drivers known n k i r x p c before after f g) h u
+    ∙ sym (buffer-driver m drivers known n k i r x p c before after f g q (buffer-kind r b e t))
+    )
+
 module _ (m : Netlist) (drivers : List ℕ) (level x : ℕ) (w : Walkable m drivers level x) where
+  pub walk-room : x < length drivers
+  walk-room = omega (arith, w .here, w .known .room)
+
   pub walk-found : getD drivers x 0 ≢ unknown → Walked m x (getD drivers x 0) drivers
   walk-found h =
-      record { ends = w .known .right x (omega (arith, w .here, w .fits)) h; known = w .known }
+      record { ends = w .known .right x (w .here) h; known = w .known }
 
   module _ (y : ℕ) (e : y ≡ m .at x .kind) where
     pub walk-stays : y ≢ buffer → Walked m x x drivers
@@ -60,7 +134,6 @@ module _ (m : Netlist) (drivers : List ℕ) (level x : ℕ) (w : Walkable m driv
         pub walk-next : Walkable m drivers (level - 1) z
         walk-next =
             rw f (record {
-              fits = w .fits;
               named = w .named;
               balanced = w .balanced;
               here = buffer-named m (w .named) (w .balanced) x (w .here) is-buffer;
@@ -71,95 +144,128 @@ module _ (m : Netlist) (drivers : List ℕ) (level x : ℕ) (w : Walkable m driv
         pub walk-keeps : (d : ℕ) (after : List ℕ) → Walked m z d after → Walked m x d (set after x d)
         walk-keeps d after v =
             let ends : d ≡ driver m x = v .ends ∙ rw f (sym (driver-back m (w .named) (w .balanced) x (w .here) is-buffer)) in
-            record { ends = ends; known = keep m after x d (v .known) (omega (arith, w .here, w .fits)) ends }
+            record { ends = ends; known = keep m after x d (v .known) (w .here) (λ u. ends) }
+
+-- a record whose driver is known needs no walk
+pub known-found :
+    (m : Netlist) (drivers : List ℕ) (level x : ℕ) → Walkable m drivers level x → (n d : ℕ) → Driven n m →
+    d ≡ knownDriver n drivers x → d ≢ unknown → Walked m x d drivers
+known-found m drivers level x w n d i e h =
+    record { ends = known-right n drivers x m d (w .known) i (w .here) e h; known = w .known }
 
 pub walk-start : (m : Netlist) (drivers : List ℕ) (level below x : ℕ) → level ≡ below → Walkable m drivers below x → Walkable m drivers level x
 walk-start m drivers level below x e w = rw e w
-
-pub walk-strays :
-    (m : Netlist) (x d y : ℕ) (a : Record) (j : ℕ) (after : List ℕ) → Walked m x d after → y ≡ slot a j →
-    Answered m (not (eqb d y)) (not (eqb (driver m x) (slot a j))) after
-walk-strays m x d y a j after w e = record { answer = rw (w .ends, e); known = w .known }
 
 -- no slot below j strays, and what is known is right
 pub record NoneStrayed (m : Netlist) (a r : Record) (n : ℕ) (drivers : List ℕ) (j : ℕ) : Type 0 where
   pub none : NoneYet (strays m a r) n j
   pub known : Known m drivers
 
-module _ (m : Netlist) (before : List ℕ) (a r : Record) (n : ℕ) (w : AllWalkable m before r n) where
+module _ (m : Netlist) (before : List ℕ) (a r : Record) (n : ℕ) (u : n ≡ arity (a .kind)) (w : AllWalkable m before r (arity (a .kind))) where
   pub strayed-start : NoneStrayed m a r n before 0
   strayed-start = record { none = any-start (strays m a r) n; known = w .known }
 
   module _ (drivers : List ℕ) (j : ℕ) (i : NoneStrayed m a r n drivers j) where
-    pub strayed-end : n ≤ j → Answered m false (any (strays m a r) n) drivers
-    strayed-end l = record { answer = any-end (strays m a r) n j (i .none) l; known = i .known }
+    pub strayed-end : n ≤ j → Answered m false (any (strays m a r) (arity (a .kind))) drivers
+    strayed-end l = record { answer = rw (← u) (any-end (strays m a r) n j (i .none) l); known = i .known }
 
     module _ (l : j < n) (x : ℕ) (e : x ≡ slot r j) where
       pub strayed-walkable : Walkable m drivers (m .at x .level) x
       strayed-walkable =
           record {
-            fits = w .fits;
             named = w .named;
             balanced = w .balanced;
-            here = rw e (w .slots j l);
+            here = rw e (w .slots j (rw u at l));
             stands = refl;
             known = i .known;
           }
 
-      module _ (after : List ℕ) (b : Bool) (f : Answered m b (not (eqb (driver m x) (slot a j))) after) where
-        here : b ≡ strays m a r j
-        here = f .answer ∙ rw e
+    module _ (after : List ℕ) (x d y : ℕ) (f : Walked m x d after) (e : x ≡ slot r j) (l : j < n) where
+      here : y ≡ slot a j → strays m a r j ≡ not (eqb d y)
+      here g = rw (← e, ← g, f .ends)
 
-        pub strayed-found : b ≡ true → Answered m true (any (strays m a r) n) after
-        strayed-found t = record { answer = any-found (strays m a r) n j b l here t; known = f .known }
+      pub strayed-found : d ≢ y → y ≡ slot a j → Answered m true (any (strays m a r) (arity (a .kind))) after
+      strayed-found t g =
+          record { answer = rw (← u) (any-found (strays m a r) n j true l (sym (here g ∙ rw (ne-eqb d y t))) refl); known = f .known }
 
-        pub strayed-more : b ≡ false → NoneStrayed m a r n after (j + 1)
-        strayed-more t = record { none = any-more (strays m a r) n j b (i .none) l here t; known = f .known }
+      pub strayed-more : d ≡ y → y ≡ slot a j → NoneStrayed m a r n after (j + 1)
+      strayed-more t g =
+          record { none = any-more (strays m a r) n j false (i .none) l (sym (here g ∙ rw (eq-eqb d y t))) refl; known = f .known }
 
 -- the answer from k on is the answer, and what is known is right
-pub record Tracing (n m : Netlist) (records : ℕ) (drivers : List ℕ) (k : ℕ) : Type 0 where
-  pub scanning : Scanning (traceCheck n m) records k
+pub record Tracing (n m : Netlist) (drivers : List ℕ) (k : ℕ) : Type 0 where
+  pub scanning : Scanning (traceCheck n m) (n .size) k
   pub known : Known m drivers
 
-module _ (source mapped : List ℕ) (records : ℕ) where
-  pub tracing-start : Tracing (netlist source) (netlist mapped) records (replicate mappedLimit unknown) 0
-  tracing-start =
-      record {
-        scanning = scan-start (traceCheck (netlist source) (netlist mapped)) records;
-        known =
-            record {
-              sized = length-replicate {A = ℕ} mappedLimit unknown;
-              right = λ x l h. absurd (h (getD-replicate mappedLimit x unknown 0 l));
-            };
-      }
+module _ (source mapped : List ℕ) (drivers : List ℕ) where
+  pub tracing-start : Known (netlist mapped) drivers → Tracing (netlist source) (netlist mapped) drivers 0
+  tracing-start known = record { scanning = scan-start (traceCheck (netlist source) (netlist mapped)) (recordCount source); known = known }
 
-  module _ (drivers : List ℕ) (k : ℕ) (i : Tracing (netlist source) (netlist mapped) records drivers k) where
-    pub tracing-end : records ≤ k → Passed ≡ scan (traceCheck (netlist source) (netlist mapped)) 0 records
-    tracing-end l = scan-end (traceCheck (netlist source) (netlist mapped)) records k (i .scanning) l
+  module _ (k n : ℕ) (e : n ≡ recordCount source) (i : Tracing (netlist source) (netlist mapped) drivers k) where
+    pub tracing-end : n ≤ k → Passed ≡ scan (traceCheck (netlist source) (netlist mapped)) 0 (recordCount source)
+    tracing-end l = scan-end (traceCheck (netlist source) (netlist mapped)) (recordCount source) k (i .scanning) (rw e at l)
 
-    module _ (l : k < records) (a r : Record) (p : a ≡ recordAt source k) (q : r ≡ recordAt mapped k) (used : ℕ) (u : used ≡ arity (a .kind)) where
-      pub tracing-walkable :
-          records ≡ recordCount source → recordCount mapped ≤ mappedLimit → Placed (netlist source) (netlist mapped) →
-          AllWalkable (netlist mapped) drivers r used
-      tracing-walkable e fits w =
+    module _ (l : k < n) (a r : Record) (p : a ≡ recordAt source k) (q : r ≡ recordAt mapped k) where
+      pub tracing-walkable : Placed (netlist source) (netlist mapped) → AllWalkable (netlist mapped) drivers r (arity (a .kind))
+      tracing-walkable w =
           record {
-            fits = fits;
             named = w .named;
             balanced = w .balanced;
-            slots = λ j h. rw q (w .named k j (omega (arith, w .whole)) (rw (w .kinds k (rw e at l), ← p, ← u) h));
+            slots = λ j h. rw q (w .named k j (omega (arith, w .whole)) (rw (w .kinds k (rw e at l), ← p) h));
             known = i .known;
           }
 
-      module _ (after : List ℕ) (b : Bool) (f : Answered (netlist mapped) b (any (strays (netlist mapped) a r) used) after) where
-        each : traceCheck (netlist source) (netlist mapped) k ≡ check 16 k b
-        each = rw (f .answer, u, p, q)
+      module _ (after : List ℕ) (b : Bool) (f : Answered (netlist mapped) b (any (strays (netlist mapped) a r) (arity (a .kind))) after) where
+        each : check 16 k b ≡ traceCheck (netlist source) (netlist mapped) k
+        each = rw (f .answer, p, q)
 
-        pub tracing-more : b ≡ false → Tracing (netlist source) (netlist mapped) records after (k + 1)
+        pub tracing-more : b ≡ false → Tracing (netlist source) (netlist mapped) after (k + 1)
         tracing-more t =
             record {
-              scanning = scan-more (traceCheck (netlist source) (netlist mapped)) records k Passed (i .scanning) l (sym (each ∙ rw t)) refl;
+              scanning = scan-more (traceCheck (netlist source) (netlist mapped)) (recordCount source) k (check 16 k b) (i .scanning) (rw e at l) each (rw t);
               known = f .known;
             }
 
-        pub tracing-stop : b ≡ true → Refused 16 k ≡ scan (traceCheck (netlist source) (netlist mapped)) 0 records
-        tracing-stop t = scan-stop (traceCheck (netlist source) (netlist mapped)) records k 16 k (Refused 16 k) (i .scanning) l (sym (each ∙ rw t)) refl
+        pub tracing-stop : b ≡ true → Refused 16 k ≡ scan (traceCheck (netlist source) (netlist mapped)) 0 (recordCount source)
+        tracing-stop t = scan-stop (traceCheck (netlist source) (netlist mapped)) (recordCount source) k 16 k (check 16 k b) (i .scanning) (rw e at l) each (rw t)
+
+-- the pass over the buffers: the answer from k on is the answer, the first k records are counted, and what is known is right
+pub record Noting (n m : Netlist) (records : ℕ) (counts drivers : List ℕ) (k : ℕ) : Type 0 where
+  pub from : records ≤ k
+  pub counting : Counting n m (m .size) counts k
+  pub known : Known m drivers
+
+module _ (n m : Netlist) (records size : ℕ) (sized : Sized n m records size) (counts drivers : List ℕ) where
+  pub noting-start :
+      scan (placeChecks n m) 0 (n .size) ≡ Passed → Tallied m (n .size) counts → Known m drivers → Noting n m records counts drivers records
+  noting-start h t known =
+      record {
+        from = omega arith;
+        counting =
+            rw (sized .records)
+            (counting-onward n m (m .size) counts (n .size) (omega (arith, sized .records, sized .size, sized .whole)) h t);
+        known = known;
+      }
+
+  module _ (k : ℕ) (i : Noting n m records counts drivers k) where
+    pub noting-end : size ≤ k → Counted Passed (scan (placeChecks n m) 0 (m .size)) m (m .size) counts
+    noting-end l = counting-end n m (m .size) counts k (i .counting) size (sized .size) l
+
+    module _ (l : k < size) where
+      pub noting-buffering : scan (placeChecks n m) 0 (n .size) ≡ Passed → Buffering records m k
+      noting-buffering h = record { from = i .from; here = omega (arith, sized .size); driven = driven n m records size sized h }
+
+      module _ (a : Checked) (after : List ℕ) (c : Counted a (bufferChecks m k) m (k + 1) after) where
+        place : Counted a (placeChecks n m k) m (k + 1) after
+        place = rw (place-buffer n m k (omega (arith, sized .records, i .from))) c
+
+        pub noting-stop : (number place : ℕ) → a ≡ Refused number place → Counted (Refused number place) (scan (placeChecks n m) 0 (m .size)) m (m .size) after
+        noting-stop number at p = counting-stop n m (m .size) counts k (i .counting) size (sized .size) l a after place number at p
+
+        pub noting-more : (later : List ℕ) → Known m later → a ≡ Passed → Noting n m records after later (k + 1)
+        noting-more later known p =
+            record {
+              from = omega (arith, i .from);
+              counting = counting-more n m (m .size) counts k (i .counting) size (sized .size) l a after place p;
+              known = known;
+            }

@@ -1,29 +1,38 @@
 // Document 01's judge: whether a mapped netlist is legal for a source and a capacity (checks 11 to 17).
 ghost use mathlib.Core.Path.{_≡_};
-ghost use mathlib.Core.Bool.{not};
-ghost use Prim.Native.Nat.{_≤_};
-ghost use lib.Dec.{eqb};
-ghost use lib.ListN.{length, replicate};
-ghost use Rattle.facts.specs.Checks.{scan};
+ghost use mathlib.Core.Bool.{true, false};
+ghost use Prim.Native.Nat.{_+_, _<_, _≤_};
+ghost use lib.ListN.{length};
+ghost use Rattle.facts.specs.Checks.{_andThen_, scan};
 ghost use Rattle.facts.specs.Sums.{any};
 ghost use Rattle.netlist.specs.Kinds;
-ghost use Rattle.netlist.specs.Kinds.{slots, mappedLimit};
+ghost use Rattle.netlist.specs.Kinds.{slots};
 ghost use Rattle.netlist.specs.Records;
 ghost use Rattle.netlist.specs.Records.{netlist, recordAt, recordCount};
+ghost use Rattle.netlist.specs.Source.{IsSource};
 ghost use Rattle.netlist.specs.Checks.{inputChecks};
-ghost use Rattle.verifier.specs.Legal.{capacityOf};
-ghost use Rattle.verifier.specs.Trace.{driver};
-ghost use Rattle.verifier.specs.Walking.{Placed, Walkable, Walked, AllWalkable, Answered};
-ghost use Rattle.verifier.specs.Feeding.{fedOnce, fedBy, tally, Countable};
+ghost use Rattle.verifier.specs.Walking.{
+  Sized,
+  Placed,
+  Driven,
+  Buffering,
+  Known,
+  knownDriver,
+  Walkable,
+  Walked,
+  AllWalkable,
+  Answered,
+};
+ghost use Rattle.verifier.specs.Feeding.{stop, capacityAt, countCheck, badSlot, bufferChecks, fedOnce, Fed, Tallied, Counted};
 ghost use Rattle.verifier.specs.Checks;
 ghost use Rattle.verifier.specs.Checks.{
   badEmpty,
   noBuffer,
   badName,
   notOneLower,
-  keepChecks,
   slotChecks,
   placeChecks,
+  strays,
   traceCheck,
   feedCheck,
   badLength,
@@ -46,6 +55,9 @@ const UNKNOWN: u16 = 65535;
 // Entries of the local arrays: one for each record of a mapped netlist.
 const RECORDS: usize = netlist::MAPPED_LIMIT;
 
+// Up to how many records short arrays serve.
+const SMALL: usize = 8192;
+
 // Where a count of check 17 stops: one above the largest capacity.
 const STOP: u8 = 5;
 
@@ -55,13 +67,24 @@ pub enum Verified {
     Refused(u32, u32),
 }
 
-// Checks 12 and 13: a slot that the kind does not use holds something else in r than in a.
-fn bad_empty(kind: u8, a: Record, r: Record) -> bool
-    ensures { λ b. ⌜ b ≡ any (badEmpty kind a r) slots ⌝ }
+// Checks 12 and 13 of one slot: one that the kind does not use names something.
+fn bad_empty(kind: u8, r: Record, j: usize) -> bool
+    ensures { λ b. ⌜ b ≡ badEmpty kind Records.blank r j ⌝ }
 {
-    let mut j = arity(kind);
+    if arity(kind) <= j {
+        slot(r, j) != netlist::UNUSED
+    } else {
+        false
+    }
+}
+
+// Checks 12 and 13 of the slots that the kind does not use.
+fn any_bad_empty(kind: u8, r: Record) -> bool
+    ensures { λ b. ⌜ b ≡ any (badEmpty kind Records.blank r) slots ⌝ }
+{
+    let mut j: usize = 0;
     while j < netlist::SLOTS {
-        if slot(r, j) != slot(a, j) {
+        if bad_empty(kind, r, j) {
             return true;
         }
         j += 1;
@@ -69,8 +92,9 @@ fn bad_empty(kind: u8, a: Record, r: Record) -> bool
     false
 }
 
-// Check 12: r differs from the source record a outside a's used slots.
+// Check 12: r differs outside the used slots from a source record a, whose unused slots name nothing.
 fn differs(a: Record, r: Record) -> bool
+    requires { ⌜ any (badEmpty (a .kind) Records.blank a) slots ≡ false ⌝ }
     ensures { λ b. ⌜ b ≡ Checks.differs a r ⌝ }
 {
     if r.kind != a.kind {
@@ -82,7 +106,7 @@ fn differs(a: Record, r: Record) -> bool
     if r.level != a.level {
         return true;
     }
-    bad_empty(a.kind, a, r)
+    any_bad_empty(a.kind, r)
 }
 
 // Check 13: r is no buffer's record.
@@ -98,23 +122,7 @@ fn no_buffer(r: Record) -> bool
     if netlist::TOP_LEVEL < r.level {
         return true;
     }
-    bad_empty(netlist::BUFFER, netlist::blank(), r)
-}
-
-// Check 12 of a record below the source's size, 13 of one from there on.
-fn check_kept(source: &[u8], k: u32, r: Record) -> Checked
-    ensures { λ a. ⌜ a ≡ keepChecks (netlist (now (source .entry))) k r ⌝ }
-{
-    if (k as usize) < record_count(source) {
-        if differs(record_at(source, k as usize), r) {
-            return Checked::Refused(12, k);
-        }
-        return Checked::Passed;
-    }
-    if no_buffer(r) {
-        return Checked::Refused(13, k);
-    }
-    Checked::Passed
+    any_bad_empty(netlist::BUFFER, r)
 }
 
 // Check 14 of one used slot: it names no record or an output.
@@ -150,53 +158,157 @@ fn not_one_lower(mapped: &[u8], r: Record, j: usize) -> bool
     r.level as u32 != below as u32 + 1
 }
 
-// Check 15 of the first n slots.
-fn any_not_one_lower(mapped: &[u8], r: Record, n: usize) -> bool
-    ensures { λ b. ⌜ b ≡ any (notOneLower (netlist (now (mapped .entry))) r) n ⌝ }
+// Checks 14 and 15 of one used slot.
+fn bad_slot(mapped: &[u8], r: Record, j: usize) -> bool
+    ensures { λ b. ⌜ b ≡ badSlot (netlist (now (mapped .entry))) r j ⌝ }
+{
+    if bad_name(mapped, r, j) {
+        return true;
+    }
+    not_one_lower(mapped, r, j)
+}
+
+// One more slot that x feeds, up to the stop.
+fn feed(counts: &mut [u8], x: usize)
+    requires { ⌜ x < length (now counts) ⌝ }
+    ensures { λ _. ⌜ now (counts .exit) ≡ fedOnce (now (counts .entry)) x ⌝ }
+{
+    let count = counts[x];
+    if count < STOP {
+        counts[x] = count + 1;
+    }
+}
+
+// Whether the first n slots pass 14 and 15; each that does is counted.
+fn feed_slots(mapped: &[u8], r: Record, n: usize, counts: &mut [u8]) -> bool
+    requires { ⌜ recordCount (now mapped) ≤ length (now counts) ⌝ }
+    ensures { λ b. ⌜ Fed (netlist (now (mapped .entry))) r n b (now (counts .entry)) (now (counts .exit)) ⌝ }
 {
     let mut j: usize = 0;
     while j < n {
-        if not_one_lower(mapped, r, j) {
-            return true;
+        if bad_slot(mapped, r, j) {
+            return false;
         }
+        feed(counts, slot(r, j) as usize);
         j += 1;
     }
-    false
+    true
 }
 
-// Checks 14 and 15 of record k.
-fn check_slots(mapped: &[u8], k: u32, r: Record) -> Checked
+// The same of all used slots, by a path for each number of them.
+fn feed_used(mapped: &[u8], r: Record, counts: &mut [u8]) -> bool
+    requires { ⌜ recordCount (now mapped) ≤ length (now counts) ⌝ }
+    ensures { λ b. ⌜ Fed (netlist (now (mapped .entry))) r (Kinds.arity (r .kind)) b (now (counts .entry)) (now (counts .exit)) ⌝ }
+{
+    let used = arity(r.kind);
+    match used {
+        0 => true,
+        1 => feed_slots(mapped, r, 1, counts),
+        2 => feed_slots(mapped, r, 2, counts),
+        _ => feed_slots(mapped, r, netlist::SLOTS, counts),
+    }
+}
+
+// The refusal of record k, of which some used slot does not pass: 14 comes first.
+fn blame(mapped: &[u8], k: u32, r: Record) -> Checked
+    requires { ⌜ any (badSlot (netlist (now mapped)) r) (Kinds.arity (r .kind)) ≡ true ⌝ }
     ensures { λ a. ⌜ a ≡ slotChecks (netlist (now (mapped .entry))) k r ⌝ }
 {
-    let n = arity(r.kind);
-    if any_bad_name(mapped, r, n) {
+    if any_bad_name(mapped, r, arity(r.kind)) {
         return Checked::Refused(14, k);
     }
-    if any_not_one_lower(mapped, r, n) {
-        return Checked::Refused(15, k);
+    Checked::Refused(15, k)
+}
+
+// Checks 12, 14 and 15 of record k below the source's size; its used slots are counted.
+fn check_record(source: &[u8], mapped: &[u8], k: u32, counts: &mut [u8]) -> Checked
+    requires { ⌜ IsSource (netlist (now source)) ⌝ }
+    requires { ⌜ k < recordCount (now source) ⌝ }
+    requires { ⌜ Tallied (netlist (now mapped)) k (now counts) ⌝ }
+    ensures { λ a. ⌜ Counted a (placeChecks (netlist (now (source .entry))) (netlist (now (mapped .entry))) k) (netlist (now (mapped .entry))) (k + 1) (now (counts .exit)) ⌝ }
+{
+    let r = record_at(mapped, k as usize);
+    if differs(record_at(source, k as usize), r) {
+        return Checked::Refused(12, k);
+    }
+    if feed_used(mapped, r, counts) {
+        return Checked::Passed;
+    }
+    blame(mapped, k, r)
+}
+
+// Checks 12, 14 and 15 of every record below the source's size, rising.
+fn check_records(source: &[u8], mapped: &[u8], n: u32, counts: &mut [u8]) -> Checked
+    requires { ⌜ n ≡ recordCount (now source) ⌝ }
+    requires { ⌜ IsSource (netlist (now source)) ⌝ }
+    requires { ⌜ Tallied (netlist (now mapped)) 0 (now counts) ⌝ }
+    ensures { λ a. ⌜ Counted a (scan (placeChecks (netlist (now (source .entry))) (netlist (now (mapped .entry)))) 0 (recordCount (now (source .entry)))) (netlist (now (mapped .entry))) (recordCount (now (source .entry))) (now (counts .exit)) ⌝ }
+{
+    let mut k: u32 = 0;
+    while k < n {
+        let checked = check_record(source, mapped, k, counts);
+        match checked {
+            Checked::Passed => {}
+            Checked::Refused(number, place) => {
+                return Checked::Refused(number, place);
+            }
+        }
+        k += 1;
     }
     Checked::Passed
 }
 
-// Checks 12 to 15 of record k.
-fn check_place(source: &[u8], mapped: &[u8], k: u32) -> Checked
-    ensures { λ a. ⌜ a ≡ placeChecks (netlist (now (source .entry))) (netlist (now (mapped .entry))) k ⌝ }
+// What is known of record x's driver, where none of the first n records is a buffer.
+fn known(n: u32, drivers: &[u16], x: u16) -> u16
+    requires { ⌜ x < length (now drivers) ⌝ }
+    ensures { λ d. ⌜ d ≡ knownDriver n (now (drivers .entry)) x ⌝ }
 {
-    let r = record_at(mapped, k as usize);
-    let kept = check_kept(source, k, r);
-    match kept {
-        Checked::Passed => check_slots(mapped, k, r),
-        Checked::Refused(number, place) => Checked::Refused(number, place),
+    if (x as u32) < n {
+        x
+    } else {
+        drivers[x as usize]
     }
 }
 
-// Checks 12 to 15 of every record, rising.
-fn check_places(source: &[u8], mapped: &[u8], m: u32) -> Checked
-    ensures { λ a. ⌜ a ≡ scan (placeChecks (netlist (now (source .entry))) (netlist (now (mapped .entry)))) 0 m ⌝ }
+// Checks 13 to 15 of record k from the source's size on; its slot is counted, and its driver kept if its fanin's is known.
+fn check_buffer(mapped: &[u8], n: u32, k: u32, counts: &mut [u8], drivers: &mut [u16]) -> Checked
+    requires { ⌜ Buffering n (netlist (now mapped)) k ⌝ }
+    requires { ⌜ Tallied (netlist (now mapped)) k (now counts) ⌝ }
+    requires { ⌜ Known (netlist (now mapped)) (now drivers) ⌝ }
+    ensures { λ a. ⌜ Counted a (bufferChecks (netlist (now (mapped .entry))) k) (netlist (now (mapped .entry))) (k + 1) (now (counts .exit)) ⌝ }
+    ensures { λ _. ⌜ Known (netlist (now (mapped .entry))) (now (drivers .exit)) ⌝ }
 {
-    let mut k: u32 = 0;
+    let r = record_at(mapped, k as usize);
+    if no_buffer(r) {
+        return Checked::Refused(13, k);
+    }
+    if feed_slots(mapped, r, 1, counts) {
+        let d = known(n, drivers, slot(r, 0));
+        drivers[k as usize] = d;
+        return Checked::Passed;
+    }
+    blame(mapped, k, r)
+}
+
+// Checks 13 to 15 of every record from the source's size on, rising, once those below passed.
+fn check_buffers(
+    source: &[u8],
+    mapped: &[u8],
+    n: u32,
+    m: u32,
+    counts: &mut [u8],
+    drivers: &mut [u16],
+) -> Checked
+    requires { ⌜ Sized (netlist (now source)) (netlist (now mapped)) n m ⌝ }
+    requires { ⌜ scan (placeChecks (netlist (now source)) (netlist (now mapped))) 0 (recordCount (now source)) ≡ Checked.Passed ⌝ }
+    requires { ⌜ Tallied (netlist (now mapped)) (recordCount (now source)) (now counts) ⌝ }
+    requires { ⌜ Known (netlist (now mapped)) (now drivers) ⌝ }
+    ensures { λ a. ⌜ Counted a (scan (placeChecks (netlist (now (source .entry))) (netlist (now (mapped .entry)))) 0 (recordCount (now (mapped .entry)))) (netlist (now (mapped .entry))) (recordCount (now (mapped .entry))) (now (counts .exit)) ⌝ }
+    ensures { λ _. ⌜ Known (netlist (now (mapped .entry))) (now (drivers .exit)) ⌝ }
+{
+    let mut k = n;
     while k < m {
-        let checked = check_place(source, mapped, k);
+        let checked = check_buffer(mapped, n, k, counts, drivers);
         match checked {
             Checked::Passed => {}
             Checked::Refused(number, place) => {
@@ -209,7 +321,7 @@ fn check_places(source: &[u8], mapped: &[u8], m: u32) -> Checked
 }
 
 // The driver of record x, back through buffers: the level falls at each call. What a walk finds is kept for the next.
-fn walk(mapped: &[u8], drivers: &mut [u16; RECORDS], level: u16, x: u16) -> u16
+fn walk(mapped: &[u8], drivers: &mut [u16], level: u16, x: u16) -> u16
     requires { ⌜ Walkable (netlist (now mapped)) (now drivers) level x ⌝ }
     ensures { λ d. ⌜ Walked (netlist (now (mapped .entry))) x d (now (drivers .exit)) ⌝ }
 {
@@ -230,22 +342,29 @@ fn walk(mapped: &[u8], drivers: &mut [u16; RECORDS], level: u16, x: u16) -> u16
     d
 }
 
-// Check 16 of one used slot of a source record a that stands mapped as r: traced to another driver.
-fn strays(mapped: &[u8], drivers: &mut [u16; RECORDS], a: Record, x: u16, j: usize) -> bool
+// The driver of record x: known, or found by a walk.
+fn driver_of(mapped: &[u8], n: u32, drivers: &mut [u16], x: u16) -> u16
     requires { ⌜ Walkable (netlist (now mapped)) (now drivers) (recordAt (now mapped) x .level) x ⌝ }
-    ensures { λ b. ⌜ Answered (netlist (now (mapped .entry))) b (not (eqb (driver (netlist (now (mapped .entry))) x) (Records.slot a j))) (now (drivers .exit)) ⌝ }
+    requires { ⌜ Driven n (netlist (now mapped)) ⌝ }
+    ensures { λ d. ⌜ Walked (netlist (now (mapped .entry))) x d (now (drivers .exit)) ⌝ }
 {
-    walk(mapped, drivers, netlist::level_at(mapped, x as usize), x) != slot(a, j)
+    let d = known(n, drivers, x);
+    if d != UNKNOWN {
+        return d;
+    }
+    walk(mapped, drivers, netlist::level_at(mapped, x as usize), x)
 }
 
-// Check 16 of the first n slots.
-fn any_strays(mapped: &[u8], drivers: &mut [u16; RECORDS], a: Record, r: Record, n: usize) -> bool
-    requires { ⌜ AllWalkable (netlist (now mapped)) (now drivers) r n ⌝ }
-    ensures { λ b. ⌜ Answered (netlist (now (mapped .entry))) b (any (Checks.strays (netlist (now (mapped .entry))) a r) n) (now (drivers .exit)) ⌝ }
+// Check 16 of the used slots of a source record a that stands mapped as r: one is traced to another driver.
+fn any_strays(mapped: &[u8], n: u32, drivers: &mut [u16], a: Record, r: Record) -> bool
+    requires { ⌜ AllWalkable (netlist (now mapped)) (now drivers) r (Kinds.arity (a .kind)) ⌝ }
+    requires { ⌜ Driven n (netlist (now mapped)) ⌝ }
+    ensures { λ b. ⌜ Answered (netlist (now (mapped .entry))) b (any (strays (netlist (now (mapped .entry))) a r) (Kinds.arity (a .kind))) (now (drivers .exit)) ⌝ }
 {
+    let used = arity(a.kind);
     let mut j: usize = 0;
-    while j < n {
-        if strays(mapped, drivers, a, slot(r, j), j) {
+    while j < used {
+        if driver_of(mapped, n, drivers, slot(r, j)) != slot(a, j) {
             return true;
         }
         j += 1;
@@ -254,22 +373,21 @@ fn any_strays(mapped: &[u8], drivers: &mut [u16; RECORDS], a: Record, r: Record,
 }
 
 // Check 16 of every source record, rising.
-fn check_traces(source: &[u8], mapped: &[u8], n: u32) -> Checked
-    requires { ⌜ Placed (netlist (now source)) (netlist (now mapped)) ⌝ }
-    requires { ⌜ recordCount (now mapped) ≤ mappedLimit ⌝ }
+fn check_traces(source: &[u8], mapped: &[u8], n: u32, drivers: &mut [u16]) -> Checked
     requires { ⌜ n ≡ recordCount (now source) ⌝ }
-    ensures { λ a. ⌜ a ≡ scan (traceCheck (netlist (now (source .entry))) (netlist (now (mapped .entry)))) 0 n ⌝ }
+    requires { ⌜ Driven n (netlist (now mapped)) ⌝ }
+    requires { ⌜ Placed (netlist (now source)) (netlist (now mapped)) ⌝ }
+    requires { ⌜ Known (netlist (now mapped)) (now drivers) ⌝ }
+    ensures { λ a. ⌜ a ≡ scan (traceCheck (netlist (now (source .entry))) (netlist (now (mapped .entry)))) 0 (recordCount (now (source .entry))) ⌝ }
 {
-    let mut drivers = [UNKNOWN; RECORDS];
     let mut k: u32 = 0;
     while k < n {
-        let a = record_at(source, k as usize);
         if any_strays(
             mapped,
-            &mut drivers,
-            a,
+            n,
+            drivers,
+            record_at(source, k as usize),
             record_at(mapped, k as usize),
-            arity(a.kind),
         ) {
             return Checked::Refused(16, k);
         }
@@ -278,65 +396,22 @@ fn check_traces(source: &[u8], mapped: &[u8], n: u32) -> Checked
     Checked::Passed
 }
 
-// One more slot that x feeds, up to the stop.
-fn feed(counts: &mut [u8; RECORDS], x: usize)
-    requires { ⌜ length (now counts) ≡ mappedLimit ⌝ }
-    ensures { λ _. ⌜ now (counts .exit) ≡ fedOnce (now (counts .entry)) x ⌝ }
+// The most slots that record k may feed, of a netlist whose buffers start at n.
+fn capacity_at(capacity: u32, n: u32, k: u32) -> u32
+    ensures { λ c. ⌜ c ≡ capacityAt capacity n k ⌝ }
 {
-    if x < netlist::MAPPED_LIMIT {
-        let count = counts[x];
-        if count < STOP {
-            counts[x] = count + 1;
-        }
-    }
+    if k < n { DRIVER_CAPACITY } else { capacity }
 }
 
-// Every used slot of a record is counted.
-fn feed_slots(counts: &mut [u8; RECORDS], r: Record)
-    requires { ⌜ length (now counts) ≡ mappedLimit ⌝ }
-    ensures { λ _. ⌜ now (counts .exit) ≡ fedBy (now (counts .entry)) r (Kinds.arity (r .kind)) ⌝ }
-{
-    let n = arity(r.kind);
-    let mut j: usize = 0;
-    while j < n {
-        feed(counts, slot(r, j) as usize);
-        j += 1;
-    }
-}
-
-// The used slots of the first m records are counted.
-fn feed_records(counts: &mut [u8; RECORDS], mapped: &[u8], m: u32)
-    requires { ⌜ now counts ≡ replicate mappedLimit 0 ⌝ }
-    ensures { λ _. ⌜ now (counts .exit) ≡ tally (netlist (now (mapped .entry))) m ⌝ }
-{
-    let mut k: u32 = 0;
-    while k < m {
-        feed_slots(counts, record_at(mapped, k as usize));
-        k += 1;
-    }
-}
-
-// The most slots that a record of a kind may feed.
-fn capacity_of(capacity: u32, kind: u8) -> u32
-    ensures { λ c. ⌜ c ≡ capacityOf capacity kind ⌝ }
-{
-    if kind == netlist::BUFFER {
-        capacity
-    } else {
-        DRIVER_CAPACITY
-    }
-}
-
-// Check 17 of every record, rising, by the counts of all its used slots.
-fn check_counts(counts: &[u8; RECORDS], mapped: &[u8], capacity: u32, m: u32) -> Checked
-    requires { ⌜ Countable (netlist (now mapped)) capacity m ⌝ }
-    requires { ⌜ now counts ≡ tally (netlist (now mapped)) m ⌝ }
-    ensures { λ a. ⌜ a ≡ scan (feedCheck capacity (netlist (now (mapped .entry)))) 0 m ⌝ }
+// Check 17 of the first m records, rising, by the counts.
+fn check_counts(counts: &[u8], capacity: u32, n: u32, m: u32) -> Checked
+    requires { ⌜ m ≤ length (now counts) ⌝ }
+    ensures { λ a. ⌜ a ≡ scan (countCheck capacity n (now (counts .entry))) 0 m ⌝ }
 {
     let mut k: u32 = 0;
     while k < m {
         let fed = facts::wide(counts[k as usize]);
-        if capacity_of(capacity, netlist::kind_at(mapped, k as usize)) < fed as u32 {
+        if capacity_at(capacity, n, k) < fed as u32 {
             return Checked::Refused(17, k);
         }
         k += 1;
@@ -344,14 +419,73 @@ fn check_counts(counts: &[u8; RECORDS], mapped: &[u8], capacity: u32, m: u32) ->
     Checked::Passed
 }
 
-// Check 17: the slots that each record feeds are counted in one pass, then compared.
-fn check_feeds(mapped: &[u8], capacity: u32, m: u32) -> Checked
-    requires { ⌜ Countable (netlist (now mapped)) capacity m ⌝ }
-    ensures { λ a. ⌜ a ≡ scan (feedCheck capacity (netlist (now (mapped .entry)))) 0 m ⌝ }
+// Checks 12 to 15 of every record, rising.
+fn check_places(
+    source: &[u8],
+    mapped: &[u8],
+    n: u32,
+    m: u32,
+    counts: &mut [u8],
+    drivers: &mut [u16],
+) -> Checked
+    requires { ⌜ Sized (netlist (now source)) (netlist (now mapped)) n m ⌝ }
+    requires { ⌜ Tallied (netlist (now mapped)) 0 (now counts) ⌝ }
+    requires { ⌜ Known (netlist (now mapped)) (now drivers) ⌝ }
+    ensures { λ a. ⌜ Counted a (scan (placeChecks (netlist (now (source .entry))) (netlist (now (mapped .entry)))) 0 (recordCount (now (mapped .entry)))) (netlist (now (mapped .entry))) (recordCount (now (mapped .entry))) (now (counts .exit)) ⌝ }
+    ensures { λ _. ⌜ Known (netlist (now (mapped .entry))) (now (drivers .exit)) ⌝ }
 {
-    let mut counts = [0u8; RECORDS];
-    feed_records(&mut counts, mapped, m);
-    check_counts(&counts, mapped, capacity, m)
+    let kept = check_records(source, mapped, n, counts);
+    match kept {
+        Checked::Passed => check_buffers(source, mapped, n, m, counts, drivers),
+        Checked::Refused(number, place) => Checked::Refused(number, place),
+    }
+}
+
+// Checks 16 and 17, of a mapped netlist that passed 12 to 15.
+fn check_placed(
+    source: &[u8],
+    capacity: u32,
+    mapped: &[u8],
+    n: u32,
+    m: u32,
+    counts: &[u8],
+    drivers: &mut [u16],
+) -> Checked
+    requires { ⌜ Sized (netlist (now source)) (netlist (now mapped)) n m ⌝ }
+    requires { ⌜ Placed (netlist (now source)) (netlist (now mapped)) ⌝ }
+    requires { ⌜ capacity < stop ⌝ }
+    requires { ⌜ Tallied (netlist (now mapped)) (recordCount (now mapped)) (now counts) ⌝ }
+    requires { ⌜ Known (netlist (now mapped)) (now drivers) ⌝ }
+    ensures { λ a. ⌜ a ≡ (scan (traceCheck (netlist (now (source .entry))) (netlist (now (mapped .entry)))) 0 (recordCount (now (source .entry))) andThen scan (feedCheck capacity (netlist (now (mapped .entry)))) 0 (recordCount (now (mapped .entry)))) ⌝ }
+{
+    let traces = check_traces(source, mapped, n, drivers);
+    match traces {
+        Checked::Passed => check_counts(counts, capacity, n, m),
+        Checked::Refused(number, place) => Checked::Refused(number, place),
+    }
+}
+
+// Checks 12 to 17, with counts that are all 0 and drivers of which none is known.
+fn check_with(
+    source: &[u8],
+    capacity: u32,
+    mapped: &[u8],
+    n: u32,
+    m: u32,
+    counts: &mut [u8],
+    drivers: &mut [u16],
+) -> Checked
+    requires { ⌜ Sized (netlist (now source)) (netlist (now mapped)) n m ⌝ }
+    requires { ⌜ capacity < stop ⌝ }
+    requires { ⌜ Tallied (netlist (now mapped)) 0 (now counts) ⌝ }
+    requires { ⌜ Known (netlist (now mapped)) (now drivers) ⌝ }
+    ensures { λ a. ⌜ a ≡ legalChecks (netlist (now (source .entry))) capacity (netlist (now (mapped .entry))) ⌝ }
+{
+    let places = check_places(source, mapped, n, m, counts, drivers);
+    match places {
+        Checked::Passed => check_placed(source, capacity, mapped, n, m, counts, drivers),
+        Checked::Refused(number, place) => Checked::Refused(number, place),
+    }
 }
 
 // Check 11: no whole records, fewer than the source's, or too many.
@@ -368,25 +502,20 @@ fn bad_length(records: usize, bytes: &[u8]) -> bool
     netlist::MAPPED_LIMIT < m
 }
 
-// Checks 12 to 17.
+// Checks 12 to 17. A netlist of few records takes short arrays, which are sooner cleared.
 fn check_legal(source: &[u8], capacity: u32, mapped: &[u8], n: u32, m: u32) -> Checked
-    requires { ⌜ n ≡ recordCount (now source) ⌝ }
-    requires { ⌜ n ≤ m ⌝ }
-    requires { ⌜ Countable (netlist (now mapped)) capacity m ⌝ }
+    requires { ⌜ Sized (netlist (now source)) (netlist (now mapped)) n m ⌝ }
+    requires { ⌜ capacity < stop ⌝ }
     ensures { λ a. ⌜ a ≡ legalChecks (netlist (now (source .entry))) capacity (netlist (now (mapped .entry))) ⌝ }
 {
-    let places = check_places(source, mapped, m);
-    match places {
-        Checked::Passed => {}
-        Checked::Refused(number, place) => {
-            return Checked::Refused(number, place);
-        }
+    if m as usize <= SMALL {
+        let mut counts = [0u8; SMALL];
+        let mut drivers = [UNKNOWN; SMALL];
+        return check_with(source, capacity, mapped, n, m, &mut counts, &mut drivers);
     }
-    let traces = check_traces(source, mapped, n);
-    match traces {
-        Checked::Passed => check_feeds(mapped, capacity, m),
-        Checked::Refused(number, place) => Checked::Refused(number, place),
-    }
+    let mut counts = [0u8; RECORDS];
+    let mut drivers = [UNKNOWN; RECORDS];
+    check_with(source, capacity, mapped, n, m, &mut counts, &mut drivers)
 }
 
 // Checks 11 to 17, of a source and a capacity that passed 1 to 7.

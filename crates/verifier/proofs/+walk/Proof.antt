@@ -1,6 +1,6 @@
 -- The proof of the cycle of calls {walk}. The measure is the level, which falls at each call.
 use borrow.Author.Needs.{needs}
-use Rattle.verifier.proofs.Walking.{walk-found, walk-stays, walk-level, walk-falls, walk-next, walk-keeps}
+use Rattle.verifier.proofs.Walking.{walk-room, walk-found, walk-stays, walk-level, walk-falls, walk-next, walk-keeps}
 use Prim.Native.Nat.{ℕ, _<_}
 use borrow.Fn.Kinds.{In}
 use borrow.Fn.PlainCycle.{Measures, is, falls, and}
@@ -51,7 +51,7 @@ walk-mul-found : (t : ℕ) → walk-lts.Need-mul-found (
 ) (walk-at t) walk.Post
 walk-mul-found t c = search needs
 
-walk-element-copy-out-found : (t : ℕ) → walk-lts.Need-element-copy-out-found (
+walk-slice-read-found : (t : ℕ) → walk-lts.Need-slice-read-found (
   kind-at-reads.Asked,
   kind-at-reads.Learnt,
   slot-at-reads.Asked,
@@ -59,7 +59,7 @@ walk-element-copy-out-found : (t : ℕ) → walk-lts.Need-element-copy-out-found
   walk-below t,
   walk.Post,
 ) (walk-at t) walk.Post
-walk-element-copy-out-found t c = search needs
+walk-slice-read-found t c = search (needs, walk-room)
 
 walk-returns-2 : (t : ℕ) → walk-lts.Need-returns-2 (
   kind-at-reads.Asked,
@@ -111,7 +111,7 @@ walk-mul-drivers : (t : ℕ) → walk-lts.Need-mul-drivers (
 ) (walk-at t) walk.Post
 walk-mul-drivers t c = search needs
 
-walk-element-write-drivers : (t : ℕ) → walk-lts.Need-element-write-drivers (
+walk-slice-write-drivers : (t : ℕ) → walk-lts.Need-slice-write-drivers (
   kind-at-reads.Asked,
   kind-at-reads.Learnt,
   slot-at-reads.Asked,
@@ -119,7 +119,17 @@ walk-element-write-drivers : (t : ℕ) → walk-lts.Need-element-write-drivers (
   walk-below t,
   walk.Post,
 ) (walk-at t) walk.Post
-walk-element-write-drivers t c = search needs
+walk-slice-write-drivers t c = search (needs, walk-room)
+
+walk-same-length : (t : ℕ) → walk-lts.Need-same-length (
+  kind-at-reads.Asked,
+  kind-at-reads.Learnt,
+  slot-at-reads.Asked,
+  slot-at-reads.Learnt,
+  walk-below t,
+  walk.Post,
+) (walk-at t) walk.Post
+walk-same-length t c = search needs
 
 walk-returns-3 : (t : ℕ) → walk-lts.Need-returns-3 (
   kind-at-reads.Asked,
@@ -145,11 +155,12 @@ pub +walk-spec : {M : Type 1} → statement M
     (walk-kind-at-requires t)
     (walk-returns t)
     (walk-mul-found t)
-    (walk-element-copy-out-found t)
+    (walk-slice-read-found t)
     (walk-returns-2 t)
     (walk-sub-walk t)
     (walk-slot-at-requires t)
     (walk-walk-requires t)
     (walk-mul-drivers t)
-    (walk-element-write-drivers t)
+    (walk-slice-write-drivers t)
+    (walk-same-length t)
     (walk-returns-3 t)

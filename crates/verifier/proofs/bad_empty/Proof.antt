@@ -1,56 +1,20 @@
--- `bad_empty` meets its contract: the unused slots below j are as they should be, until one is not or all are passed.
+-- `bad_empty` meets its contract: each return follows from the test that led there.
 use borrow.Author.Needs.{needs}
-use Prim.Native.Nat.{_-_}
-use Rattle.netlist.specs.Kinds.{slots}
-use Rattle.verifier.proofs.Checks.{Emptied, empty-start, empty-more, empty-found, empty-end}
+use Rattle.verifier.proofs.Checks.{empty-from, empty-below}
 use Rattle.verifier.proofs.bad_empty.Statement.{statement}
 use Rattle.verifier.proofs.bad_empty.Tie as tie
 
-abbrev Inv-loop : tie.InvT-loop
-Inv-loop kind a r j₀ j = Emptied kind a r j
-
-abbrev μ-loop : tie.MeasureT-loop
-μ-loop kind a r j₀ j = slots - j
-
-arity-requires : tie.Need-arity-requires Inv-loop μ-loop
+arity-requires : tie.Need-arity-requires
 arity-requires c κs = search needs
 
-loop-holds : tie.Need-loop-holds Inv-loop μ-loop
-loop-holds c = search empty-start
-
-slot-requires : tie.Need-slot-requires Inv-loop μ-loop
+slot-requires : tie.Need-slot-requires
 slot-requires c κs = search needs
 
-slot-requires-2 : tie.Need-slot-requires-2 Inv-loop μ-loop
-slot-requires-2 c κs = search needs
+returns : tie.Need-returns
+returns c = search empty-from
 
-returns : tie.Need-returns Inv-loop μ-loop
-returns c = search empty-found
-
-add-j : tie.Need-add-j Inv-loop μ-loop
-add-j c = search needs
-
-loop-less : tie.Need-loop-less Inv-loop μ-loop
-loop-less c = search needs
-
-loop-again : tie.Need-loop-again Inv-loop μ-loop
-loop-again c = search empty-more
-
-returns-2 : tie.Need-returns-2 Inv-loop μ-loop
-returns-2 c = search empty-end
+returns-2 : tie.Need-returns-2
+returns-2 c = search empty-below
 
 pub bad-empty-spec : {M : Type 1} → statement M
-bad-empty-spec =
-    tie.close
-    (tie.spec
-    Inv-loop
-    μ-loop
-    arity-requires
-    loop-holds
-    slot-requires
-    slot-requires-2
-    returns
-    add-j
-    loop-less
-    loop-again
-    returns-2)
+bad-empty-spec = tie.close (tie.spec arity-requires slot-requires returns returns-2)

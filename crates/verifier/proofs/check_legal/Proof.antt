@@ -1,50 +1,47 @@
--- `check_legal` meets its contract: the places first, then the traces, then the feeding.
-use borrow.Author.Needs.{needs}
-use Rattle.verifier.proofs.Checks.{legal-places, legal-placed, legal-traces, legal-feeds}
+-- `check_legal` meets its contract: no record is counted yet, and no driver known.
+use Prim.Native.Nat.{ℕ}
+use lib.ListN.{length-replicate}
+use Rattle.netlist.specs.Kinds.{mappedLimit}
+use Rattle.verifier.specs.Walking.{unknown}
+use Rattle.verifier.proofs.Walking.{fresh}
 use Rattle.verifier.proofs.check_legal.Statement.{statement}
 use Rattle.verifier.proofs.check_legal.Tie as tie
 
-check-places-requires : tie.Need-check-places-requires
-check-places-requires c κs = search needs
+slice-aggregate-check-with : tie.Need-slice-aggregate-check-with
+slice-aggregate-check-with c = length-replicate {A = ℕ} 8192 0
 
-enum-told : tie.Need-enum-told
-enum-told c = search needs
+slice-aggregate-check-with-2 : tie.Need-slice-aggregate-check-with-2
+slice-aggregate-check-with-2 c = length-replicate {A = ℕ} 8192 unknown
 
-enum-known-places : tie.Need-enum-known-places
-enum-known-places c = search needs
+check-with-requires : tie.Need-check-with-requires
+check-with-requires c κs =
+    let pre = c .before .before .before .before .before .pre in fresh _ _ _ _ 8192 _ (pre .0) (pre .1) (c .before .before .if1 .taken)
 
 returns : tie.Need-returns
-returns c = search legal-places
+returns c = c .before .before .check-with .ensures
 
-check-traces-requires : tie.Need-check-traces-requires
-check-traces-requires c κs = search (needs, legal-placed)
+slice-aggregate-check-with-3 : tie.Need-slice-aggregate-check-with-3
+slice-aggregate-check-with-3 c = length-replicate {A = ℕ} mappedLimit 0
 
-enum-told-2 : tie.Need-enum-told-2
-enum-told-2 c = search needs
+slice-aggregate-check-with-4 : tie.Need-slice-aggregate-check-with-4
+slice-aggregate-check-with-4 c = length-replicate {A = ℕ} mappedLimit unknown
 
-check-feeds-requires : tie.Need-check-feeds-requires
-check-feeds-requires c κs = search needs
-
-enum-known-traces : tie.Need-enum-known-traces
-enum-known-traces c = search needs
+check-with-requires-2 : tie.Need-check-with-requires-2
+check-with-requires-2 c κs =
+    let pre = c .before .before .before .before .before .pre in fresh _ _ _ _ mappedLimit _ (pre .0) (pre .1) (pre .0 .fits)
 
 returns-2 : tie.Need-returns-2
-returns-2 c = search legal-feeds
-
-returns-3 : tie.Need-returns-3
-returns-3 c = search legal-traces
+returns-2 c = c .before .before .check-with2 .ensures
 
 pub check-legal-spec : {M : Type 1} → statement M
 check-legal-spec =
     tie.close
     (tie.spec
-    check-places-requires
-    enum-told
-    enum-known-places
+    slice-aggregate-check-with
+    slice-aggregate-check-with-2
+    check-with-requires
     returns
-    check-traces-requires
-    enum-told-2
-    check-feeds-requires
-    enum-known-traces
-    returns-2
-    returns-3)
+    slice-aggregate-check-with-3
+    slice-aggregate-check-with-4
+    check-with-requires-2
+    returns-2)

@@ -1,6 +1,6 @@
--- `check_mapped` meets its contract: the length first; what 1 and 11 leave lets every count fit.
+-- `check_mapped` meets its contract: the length first; what 1 to 7 and 11 leave lets every count fit.
 use borrow.Author.Needs.{needs}
-use Rattle.verifier.proofs.Checks.{mapped-length, mapped-legal, records-fit, mapped-fits, mapped-whole, mapped-countable}
+use Rattle.verifier.proofs.Checks.{mapped-length, mapped-legal, records-fit, mapped-fits, mapped-sized, capacity-fits}
 use Rattle.verifier.proofs.check_mapped.Statement.{statement}
 use Rattle.verifier.proofs.check_mapped.Tie as tie
 
@@ -23,7 +23,7 @@ cast-check-legal-2 : tie.Need-cast-check-legal-2
 cast-check-legal-2 c = search mapped-fits
 
 check-legal-requires : tie.Need-check-legal-requires
-check-legal-requires c κs = search (needs, mapped-whole, mapped-countable)
+check-legal-requires c κs = search (needs, mapped-sized, capacity-fits)
 
 returns-2 : tie.Need-returns-2
 returns-2 c = search mapped-legal

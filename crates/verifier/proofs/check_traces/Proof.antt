@@ -1,19 +1,21 @@
 -- `check_traces` meets its contract: the answer from k on is the answer, and the drivers that are known are right.
 use borrow.Author.Needs.{needs}
 use Prim.Native.Nat.{_-_}
+use mathlib.Core.Path.{_≡_}
+use lib.ListN.{length}
 use Rattle.netlist.specs.Records.{netlist}
 use Rattle.verifier.proofs.Walking.{Tracing, tracing-start, tracing-end, tracing-walkable, tracing-more, tracing-stop}
 use Rattle.verifier.proofs.check_traces.Statement.{statement}
 use Rattle.verifier.proofs.check_traces.Tie as tie
 
 abbrev Inv-loop : tie.InvT-loop
-Inv-loop source mapped n drivers₀ k₀ drivers k = Tracing (netlist source) (netlist mapped) n drivers k
+Inv-loop source mapped n drivers₀ k₀ drivers k = Tracing (netlist source) (netlist mapped) drivers k × (length drivers ≡ length drivers₀)
 
 abbrev μ-loop : tie.MeasureT-loop
 μ-loop source mapped n drivers₀ k₀ drivers k = n - k
 
 loop-holds : tie.Need-loop-holds Inv-loop μ-loop
-loop-holds c = search tracing-start
+loop-holds c = search (needs, tracing-start)
 
 cast-record-at : tie.Need-cast-record-at Inv-loop μ-loop
 cast-record-at c = search needs
@@ -27,11 +29,11 @@ cast-record-at-2 c = search needs
 record-at-requires-2 : tie.Need-record-at-requires-2 Inv-loop μ-loop
 record-at-requires-2 c κs = search needs
 
-arity-requires : tie.Need-arity-requires Inv-loop μ-loop
-arity-requires c κs = search needs
-
 any-strays-requires : tie.Need-any-strays-requires Inv-loop μ-loop
-any-strays-requires c κs = search tracing-walkable
+any-strays-requires c κs = search (needs, tracing-walkable)
+
+same-length : tie.Need-same-length Inv-loop μ-loop
+same-length c = search needs
 
 returns : tie.Need-returns Inv-loop μ-loop
 returns c = search tracing-stop
@@ -43,7 +45,10 @@ loop-less : tie.Need-loop-less Inv-loop μ-loop
 loop-less c = search needs
 
 loop-again : tie.Need-loop-again Inv-loop μ-loop
-loop-again c = search tracing-more
+loop-again c = (search tracing-more, search needs)
+
+same-length-2 : tie.Need-same-length-2 Inv-loop μ-loop
+same-length-2 c = search needs
 
 returns-2 : tie.Need-returns-2 Inv-loop μ-loop
 returns-2 c = search tracing-end
@@ -59,10 +64,11 @@ check-traces-spec =
     record-at-requires
     cast-record-at-2
     record-at-requires-2
-    arity-requires
     any-strays-requires
+    same-length
     returns
     add-k
     loop-less
     loop-again
+    same-length-2
     returns-2)

@@ -13,11 +13,11 @@ returns-2 c = search inversion-differs
 returns-3 : tie.Need-returns-3
 returns-3 c = search level-differs
 
-bad-empty-requires : tie.Need-bad-empty-requires
-bad-empty-requires c κs = search needs
+any-bad-empty-requires : tie.Need-any-bad-empty-requires
+any-bad-empty-requires c κs = search needs
 
 returns-4 : tie.Need-returns-4
 returns-4 c = search slots-differ
 
 pub differs-spec : {M : Type 1} → statement M
-differs-spec = tie.close (tie.spec returns returns-2 returns-3 bad-empty-requires returns-4)
+differs-spec = tie.close (tie.spec returns returns-2 returns-3 any-bad-empty-requires returns-4)

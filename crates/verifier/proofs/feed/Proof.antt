@@ -1,17 +1,20 @@
--- `feed` meets its contract: past the end and at the stop nothing changes.
+-- `feed` meets its contract: at the stop nothing changes.
 use borrow.Author.Needs.{needs}
-use Rattle.verifier.proofs.Feeding.{feed-past, feed-full, feed-more}
+use Rattle.verifier.proofs.Feeding.{feed-full, feed-more}
 use Rattle.verifier.proofs.feed.Statement.{statement}
 use Rattle.verifier.proofs.feed.Tie as tie
 
-element-copy-out-count : tie.Need-element-copy-out-count
-element-copy-out-count c = search needs
+slice-read-count : tie.Need-slice-read-count
+slice-read-count c = search needs
 
 add-counts : tie.Need-add-counts
 add-counts c = search needs
 
-element-write-counts : tie.Need-element-write-counts
-element-write-counts c = search needs
+slice-write-counts : tie.Need-slice-write-counts
+slice-write-counts c = search needs
+
+same-length : tie.Need-same-length
+same-length c = search needs
 
 returns : tie.Need-returns
 returns c = search feed-more
@@ -19,10 +22,7 @@ returns c = search feed-more
 returns-2 : tie.Need-returns-2
 returns-2 c = search feed-full
 
-returns-3 : tie.Need-returns-3
-returns-3 c = search feed-past
-
 pub feed-spec : {M : Type 1} → statement M
 feed-spec =
     tie.close
-    (tie.spec element-copy-out-count add-counts element-write-counts returns returns-2 returns-3)
+    (tie.spec slice-read-count add-counts slice-write-counts same-length returns returns-2)

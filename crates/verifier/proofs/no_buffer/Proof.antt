@@ -13,15 +13,11 @@ returns-2 c = search inversion-no-buffer
 returns-3 : tie.Need-returns-3
 returns-3 c = search level-no-buffer
 
-blank-requires : tie.Need-blank-requires
-blank-requires c κs = search needs
-
-bad-empty-requires : tie.Need-bad-empty-requires
-bad-empty-requires c κs = search needs
+any-bad-empty-requires : tie.Need-any-bad-empty-requires
+any-bad-empty-requires c κs = search needs
 
 returns-4 : tie.Need-returns-4
 returns-4 c = search slots-no-buffer
 
 pub no-buffer-spec : {M : Type 1} → statement M
-no-buffer-spec =
-    tie.close (tie.spec returns returns-2 returns-3 blank-requires bad-empty-requires returns-4)
+no-buffer-spec = tie.close (tie.spec returns returns-2 returns-3 any-bad-empty-requires returns-4)

@@ -1,23 +1,24 @@
--- `any_not_one_lower` meets its contract: no slot below j is wrong, until one is or all are passed.
+-- `any_bad_empty` meets its contract: no slot below j is wrong, until one is or all are passed.
 use borrow.Author.Needs.{needs}
 use Prim.Native.Nat.{_-_}
 use Rattle.facts.proofs.Loops.{NoneYet, any-start, any-more, any-found, any-end}
-use Rattle.netlist.specs.Records.{netlist}
-use Rattle.verifier.specs.Checks.{notOneLower}
-use Rattle.verifier.proofs.any_not_one_lower.Statement.{statement}
-use Rattle.verifier.proofs.any_not_one_lower.Tie as tie
+use Rattle.netlist.specs.Kinds.{slots}
+use Rattle.netlist.specs.Records.{blank}
+use Rattle.verifier.specs.Checks.{badEmpty}
+use Rattle.verifier.proofs.any_bad_empty.Statement.{statement}
+use Rattle.verifier.proofs.any_bad_empty.Tie as tie
 
 abbrev Inv-loop : tie.InvT-loop
-Inv-loop mapped r n j₀ j = NoneYet (notOneLower (netlist mapped) r) n j
+Inv-loop kind r j₀ j = NoneYet (badEmpty kind blank r) slots j
 
 abbrev μ-loop : tie.MeasureT-loop
-μ-loop mapped r n j₀ j = n - j
+μ-loop kind r j₀ j = slots - j
 
 loop-holds : tie.Need-loop-holds Inv-loop μ-loop
 loop-holds c = search any-start
 
-not-one-lower-requires : tie.Need-not-one-lower-requires Inv-loop μ-loop
-not-one-lower-requires c κs = search needs
+bad-empty-requires : tie.Need-bad-empty-requires Inv-loop μ-loop
+bad-empty-requires c κs = search needs
 
 returns : tie.Need-returns Inv-loop μ-loop
 returns c = search any-found
@@ -34,14 +35,14 @@ loop-again c = search any-more
 returns-2 : tie.Need-returns-2 Inv-loop μ-loop
 returns-2 c = search any-end
 
-pub any-not-one-lower-spec : {M : Type 1} → statement M
-any-not-one-lower-spec =
+pub any-bad-empty-spec : {M : Type 1} → statement M
+any-bad-empty-spec =
     tie.close
     (tie.spec
     Inv-loop
     μ-loop
     loop-holds
-    not-one-lower-requires
+    bad-empty-requires
     returns
     add-j
     loop-less
