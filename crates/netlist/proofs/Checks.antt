@@ -24,7 +24,7 @@ use Rattle.facts.proofs.Loops.{Seeking, seek-start, seek-more, seek-here, seek-
 use Rattle.netlist.specs.declared.Record.{Record}
 use Rattle.netlist.specs.Kinds.{width, slots, unused, topLevel, sourceLimit, input, output, arities, arity, isGate, invertible}
 use Rattle.netlist.specs.Records.{Netlist, netlist, recordCount, recordBytes, recordAt, slot, isOutput, depth}
-use Rattle.netlist.specs.Checks.{badKind, badInversion, badSlot, badSlots, notBelow, misplaced, structureOf, levelOf, recordChecks, sourceChecks, inputChecks}
+use Rattle.netlist.specs.Checks.{badCapacity, ragged, tooMany, badLevel, sizeChecks, badKind, badInversion, badSlot, badSlots, notBelow, misplaced, structureOf, levelOf, recordChecks, sourceChecks, inputChecks}
 use Rattle.netlist.specs.View.{viewOf}
 use Rattle.netlist.proofs.Records.{record-past}
 
@@ -201,14 +201,18 @@ module _ (m : Netlist) (k : ℕ) (r : Record) where
           go s = rw (s, ← i, ← f, le-ltb output kind l, ← e, lt-leb x y h)
 
   module _ (deep : ℕ) (d : misplaced deep r ≡ misplaced (depth m) r) (b : Bool) (e : b ≡ misplaced deep r) where
-    pub misplaced-bad : b ≡ true → Refused 7 k ≡ levelOf m k r
+    pub misplaced-bad : b ≡ true → true ≡ badLevel m r
     misplaced-bad t = rw (← d, ← e, t)
 
-    pub fanins-bad : (f : Bool) → b ≡ false → f ≡ any (notBelow m r) slots → f ≡ true → Refused 7 k ≡ levelOf m k r
-    fanins-bad f t g u = rw (← d, ← e, t, ← g, u)
+    pub fanins-bad : (f : Bool) → b ≡ false → f ≡ any (notBelow m r) slots → f ≡ badLevel m r
+    fanins-bad f t g = g ∙ rw (← d, ← e, t)
 
-    pub level-good : (f : Bool) → b ≡ false → f ≡ any (notBelow m r) slots → f ≡ false → Passed ≡ levelOf m k r
-    level-good f t g u = rw (← d, ← e, t, ← g, u)
+  module _ (b : Bool) (e : b ≡ badLevel m r) where
+    pub level-bad : b ≡ true → Refused 7 k ≡ levelOf m k r
+    level-bad t = rw (← e, t)
+
+    pub level-good : b ≡ false → Passed ≡ levelOf m k r
+    level-good t = rw (← e, t)
 
 module _ (bytes : List ℕ) (k : ℕ) (a : Checked) (e : a ≡ structureOf (netlist bytes) k (recordAt bytes k)) where
   -- where checks 4 to 6 pass, no slot is bad
@@ -224,28 +228,42 @@ module _ (bytes : List ℕ) (k : ℕ) (a : Checked) (e : a ≡ structureOf (netl
   record-structure number place p = rw (← e, p)
 
 module _ (bytes : List ℕ) where
-  pub length-ragged : (length bytes % width ≡ 0 → ⊥) → Refused 2 0 ≡ sourceChecks bytes
-  unfolding sourceChecks
+  pub length-ragged : (length bytes % width ≡ 0 → ⊥) → Refused 2 0 ≡ sizeChecks bytes
   length-ragged h = rw (ne-eqb (length bytes % width) 0 h)
 
   module _ (whole : length bytes % width ≡ 0) (n : ℕ) (e : n ≡ recordCount bytes) where
-    pub length-large : sourceLimit < n → Refused 3 0 ≡ sourceChecks bytes
-    unfolding sourceChecks
+    pub length-large : sourceLimit < n → Refused 3 0 ≡ sizeChecks bytes
     length-large h = rw (whole, lt-ltb sourceLimit (recordCount bytes) (rw e at h))
 
-    pub records-checked : (a : Checked) → n ≤ sourceLimit → a ≡ scan (recordChecks (netlist bytes)) 0 n → a ≡ sourceChecks bytes
+    pub length-good : n ≤ sourceLimit → Passed ≡ sizeChecks bytes
+    length-good h = rw (whole, le-ltb sourceLimit (recordCount bytes) (rw e at h))
+
+  module _ (a : Checked) (e : a ≡ sizeChecks bytes) where
+    pub size-refused : (number place : ℕ) → a ≡ Refused number place → Refused number place ≡ sourceChecks bytes
     unfolding sourceChecks
-    records-checked a h f = f ∙ rw (whole, le-ltb sourceLimit (recordCount bytes) (rw e at h), e)
+    size-refused number place p = rw (← e, p)
 
-  module _ (s : ℕ) where
-    pub capacity-small : s < 2 → Refused 1 0 ≡ inputChecks s bytes
-    capacity-small h = rw (lt-ltb s 2 h)
+    pub size-fits : (n : ℕ) → a ≡ Passed → n ≡ recordCount bytes → n < 2 ^ 32
+    size-fits n p f =
+        let few = check-passed 3 0 (tooMany bytes) .0 (then-passed (check 2 0 (ragged bytes)) _ .0 (sym e ∙ p) .1) in
+        omega (arith, ltb-false sourceLimit (recordCount bytes) few)
 
-    pub capacity-large : 2 ≤ s → 4 < s → Refused 1 0 ≡ inputChecks s bytes
-    capacity-large l h = rw (le-ltb s 2 l, lt-ltb 4 s h)
+    pub records-checked : (b : Checked) (n : ℕ) → a ≡ Passed → n ≡ recordCount bytes → b ≡ scan (recordChecks (netlist bytes)) 0 n → b ≡ sourceChecks bytes
+    unfolding sourceChecks
+    records-checked b n p f g = g ∙ rw (← e, p, f)
 
-    pub capacity-good : (a : Checked) → 2 ≤ s → s ≤ 4 → a ≡ sourceChecks bytes → a ≡ inputChecks s bytes
-    capacity-good a l h e = e ∙ rw (le-ltb s 2 l, le-ltb 4 s h)
+pub capacity-small : (s : ℕ) → s < 2 → true ≡ badCapacity s
+capacity-small s h = rw (lt-ltb s 2 h)
+
+pub capacity-large : (s : ℕ) → 2 ≤ s → ltb 4 s ≡ badCapacity s
+capacity-large s l = rw (le-ltb s 2 l)
+
+module _ (bytes : List ℕ) (s : ℕ) (b : Bool) (e : b ≡ badCapacity s) where
+  pub capacity-refused : b ≡ true → Refused 1 0 ≡ inputChecks s bytes
+  capacity-refused t = rw (← e, t)
+
+  pub capacity-good : (a : Checked) → b ≡ false → a ≡ sourceChecks bytes → a ≡ inputChecks s bytes
+  capacity-good a t f = f ∙ rw (← e, t)
 
 module _ (source mapped : List ℕ) (k m : ℕ) (e : m ≡ recordCount mapped) where
   pub view-past : m ≤ k → [] ≡ viewOf source mapped k

@@ -10,10 +10,13 @@ ghost use Rattle.netlist.specs.Kinds;
 ghost use Rattle.netlist.specs.Records.{field, decode, recordAt, recordCount, recordBytes, netlist, isOutput};
 ghost use Rattle.netlist.specs.Records;
 ghost use Rattle.netlist.specs.Checks.{
+  badCapacity,
   badSlot,
   badSlots,
   notBelow,
   misplaced,
+  badLevel,
+  sizeChecks,
   structureOf,
   levelOf,
   recordChecks,
@@ -351,7 +354,21 @@ fn check_structure(bytes: &[u8], k: u32, used: usize) -> Checked
     Checked::Passed
 }
 
-// Check 7 of record k, with the level of the first output in deep if record k is an output.
+// Check 7: the record's own level or a fanin's is wrong, with the level of the first output in deep if record k is an output.
+fn bad_level(bytes: &[u8], deep: u16, k: usize, used: usize) -> bool
+    requires { ⌜ k < recordCount (now bytes) ⌝ }
+    requires { ⌜ used ≡ Kinds.arity (recordAt (now bytes) k .kind) ⌝ }
+    requires { ⌜ badSlots (netlist (now bytes)) k (recordAt (now bytes) k) ≡ false ⌝ }
+    requires { ⌜ misplaced deep (recordAt (now bytes) k) ≡ misplaced (Records.depth (netlist (now bytes))) (recordAt (now bytes) k) ⌝ }
+    ensures { λ b. ⌜ b ≡ badLevel (netlist (now (bytes .entry))) (recordAt (now (bytes .entry)) k) ⌝ }
+{
+    if is_misplaced(bytes, deep, k) {
+        return true;
+    }
+    any_not_below(bytes, k, used)
+}
+
+// Check 7 of record k.
 fn check_level(bytes: &[u8], deep: u16, k: u32, used: usize) -> Checked
     requires { ⌜ k < recordCount (now bytes) ⌝ }
     requires { ⌜ used ≡ Kinds.arity (recordAt (now bytes) k .kind) ⌝ }
@@ -359,10 +376,7 @@ fn check_level(bytes: &[u8], deep: u16, k: u32, used: usize) -> Checked
     requires { ⌜ misplaced deep (recordAt (now bytes) k) ≡ misplaced (Records.depth (netlist (now bytes))) (recordAt (now bytes) k) ⌝ }
     ensures { λ a. ⌜ a ≡ levelOf (netlist (now (bytes .entry))) k (recordAt (now (bytes .entry)) k) ⌝ }
 {
-    if is_misplaced(bytes, deep, k as usize) {
-        return Checked::Refused(7, k);
-    }
-    if any_not_below(bytes, k as usize, used) {
+    if bad_level(bytes, deep, k as usize, used) {
         return Checked::Refused(7, k);
     }
     Checked::Passed
@@ -450,28 +464,45 @@ fn check_records(bytes: &[u8], n: u32) -> Checked
     Checked::Passed
 }
 
-// The source reader: checks 2 to 7.
-pub fn check_source(bytes: &[u8]) -> Checked
-    ensures { λ a. ⌜ a ≡ sourceChecks (now (bytes .entry)) ⌝ }
+// Checks 2 and 3.
+fn check_size(bytes: &[u8]) -> Checked
+    ensures { λ a. ⌜ a ≡ sizeChecks (now (bytes .entry)) ⌝ }
 {
     if bytes.len() % WIDTH != 0 {
         return Checked::Refused(2, 0);
     }
-    let n = record_count(bytes);
-    if SOURCE_LIMIT < n {
+    if SOURCE_LIMIT < record_count(bytes) {
         return Checked::Refused(3, 0);
     }
-    check_records(bytes, n as u32)
+    Checked::Passed
+}
+
+// The source reader: checks 2 to 7.
+pub fn check_source(bytes: &[u8]) -> Checked
+    ensures { λ a. ⌜ a ≡ sourceChecks (now (bytes .entry)) ⌝ }
+{
+    let size = check_size(bytes);
+    match size {
+        Checked::Passed => check_records(bytes, record_count(bytes) as u32),
+        Checked::Refused(number, place) => Checked::Refused(number, place),
+    }
+}
+
+// Check 1: no capacity.
+fn bad_capacity(capacity: u32) -> bool
+    ensures { λ b. ⌜ b ≡ badCapacity capacity ⌝ }
+{
+    if capacity < LEAST_CAPACITY {
+        return true;
+    }
+    MOST_CAPACITY < capacity
 }
 
 // What every call with a capacity checks first: 1 to 7.
 pub fn check_input(capacity: u32, bytes: &[u8]) -> Checked
     ensures { λ a. ⌜ a ≡ inputChecks capacity (now (bytes .entry)) ⌝ }
 {
-    if capacity < LEAST_CAPACITY {
-        return Checked::Refused(1, 0);
-    }
-    if MOST_CAPACITY < capacity {
+    if bad_capacity(capacity) {
         return Checked::Refused(1, 0);
     }
     check_source(bytes)

@@ -1,34 +1,42 @@
--- `check_source` meets its contract: lengths first, then every record.
+-- `check_source` meets its contract: the size first, then every record.
 use borrow.Author.Needs.{needs}
-use Rattle.netlist.proofs.Checks.{length-ragged, length-large, records-checked}
+use Rattle.netlist.proofs.Checks.{size-fits, records-checked, size-refused}
 use Rattle.netlist.proofs.check_source.Statement.{statement}
 use Rattle.netlist.proofs.check_source.Tie as tie
 
-returns : tie.Need-returns
-returns c = search length-ragged
+check-size-requires : tie.Need-check-size-requires
+check-size-requires c κs = search needs
+
+enum-told : tie.Need-enum-told
+enum-told c = search needs
 
 record-count-requires : tie.Need-record-count-requires
 record-count-requires c κs = search needs
 
-returns-2 : tie.Need-returns-2
-returns-2 c = search length-large
-
 cast-check-records : tie.Need-cast-check-records
-cast-check-records c = search needs
+cast-check-records c = record { fits = search size-fits }
 
 check-records-requires : tie.Need-check-records-requires
 check-records-requires c κs = search needs
 
-returns-3 : tie.Need-returns-3
-returns-3 c = search records-checked
+enum-known-size : tie.Need-enum-known-size
+enum-known-size c = search needs
+
+returns : tie.Need-returns
+returns c = search records-checked
+
+returns-2 : tie.Need-returns-2
+returns-2 c = search size-refused
 
 pub check-source-spec : {M : Type 1} → statement M
 check-source-spec =
     tie.close
     (tie.spec
-    returns
+    check-size-requires
+    enum-told
     record-count-requires
-    returns-2
     cast-check-records
     check-records-requires
-    returns-3)
+    enum-known-size
+    returns
+    returns-2)
