@@ -1,12 +1,12 @@
 //! Times the static library and the fast path on the same inputs in the same run, in turns.
 //!
-//! One table: for each call, shape and size the median time of both and the median of the samples'
-//! ratios; then how our time grows from N = 512 to N = 4,096. Both answers are compared before a row is timed. Areas
-//! that a call writes are touched once before and not cleared between calls. A row of layered
-//! netlists goes round as many of them as have 4,096 records together, so that small sizes are not
-//! timed on one input that the processor has learnt by heart.
+//! Two tables: for each call, shape and size the median time of both and the median of the samples'
+//! ratios; then how our time grows from N = 512 to N = 4,096, the two sizes in turns as well, since
+//! the machine's own speed drifts. Both answers are compared before a row is timed. Areas that a
+//! call writes are touched once before and not cleared between calls. A row of layered netlists
+//! goes round as many of them as have 4,096 records together, so that small sizes are not timed on
+//! one input that the processor has learnt by heart.
 
-use std::collections::BTreeMap;
 use std::hint::black_box;
 use std::time::{Duration, Instant};
 
@@ -135,54 +135,85 @@ fn median(mut times: Vec<f64>) -> f64 {
     times[times.len() / 2]
 }
 
-/// What a row measures, in microseconds for one call.
+/// What a row measures of two sides, in microseconds for one call.
 struct Measured {
-    ours: f64,
-    theirs: f64,
-    /// The median over the samples' own ratios.
+    first: f64,
+    second: f64,
+    /// The median over the samples' own ratios, first to second.
     ratio: f64,
 }
 
-/// Takes samples of both in turns, each of the two first in every other sample.
-fn measure(calls: &mut [Call]) -> Measured {
-    let rounds = rounds_in_a_sample(&FAST, calls);
-    go_round(&LINKED, calls, rounds);
-    let made = f64::from(rounds) * calls.len() as f64;
-    let mut sample = |engine| go_round(engine, calls, rounds).as_secs_f64() * 1e6 / made;
+/// Which side of a row is sampled.
+#[derive(Clone, Copy)]
+enum Side {
+    First,
+    Second,
+}
+
+/// Takes samples of both sides in turns, each of the two first in every other sample.
+fn measure(mut sample: impl FnMut(Side) -> f64) -> Measured {
+    sample(Side::First);
+    sample(Side::Second);
     let pairs: Vec<(f64, f64)> = (0..SAMPLES)
         .map(|turn| {
             if turn % 2 == 0 {
-                let ours = sample(&LINKED);
-                return (ours, sample(&FAST));
+                let first = sample(Side::First);
+                return (first, sample(Side::Second));
             }
-            let theirs = sample(&FAST);
-            (sample(&LINKED), theirs)
+            let second = sample(Side::Second);
+            (sample(Side::First), second)
         })
         .collect();
     Measured {
-        ours: median(pairs.iter().map(|(ours, _)| *ours).collect()),
-        theirs: median(pairs.iter().map(|(_, theirs)| *theirs).collect()),
-        ratio: median(pairs.iter().map(|(ours, theirs)| ours / theirs).collect()),
+        first: median(pairs.iter().map(|(first, _)| *first).collect()),
+        second: median(pairs.iter().map(|(_, second)| *second).collect()),
+        ratio: median(pairs.iter().map(|(first, second)| first / second).collect()),
     }
 }
 
-/// Our times by call, shape and N.
-type Times = BTreeMap<(String, &'static str, usize), f64>;
+/// The time of one call among those that are made, in microseconds.
+fn time_of(engine: &Engine, calls: &mut [Call], rounds: u32) -> f64 {
+    let made = f64::from(rounds) * calls.len() as f64;
+    go_round(engine, calls, rounds).as_secs_f64() * 1e6 / made
+}
 
-/// One row: the subjects are of one shape and N.
-fn print_row(subjects: &[Subject], name: Name, times: &mut Times) {
+fn calls_of(subjects: &[Subject], name: Name) -> Vec<Call> {
+    subjects.iter().map(|subject| subject.call(name)).collect()
+}
+
+fn label(name: Name) -> String {
+    format!("{name:?}").to_lowercase()
+}
+
+/// One row of the first table: the subjects are of one shape and N.
+fn print_row(subjects: &[Subject], name: Name) {
     let (shape, n) = (subjects[0].shape, subjects[0].n());
     let m = subjects.iter().map(Subject::m).sum::<usize>() / subjects.len();
-    let mut calls: Vec<Call> = subjects.iter().map(|subject| subject.call(name)).collect();
+    let mut calls = calls_of(subjects, name);
     for call in &calls {
         let (ours, theirs) = (perform(&LINKED, call), perform(&FAST, call));
         assert_eq!(ours.answer, theirs.answer, "{name:?} on {shape} differs");
         assert!(ours.areas == theirs.areas, "{name:?} on {shape} differs in an area");
     }
-    let Measured { ours, theirs, ratio } = measure(&mut calls);
-    let label = format!("{name:?}").to_lowercase();
-    println!("| {label} | {shape} | {n} | {m} | {ours:.2} | {theirs:.2} | {ratio:.2} |");
-    times.insert((label, shape, n), ours);
+    let rounds = rounds_in_a_sample(&FAST, &mut calls);
+    let Measured { first, second, ratio } = measure(|side| match side {
+        Side::First => time_of(&LINKED, &mut calls, rounds),
+        Side::Second => time_of(&FAST, &mut calls, rounds),
+    });
+    let label = label(name);
+    println!("| {label} | {shape} | {n} | {m} | {first:.2} | {second:.2} | {ratio:.2} |");
+}
+
+/// One row of the second table: our time on the larger subjects over that on the smaller.
+fn print_growth(small: &[Subject], large: &[Subject], name: Name) {
+    let (mut many, mut few) = (calls_of(large, name), calls_of(small, name));
+    let rounds = rounds_in_a_sample(&LINKED, &mut many);
+    let more = rounds_in_a_sample(&LINKED, &mut few);
+    let Measured { first, second, ratio } = measure(|side| match side {
+        Side::First => time_of(&LINKED, &mut many, rounds),
+        Side::Second => time_of(&LINKED, &mut few, more),
+    });
+    println!("| {} | {} | {second:.2} | {first:.2} | {ratio:.2} |", label(name), small[0].shape);
 }
 
 /// A layered netlist, whose widest net is counted.
@@ -213,44 +244,45 @@ fn sized(most: usize) -> Subject {
 fn main() {
     println!("| call | shape | N | M | ours, us | reference, us | ratio |");
     println!("|---|---|---|---|---|---|---|");
-    let mut times = Times::new();
     let all: Vec<[Vec<Subject>; 3]> = SIZES.iter().map(|&size| shapes_of(size)).collect();
     for name in [Name::Map, Name::Verify, Name::Count] {
         for shape in 0..3 {
             for shapes in &all {
-                print_row(&shapes[shape], name, &mut times);
+                print_row(&shapes[shape], name);
             }
         }
     }
     for [_, _, layered] in &all {
-        print_row(layered, Name::Evaluate, &mut times);
+        print_row(layered, Name::Evaluate);
     }
     let sizes = [1_000, 4_000, 16_000, 60_000].map(|most| [sized(most)]);
     for name in [Name::Step, Name::Run] {
         for subject in &sizes {
-            print_row(subject, name, &mut times);
+            print_row(subject, name);
         }
     }
-    print_row(&sizes[3], Name::Map, &mut times);
-    print_row(&sizes[3], Name::Verify, &mut times);
+    print_row(&sizes[3], Name::Map);
+    print_row(&sizes[3], Name::Verify);
     let majorities = shapes::wide_majorities(MAX_SOURCE, S);
     let majorities = [Subject::new("12,285 sinks", &majorities, 0)];
-    print_row(&majorities, Name::Map, &mut times);
-    print_row(&majorities, Name::Count, &mut times);
+    print_row(&majorities, Name::Map);
+    print_row(&majorities, Name::Count);
     let wide = shapes::wide(MAX_SOURCE, S);
     let shared = shapes::raised(&wide, usize::from(MAX_LEVEL - depth(&wide)));
     let shared = [Subject::new("wide, one long chain below", &shared, 0)];
-    print_row(&shared, Name::Map, &mut times);
-    print_row(&shared, Name::Verify, &mut times);
+    print_row(&shared, Name::Map);
+    print_row(&shared, Name::Verify);
     let refused = [Subject::new("refused by 9", &shapes::lines(2048, MAX_LEVEL), 0)];
-    print_row(&refused, Name::Map, &mut times);
+    print_row(&refused, Name::Map);
 
     println!();
     println!("| call | shape | N = 512, us | N = 4096, us | growth |");
     println!("|---|---|---|---|---|");
-    for ((label, shape, n), &least) in &times {
-        if let (512, Some(&most)) = (*n, times.get(&(label.clone(), *shape, 4096))) {
-            println!("| {label} | {shape} | {least:.2} | {most:.2} | {:.2} |", most / least);
+    let (small, large) = (&all[0], &all[SIZES.len() - 1]);
+    for name in [Name::Map, Name::Verify, Name::Count] {
+        for (small, large) in small.iter().zip(large) {
+            print_growth(small, large, name);
         }
     }
+    print_growth(&small[2], &large[2], Name::Evaluate);
 }
