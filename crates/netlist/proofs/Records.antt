@@ -1,11 +1,10 @@
 -- Laws of records read off bytes: within the end a record is its ten bytes, from the end on it is blank.
 use Prim.Native.Nat.{ℕ, zero, suc, _+_, _-_, _*_, _<_, _≤_}
-use native.Mathlib.Nat.{add-sub-cancel-left, add-zero, add-assoc}
+use native.Mathlib.Nat.{add-sub-cancel-left}
 use native.Mathlib.Omega.{arith}
-use mathlib.Core.Path.{_≡_, refl, sym, ap, ap₂, _∙_}
+use mathlib.Core.Path.{_≡_, refl, sym, ap, _∙_}
 use mathlib.Core.List.{List, [], _∷_}
 use lib.ListN.{length, getD, take, drop, length-take, length-drop, List·getD-eq-default}
-use lib.Seq.{getD-take, getD-drop}
 use borrow.Author.Tests.{lt-ltb, le-ltb}
 use Rattle.netlist.specs.declared.Record.{Record}
 use Rattle.netlist.specs.Kinds.{width, slots, unused, arities, arity}
@@ -66,36 +65,31 @@ module _ (bytes : List ℕ) (k : ℕ) where
   unfolding recordAt
   record-past h = rw (le-ltb k (recordCount bytes) h)
 
-  -- byte at of record k stands in the whole at 10 × k + at
-  byte-inside : (at : ℕ) → at < width → getD (recordBytes bytes k) at 0 ≡ getD bytes (width * k + at) 0
-  byte-inside at h = getD-take width (drop (width * k) bytes) at 0 h ∙ getD-drop (width * k) bytes at 0
+  -- a field of record k, read from its part
+  module _ (h : k < recordCount bytes) (part : List ℕ) (p : part ≡ recordBytes bytes k) where
+    pub part-inside : (at : ℕ) → at < width → at < length part
+    part-inside at l = rw p (simp (length-take, length-drop) (omega arith))
 
-  field-inside : (at : ℕ) → at + 1 < width → field (recordBytes bytes k) at ≡ field bytes (width * k + at)
-  field-inside at h =
-      ap₂ (λ (x y : ℕ). x + 256 * y)
-      (byte-inside at (omega arith))
-      (byte-inside (at + 1) h ∙ ap (λ (i : ℕ). getD bytes i 0) (sym (add-assoc (width * k) at 1)))
+    pub slot-part : (j : ℕ) → j < slots → 4 + 2 * j + 1 < length part
+    slot-part j l = part-inside (4 + 2 * j + 1) (omega arith)
 
-  -- a field of record k where it stands in the whole
-  module _ (h : k < recordCount bytes) where
-    pub kind-inside : getD bytes (width * k) 0 ≡ recordAt bytes k .kind
-    kind-inside =
-        ap (λ (i : ℕ). getD bytes i 0) (sym (add-zero (width * k)))
-        ∙ sym (byte-inside 0 (omega arith))
-        ∙ ap (λ (r : Record). r .kind) (sym (record-inside h))
+    read : decode part ≡ recordAt bytes k
+    read = ap decode p ∙ sym (record-inside h)
 
-    pub inversion-inside : getD bytes (width * k + 1) 0 ≡ recordAt bytes k .inversion
-    inversion-inside = sym (byte-inside 1 (omega arith)) ∙ ap (λ (r : Record). r .inversion) (sym (record-inside h))
+    pub kind-inside : getD part 0 0 ≡ recordAt bytes k .kind
+    kind-inside = ap (λ (r : Record). r .kind) read
 
-    pub level-inside : (x : ℕ) → x ≡ field bytes (width * k + 2) → x ≡ recordAt bytes k .level
-    level-inside x p = p ∙ sym (field-inside 2 (omega arith)) ∙ ap (λ (r : Record). r .level) (sym (record-inside h))
+    pub inversion-inside : getD part 1 0 ≡ recordAt bytes k .inversion
+    inversion-inside = ap (λ (r : Record). r .inversion) read
 
-    pub slot-inside : (j x : ℕ) → j < slots → x ≡ field bytes (width * k + (4 + 2 * j)) → x ≡ slot (recordAt bytes k) j
-    slot-inside j x l p =
-        p
-        ∙ sym (field-inside (4 + 2 * j) (omega arith))
-        ∙ sym (getD-tabulate (λ i. field (recordBytes bytes k) (4 + 2 * i)) slots j unused l)
-        ∙ ap (λ (r : Record). slot r j) (sym (record-inside h))
+    pub level-inside : (x : ℕ) → x ≡ field part 2 → x ≡ recordAt bytes k .level
+    level-inside x e = e ∙ ap (λ (r : Record). r .level) read
+
+    pub slot-inside : (j x : ℕ) → j < slots → x ≡ field part (4 + 2 * j) → x ≡ slot (recordAt bytes k) j
+    slot-inside j x l e =
+        e
+        ∙ sym (getD-tabulate (λ i. field part (4 + 2 * i)) slots j unused l)
+        ∙ ap (λ (r : Record). slot r j) read
 
   -- what the code has of record k, where n is the count that it found
   module _ (n : ℕ) (e : n ≡ recordCount bytes) where

@@ -163,7 +163,8 @@ fn kind_of(bytes: &[u8], k: usize) -> u8
     requires { ⌜ k < recordCount (now bytes) ⌝ }
     ensures { λ r. ⌜ r ≡ recordAt (now (bytes .entry)) k .kind ⌝ }
 {
-    bytes[WIDTH * k]
+    let part = record_part(bytes, k);
+    part[0]
 }
 
 // The inversion byte of a record within the end.
@@ -171,7 +172,8 @@ fn inversion_of(bytes: &[u8], k: usize) -> u8
     requires { ⌜ k < recordCount (now bytes) ⌝ }
     ensures { λ r. ⌜ r ≡ recordAt (now (bytes .entry)) k .inversion ⌝ }
 {
-    bytes[WIDTH * k + 1]
+    let part = record_part(bytes, k);
+    part[1]
 }
 
 // The level of a record within the end.
@@ -179,7 +181,7 @@ fn level_of(bytes: &[u8], k: usize) -> u16
     requires { ⌜ k < recordCount (now bytes) ⌝ }
     ensures { λ r. ⌜ r ≡ recordAt (now (bytes .entry)) k .level ⌝ }
 {
-    two_bytes(bytes, WIDTH * k + 2)
+    two_bytes(record_part(bytes, k), 2)
 }
 
 // Slot j of a record within the end.
@@ -188,7 +190,7 @@ fn slot_of(bytes: &[u8], k: usize, j: usize) -> u16
     requires { ⌜ j < slots ⌝ }
     ensures { λ r. ⌜ r ≡ Records.slot (recordAt (now (bytes .entry)) k) j ⌝ }
 {
-    two_bytes(bytes, WIDTH * k + (4 + 2 * j))
+    two_bytes(record_part(bytes, k), 4 + 2 * j)
 }
 
 // The kind of record k.
