@@ -6,7 +6,7 @@ use libc::STDIN_FILENO;
 use libc::STDOUT_FILENO;
 
 // One byte, and a source of one record more than the longest.
-const INPUT_LIMIT: usize = 40971;
+const INPUT_LIMIT: usize = 1 + netlist::WIDTH * (netlist::SOURCE_LIMIT + 1);
 
 const AREA: usize = 60000;
 
