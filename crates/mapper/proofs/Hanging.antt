@@ -17,7 +17,7 @@ use Rattle.netlist.specs.Kinds.{slots, topLevel, arity}
 use Rattle.netlist.specs.Records.{Netlist}
 use Rattle.fanout.specs.Nets.{sinkAt, nodesAt}
 use Rattle.mapper.specs.Mapped.{netRow, buffersOf, treeSize, parent, rank, sinkNumber, sinkParent, Ready}
-use Rattle.mapper.specs.Chains.{slotEnd, usedSlot, faninSlot, namesSlot, nextSink, sinksBelow, Chained, Hung, Hangable, Noded}
+use Rattle.mapper.specs.Chains.{slotEnd, usedSlot, faninSlot, namesSlot, nextSink, sinksBelow, Chained, behind, Hung, Hangable, Noded}
 use Rattle.facts.proofs.Blocks.{block-before}
 use Rattle.mapper.proofs.Mapped.{tree-sum}
 use Rattle.mapper.proofs.Nodes.{pos, IsNode, nodes-split, source-node, parent-inside}
@@ -143,19 +143,19 @@ module _ (n : Netlist) (s d : ℕ) (first next₀ : List ℕ) (end : ℕ) (count
       node =
           rw (number-is, away-is) (sink-node n s (h .ready) d p in-chain named)
 
-      on-base : parent n s d (up - low) (getD counts (up - low) 0) ≡ getD base (up - low) 0 + getD counts (up - low) 0 / s
+      on-base : parent n s d (up - low) (getD counts (up - low) 0) ≡ getD base (up - low) 0 + behind s (up - low) (getD counts (up - low) 0)
       on-base =
-          parent-from n s (h .ready) d (up - low) (getD counts (up - low) 0) node
-          ∙ ap (λ (x : ℕ). x + getD counts (up - low) 0 / s)
+          parent-from n s d (up - low) (getD counts (up - low) 0)
+          ∙ ap (λ (x : ℕ). x + behind s (up - low) (getD counts (up - low) 0))
           (sym (h .based .at (up - low) (node .above) (omega (arith, node .number))))
 
-      hangs-on : sinkParent n s (p / slots) (p % slots) ≡ getD base (up - low) 0 + getD counts (up - low) 0 / s
+      hangs-on : sinkParent n s (p / slots) (p % slots) ≡ getD base (up - low) 0 + behind s (up - low) (getD counts (up - low) 0)
       hangs-on = sink-parent n s (h .ready) d p in-chain named ∙ by-level ∙ on-base
         where
           by-level : parent n s d (away n p d) (flatNumbered n s p d) ≡ parent n s d (up - low) (getD counts (up - low) 0)
           by-level = rw (number-is, away-is) refl
 
-      pub hang-parent : getD base (up - low) 0 + getD counts (up - low) 0 / s < 65536
+      pub hang-parent : getD base (up - low) 0 + behind s (up - low) (getD counts (up - low) 0) < 65536
       hang-parent =
           omega (arith, on-base, parent-inside n s (h .ready) d (up - low) (getD counts (up - low) 0) node, h .ready .fits)
 
@@ -173,7 +173,7 @@ module _ (n : Netlist) (s d : ℕ) (first next₀ : List ℕ) (end : ℕ) (count
             h .ready .fits,
           )
 
-      pub hang-more : (q t : ℕ) → q ≡ getD next p 0 → t ≡ getD base (up - low) 0 + getD counts (up - low) 0 / s →
+      pub hang-more : (q t : ℕ) → q ≡ getD next p 0 → t ≡ getD base (up - low) 0 + behind s (up - low) (getD counts (up - low) 0) →
           Hanging n s first end d q (set next p t) (set counts (up - low) (getD counts (up - low) 0 + 1))
       hang-more q t e g =
           record {

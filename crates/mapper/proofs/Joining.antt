@@ -1,11 +1,13 @@
 -- Laws of writing records one after the other: the first j of n are written.
-use Prim.Native.Nat.{ℕ, _+_, _*_, _≤_, _<_, _/_}
+use Prim.Native.Nat.{ℕ, zero, suc, _+_, _*_, _≤_, _<_, _/_}
 use mathlib.Core.Path.{_≡_, refl, sym, _∙_, ap, ap₂}
 use mathlib.Core.Bool.{cond}
 use mathlib.Core.List.{List, _++_}
 use native.Mathlib.Omega.{arith}
 use native.Mathlib.Nat.{add-zero, zero-add, div-le-self}
 use native.Mathlib.Numerals.{add-one}
+use mir.Val.{Fits}
+use mir.Syntax.{w16}
 use lib.ListN.{length, take, drop, take-append-drop}
 use lib.Dec.{ltb}
 use borrow.Author.Tests.{lt-ltb, le-ltb}
@@ -14,7 +16,7 @@ use Rattle.netlist.specs.Kinds.{width, arity}
 use Rattle.netlist.specs.Records.{recordAt}
 use Rattle.mapper.specs.Bytes.{joined, encode, encoded, put}
 use Rattle.mapper.specs.Mapped.{bufferOf}
-use Rattle.mapper.specs.Chains.{levelRecord, relinked, relinkedAt}
+use Rattle.mapper.specs.Chains.{behind, levelRecord, relinked, relinkedAt}
 use Rattle.mapper.proofs.Bytes.{length-joined, length-encode}
 use Rattle.mapper.proofs.Area.{length-put, put-behind}
 
@@ -71,17 +73,39 @@ module _ (area₀ : List ℕ) (at : ℕ) (f : ℕ → Record) (n : ℕ) where
         place : width * (at + j) ≡ width * at + length so-far
         place = omega (arith, long-so-far)
 
--- buffer j of a distance: what it hangs on, and its record
-pub level-parent : (base s n j : ℕ) → j < n → base + n < 65536 → base + j / s < 65536
-level-parent base s n j l b = omega (arith, div-le-self j s)
+-- what node q of distance k hangs on, by distance
+pub behind-near : (s k q base : ℕ) → k < 2 → base ≡ base + behind s k q
+unfolding behind
+behind-near s zero q base l = sym (add-zero base)
+behind-near s (suc zero) q base l = sym (add-zero base)
+behind-near s (suc (suc k)) q base l = absurd (omega arith)
 
-module _ (area₀ : List ℕ) (s at level base n : ℕ) (area : List ℕ) (j : ℕ) (h : Joining area₀ at (levelRecord s level base) n area j) where
-  pub level-more : (fanin : ℕ) (r : Record) (after : List ℕ) → width * (at + n) ≤ length area₀ → j < n → fanin ≡ base + j / s →
+pub behind-far : (s k q base t : ℕ) → 2 ≤ k → t ≡ q / s → base + t ≡ base + behind s k q
+unfolding behind
+behind-far s zero q base t l e = absurd (omega arith)
+behind-far s (suc zero) q base t l e = absurd (omega arith)
+behind-far s (suc (suc k)) q base t l e = ap (λ (x : ℕ). base + x) e
+
+pub behind-fits : (s k q base t : ℕ) → 2 ≤ k → t ≡ q / s → base + behind s k q < 65536 → Fits w16 (base + t)
+behind-fits s k q base t l e b = omega (arith, behind-far s k q base t l e)
+
+pub share-fits : (s k q base t : ℕ) → 2 ≤ k → t ≡ q / s → base + behind s k q < 65536 → Fits w16 t
+share-fits s k q base t l e b = omega (arith, behind-far s k q base t l e)
+
+-- buffer j of distance k: what it hangs on, and its record
+pub level-parent : (base s k n j : ℕ) → j < n → base + n < 65536 → base + behind s k j < 65536
+unfolding behind
+level-parent base s zero n j l b = omega arith
+level-parent base s (suc zero) n j l b = omega arith
+level-parent base s (suc (suc k)) n j l b = omega (arith, div-le-self j s)
+
+module _ (area₀ : List ℕ) (s k at level base n : ℕ) (area : List ℕ) (j : ℕ) (h : Joining area₀ at (levelRecord s k level base) n area j) where
+  pub level-more : (fanin : ℕ) (r : Record) (after : List ℕ) → width * (at + n) ≤ length area₀ → j < n → fanin ≡ base + behind s k j →
       r ≡ bufferOf level fanin → after ≡ put area (width * (at + j)) (encode r) →
-      Joining area₀ at (levelRecord s level base) n after (j + 1)
+      Joining area₀ at (levelRecord s k level base) n after (j + 1)
   unfolding levelRecord
   level-more fanin r after room l e f g =
-      join-more area₀ at (levelRecord s level base) n area j h r after room l (f ∙ ap (bufferOf level) e) g
+      join-more area₀ at (levelRecord s k level base) n area j h r after room l (f ∙ ap (bufferOf level) e) g
 
 -- record i of the source: read, rewired and written
 pub new-used : (j a kind x y : ℕ) → a ≡ arity kind → j < a → x ≡ cond (ltb j (arity kind)) x y

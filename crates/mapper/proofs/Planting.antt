@@ -1,48 +1,45 @@
 -- Laws of writing one tree: the buffers at distances below k are written.
-use Prim.Native.Nat.{ℕ, zero, suc, _+_, _-_, _*_, _≤_, _<_, _/_}
+use Prim.Native.Nat.{ℕ, zero, suc, _+_, _-_, _*_, _≤_, _<_}
 use mathlib.Core.Path.{_≡_, refl, sym, _∙_, ap, ap₂}
 use mathlib.Core.List.{List}
 use native.Mathlib.Omega.{arith}
-use native.Mathlib.Nat.{zero-div, div-eq-of-lt}
+use native.Mathlib.Nat.{zero-div}
 use native.Mathlib.Numerals.{add-one}
 use native.Mathlib.Decide.{decLt, ℕ-discrete}
 use mir.Val.{Fits}
 use mir.Syntax.{w16, w64}
 use lib.ListN.{length, getD, set, length-set}
 use lib.Seq.{getD-set-same, getD-set-other}
-use borrow.Author.Tests.{leb-true}
 use Rattle.facts.specs.Sums.{sum}
 use Rattle.facts.proofs.Sums.{sum-none, sum-append, sum-more}
 use Rattle.netlist.specs.Kinds.{width, topLevel}
 use Rattle.netlist.specs.Records.{Netlist}
-use Rattle.fanout.specs.Nets.{up, nodesAt}
+use Rattle.fanout.specs.Nets.{up}
 use Rattle.fanout.proofs.Nets.{up-zero}
 use Rattle.mapper.specs.Bytes.{encoded, recs, put, written}
-use Rattle.fanout.specs.Answer.{driverCapacity}
-use Rattle.mapper.specs.Mapped.{netRow, buffersOf, treeSize, blockStart, mappedSize, place, parent, bufferOf, bufferRecord, mappedAt, mapped, Ready}
-use Rattle.mapper.specs.Chains.{levelRecord, Net, Based}
+use Rattle.mapper.specs.Mapped.{buffersOf, treeSize, blockStart, mappedSize, place, parent, bufferOf, bufferRecord, mappedAt, mapped, Ready}
+use Rattle.mapper.specs.Chains.{behind, levelRecord, Net, Based}
 use Rattle.facts.proofs.Blocks.{block-before}
 use Rattle.mapper.proofs.Mapped.{tree-sum, at-place}
-use Rattle.mapper.proofs.Nodes.{pos, IsNode, buffer-node}
+use Rattle.mapper.proofs.Nodes.{pos}
 use Rattle.mapper.proofs.Area.{encoded-cong, written-none, written-more, written-length}
 
-module _ (n : Netlist) (s : ℕ) (r : Ready n s) where
-  -- node q hangs q / s records behind what the first node hangs on
-  pub parent-from : (d k q : ℕ) → IsNode n s r d k q → parent n s d k q ≡ parent n s d k 0 + q / s
-  unfolding parent
-  parent-from d zero q h = absurd (omega (arith, h .above))
-  parent-from d (suc zero) q h =
-      omega (arith, div-eq-of-lt {n = q} {m = s} (omega (arith, h .number, leb-true (nodesAt s (netRow n d) 1) driverCapacity (r .trees d (h .driver)), r .low)))
-  parent-from d (suc (suc k)) q h = omega (arith, zero-div s)
+-- what node q hangs on, from what the first node of its distance hangs on
+pub parent-from : (n : Netlist) (s d k q : ℕ) → parent n s d k q ≡ parent n s d k 0 + behind s k q
+unfolding parent behind
+parent-from n s d zero q = omega arith
+parent-from n s d (suc zero) q = omega arith
+parent-from n s d (suc (suc k)) q = omega (arith, zero-div s)
 
+module _ (n : Netlist) (s : ℕ) (r : Ready n s) where
   -- the buffers of a distance
   level-records : (d k : ℕ) → d < n .size → k ≤ topLevel →
-      encoded (levelRecord s (n .at d .level + k) (parent n s d k 0)) (buffersOf n s d k) ≡ recs (mapped n s) (place n s d k 0) (buffersOf n s d k)
+      encoded (levelRecord s k (n .at d .level + k) (parent n s d k 0)) (buffersOf n s d k) ≡ recs (mapped n s) (place n s d k 0) (buffersOf n s d k)
   unfolding levelRecord bufferRecord
   level-records d k ld l =
       encoded-cong _ _ (buffersOf n s d k)
       (λ j b.
-      ap (bufferOf (n .at d .level + k)) (sym (parent-from d k j (buffer-node n s r d k j ld l b)))
+      ap (bufferOf (n .at d .level + k)) (sym (parent-from n s d k j))
       ∙ sym (at-place n s (pos n s r) d k j ld l b)
       ∙ ap (mappedAt n s) (next j))
     where
@@ -140,7 +137,7 @@ module _ (n : Netlist) (s d start top : ℕ) (counts area₀ : List ℕ) (h : Ne
       plant-level low f = omega (arith, h .near, h .ready .source .levels d (h .driver))
 
       pub plant-more : (low c : ℕ) (after : List ℕ) → low ≡ n .at d .level → c ≡ getD counts k 0 →
-          after ≡ put area (width * at) (encoded (levelRecord s (low + k) from) (getD counts k 0)) →
+          after ≡ put area (width * at) (encoded (levelRecord s k (low + k) from) (getD counts k 0)) →
           Planting n s d start top area₀ (set base k from) after (at + c) at (k + 1)
       plant-more low c after f m g =
           record {
@@ -168,7 +165,7 @@ module _ (n : Netlist) (s d start top : ℕ) (counts area₀ : List ℕ) (h : Ne
           so-far : sum (buffersOf n s d) k + getD counts k 0 ≡ sum (buffersOf n s d) (k + 1)
           so-far = rw (add-one k) (omega (arith, counted, next-sum))
 
-          level-bytes : encoded (levelRecord s (low + k) from) (getD counts k 0) ≡ recs (mapped n s) at (getD counts k 0)
+          level-bytes : encoded (levelRecord s k (low + k) from) (getD counts k 0) ≡ recs (mapped n s) at (getD counts k 0)
           level-bytes =
               rw (f, p .hung, counted, at-place-k) (level-records n s (h .ready) d k (h .driver) (omega (arith, h .near)))
 

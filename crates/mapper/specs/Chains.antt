@@ -1,5 +1,5 @@
 -- What the mapper's local arrays hold. Slots go by number: slot y is slot y % 3 of record y / 3.
-use Prim.Native.Nat.{ℕ, suc, _+_, _-_, _*_, _≤_, _<_, _/_, _%_}
+use Prim.Native.Nat.{ℕ, zero, suc, _+_, _-_, _*_, _≤_, _<_, _/_, _%_}
 use mathlib.Core.Path.{_≡_}
 use mathlib.Core.Bool.{Bool, true, cond}
 use mathlib.Core.List.{List}
@@ -142,9 +142,15 @@ pub record Noded (n : Netlist) (s d : ℕ) (counts : List ℕ) : Type 0 where
   pub size : length counts ≡ suc topLevel
   pub at : (k : ℕ) → 1 ≤ k → k ≤ topLevel → getD counts k 0 ≡ nodesAt s (netRow n d) k
 
--- buffer j at a level, of which s hang on each record from base on
-unfoldable pub levelRecord : ℕ → ℕ → ℕ → ℕ → Record
-levelRecord s level base j = bufferOf level (base + j / s)
+-- how far behind the parent of the first node of distance k that of node q stands: at distance 1 all hang on the driver
+unfoldable pub behind : ℕ → ℕ → ℕ → ℕ
+behind s zero q = 0
+behind s (suc zero) q = 0
+behind s (suc (suc k)) q = q / s
+
+-- buffer j of distance k at its level, where the first one hangs on base
+unfoldable pub levelRecord : ℕ → ℕ → ℕ → ℕ → ℕ → Record
+levelRecord s k level base j = bufferOf level (base + behind s k j)
 
 -- the arrays and the area before the net of d is written at record at
 pub record Writable (n : Netlist) (s d at : ℕ) (first next : List ℕ) (end : ℕ) (counts base area : List ℕ) : Type 0 where

@@ -14,7 +14,7 @@ ghost use Rattle.mapper.specs.Bytes.{encode, encoded, put, written, byte
 ghost use Rattle.mapper.specs.Mapped.{treeSize, blockStart, mappedSize, bufferOf, mapped, Ready};
 ghost use Rattle.mapper.specs.Answer.{treesBelow, gates, share, refusal, figures, mapAnswer, mapArea};
 ghost use Rattle.mapper.specs.View.{noEnds, blockEnds, blockView};
-ghost use Rattle.mapper.specs.Chains.{Linked, Chained, Filled, Walkable, Walked, Drained, Stale, Measured, sizingOf, levelRecord, Net, Based, Hung, Hangable, Noded, Writable, Wrote, relinked, relinkedAt, Counted, Maps};
+ghost use Rattle.mapper.specs.Chains.{Linked, Chained, Filled, Walkable, Walked, Drained, Stale, Measured, sizingOf, behind, levelRecord, Net, Based, Hung, Hangable, Noded, Writable, Wrote, relinked, relinkedAt, Counted, Maps};
 use facts::Checked;
 use fanout::DISTANCES;
 use fanout::DRIVER_CAPACITY;
@@ -347,28 +347,29 @@ fn buffer_of(level: u16, fanin: u16) -> Record
     }
 }
 
-// What node q of a distance hangs on, where the first node hangs on base.
-fn parent_of(base: u16, s: u32, q: u32) -> u16
+// What node q of distance k hangs on, where the first node hangs on base: at distance 1 all hang on the driver.
+fn parent_of(base: u16, s: u32, k: usize, q: u32) -> u16
     requires { ⌜ (2 ≤ s) × (s ≤ 4) ⌝ }
-    requires { ⌜ base + q / s < 65536 ⌝ }
-    ensures { λ r. ⌜ r ≡ base + q / s ⌝ }
+    requires { ⌜ base + behind s k q < 65536 ⌝ }
+    ensures { λ r. ⌜ r ≡ base + behind s k q ⌝ }
 {
-    base + divide(q, s) as u16
+    let back = divide(q, s);
+    if k < 2 { base } else { base + back as u16 }
 }
 
-// The buffers of one distance, from record at on.
-fn write_level(area: &mut [u8], s: u32, at: usize, level: u16, base: u16, n: u32)
+// The buffers of distance k, from record at on.
+fn write_level(area: &mut [u8], s: u32, k: usize, at: usize, level: u16, base: u16, n: u32)
     requires { ⌜ (2 ≤ s) × (s ≤ 4) ⌝ }
     requires { ⌜ width * (at + n) ≤ length (now area) ⌝ }
     requires { ⌜ base + n < 65536 ⌝ }
-    ensures { λ _. ⌜ now (area .exit) ≡ put (now (area .entry)) (width * at) (encoded (levelRecord s level base) n) ⌝ }
+    ensures { λ _. ⌜ now (area .exit) ≡ put (now (area .entry)) (width * at) (encoded (levelRecord s k level base) n) ⌝ }
 {
     let mut j: u32 = 0;
     while j < n {
         write_record(
             area,
             at + j as usize,
-            buffer_of(level, parent_of(base, s, j)),
+            buffer_of(level, parent_of(base, s, k, j)),
         );
         j += 1;
     }
@@ -400,7 +401,7 @@ fn write_buffers(
     while k <= top {
         let n = row[k];
         base[k] = from;
-        write_level(area, s, at, low + k as u16, from, n);
+        write_level(area, s, k, at, low + k as u16, from, n);
         from = at as u16;
         at += amount(n);
         k += 1;
@@ -430,7 +431,7 @@ fn hang_sinks(
         let k = (netlist::level_at(source, p / SLOTS) - low) as usize;
         let q = row[k];
         row[k] = q + 1;
-        next[p] = parent_of(base[k], s, q);
+        next[p] = parent_of(base[k], s, k, q);
         p = after;
     }
 }

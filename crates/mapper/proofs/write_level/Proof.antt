@@ -7,10 +7,10 @@ use Rattle.mapper.proofs.write_level.Statement.{statement}
 use Rattle.mapper.proofs.write_level.Tie as tie
 
 abbrev Inv-loop : tie.InvT-loop
-Inv-loop area₀ s at level base n j₀ area j = Joining area₀ at (levelRecord s level base) n area j
+Inv-loop area₀ s k at level base n j₀ area j = Joining area₀ at (levelRecord s k level base) n area j
 
 abbrev μ-loop : tie.MeasureT-loop
-μ-loop area₀ s at level base n j₀ area j = n - j
+μ-loop area₀ s k at level base n j₀ area j = n - j
 
 loop-holds : tie.Need-loop-holds Inv-loop μ-loop
 loop-holds c = search join-start
@@ -37,7 +37,10 @@ loop-less : tie.Need-loop-less Inv-loop μ-loop
 loop-less c = search needs
 
 loop-again : tie.Need-loop-again Inv-loop μ-loop
-loop-again c = search level-more
+loop-again c =
+    let w = c .before .before in
+    let l = w .before .before .before .before .before in
+    level-more _ _ _ _ _ _ _ _ _ (l .loop .inv) _ _ _ (search needs) (search needs) (w .before .before .parent-of .ensures) (w .before .buffer-of .ensures) (w .write-record .ensures)
 
 same-length : tie.Need-same-length Inv-loop μ-loop
 same-length c = search needs
