@@ -22,7 +22,7 @@ use Rattle.netlist.specs.Source.{IsSource}
 use Rattle.netlist.proofs.Source.{input-passed}
 use Rattle.mapper.specs.declared.Mapping.{Mapping}
 use Rattle.mapper.specs.Bytes.{bytesOf, onto}
-use Rattle.mapper.specs.Mapped.{treeSize, mappedSize, mapped, Ready}
+use Rattle.mapper.specs.Mapped.{treeSize, bufferTotal, mappedSize, mapped, Ready}
 use Rattle.mapper.specs.Answer.{gatePrice, bufferPrice, gates, share, junctions, figures, answerOf, areaOf, refusal, noTree, treeCheck, treesBelow, treeChecks, tooLarge, tooShort, sourceMaps, mapChecks, mapAnswer, mapArea}
 use Rattle.mapper.specs.declared.Sizing.{Sizing}
 use Rattle.mapper.specs.declared.Sizing.the-variants.{Total, Refuses}
@@ -123,16 +123,15 @@ module _ (bytes : List ℕ) (s : ℕ) (area : List ℕ) where
     unfolding mapChecks sourceMaps
     trees-refuse number place e = rw (i, e) refl
 
-    pub refused-tree : (number place m total : ℕ) (z : Sizing) (r : Mapping) → m ≡ recordCount bytes →
-        z ≡ sizingOf (treesBelow (netlist bytes) s m) total → z ≡ Refuses number place → r ≡ refusal number place →
-        r ≡ mapAnswer bytes s area
-    refused-tree number place m total z r size e f g =
-        g ∙ answer-is (Refused number place) (trees-refuse number place (refusing bytes s number place m total z size e f))
+    pub refused-tree : (number place total : ℕ) (z : Sizing) (r : Mapping) → z ≡ sizingOf (treeChecks (netlist bytes) s) total →
+        z ≡ Refuses number place → r ≡ refusal number place → r ≡ mapAnswer bytes s area
+    refused-tree number place total z r e f g =
+        g ∙ answer-is (Refused number place) (trees-refuse number place (refusing (netlist bytes) s number place total z e f))
 
-    pub kept-tree : (number place m total : ℕ) (z : Sizing) → m ≡ recordCount bytes → z ≡ sizingOf (treesBelow (netlist bytes) s m) total →
+    pub kept-tree : (number place total : ℕ) (z : Sizing) → z ≡ sizingOf (treeChecks (netlist bytes) s) total →
         z ≡ Refuses number place → area ≡ mapArea bytes s area
-    kept-tree number place m total z size e f =
-        area-is (Refused number place) (trees-refuse number place (refusing bytes s number place m total z size e f))
+    kept-tree number place total z e f =
+        area-is (Refused number place) (trees-refuse number place (refusing (netlist bytes) s number place total z e f))
 
 -- what 1 to 7 show
 module _ (bytes : List ℕ) (s : ℕ) (i : inputChecks s bytes ≡ Passed) where
@@ -152,22 +151,29 @@ module _ (bytes : List ℕ) (s : ℕ) (i : inputChecks s bytes ≡ Passed) where
     input-unlinked next l =
         rw size (link-start (netlist bytes) (replicate sourceLimit (slotEnd (netlist bytes))) next refl l (input-source .few))
 
-    pub input-chained : (first next : List ℕ) → Linked (netlist bytes) first next 0 → Chained (netlist bytes) first next 0 (slots * N)
-    input-chained first next l = chained-all (netlist bytes) first next (slots * N) input-source l (ap (λ (k : ℕ). slots * k) size)
+    pub input-chained : (first next : List ℕ) (end : ℕ) → end ≡ slots * N → Linked (netlist bytes) first next 0 →
+        Chained (netlist bytes) first next 0 end
+    input-chained first next end e l =
+        chained-all (netlist bytes) first next end input-source l (e ∙ ap (λ (k : ℕ). slots * k) size)
 
-    -- the trees are counted
-    module _ (total : ℕ) (z : Sizing) (e : z ≡ sizingOf (treesBelow (netlist bytes) s N) (sum (treeSize (netlist bytes) s) N))
-        (f : z ≡ Total total) where
-      pub counted-all : (first next : List ℕ) → Linked (netlist bytes) first next 0 → Counted bytes s N first next (slots * N) total
-      counted-all first next l =
-          let c = counting (netlist bytes) s N total z e f in
-          record {
-            input = i;
-            trees = ap (treesBelow (netlist bytes) s) (sym size) ∙ c .0;
-            chained = input-chained first next l;
-            records = size;
-            buffers = c .1 ∙ ap (sum (treeSize (netlist bytes) s)) size;
-          }
+    -- the trees of all records are all trees
+    pub input-sized : (z : Sizing) → z ≡ sizingOf (treesBelow (netlist bytes) s N) (sum (treeSize (netlist bytes) s) N) →
+        z ≡ sizingOf (treeChecks (netlist bytes) s) (bufferTotal (netlist bytes) s)
+    input-sized z e =
+        e ∙ ap (λ (m : ℕ). sizingOf (treesBelow (netlist bytes) s m) (sum (treeSize (netlist bytes) s) m)) size
+
+    pub counted-all : (total : ℕ) (z : Sizing) → z ≡ sizingOf (treeChecks (netlist bytes) s) (bufferTotal (netlist bytes) s) →
+        z ≡ Total total → (first next : List ℕ) (end : ℕ) → Chained (netlist bytes) first next 0 end →
+        Counted bytes s N first next end total
+    counted-all total z e f first next end l =
+        let c = counting (netlist bytes) s (recordCount bytes) total z e f in
+        record {
+          input = i;
+          trees = c .0;
+          chained = l;
+          records = size;
+          buffers = c .1;
+        }
 
 -- what 1 to 9 show
 pub passed-ready : (bytes : List ℕ) (s : ℕ) → inputChecks s bytes ≡ Passed → treeChecks (netlist bytes) s ≡ Passed →

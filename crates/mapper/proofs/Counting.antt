@@ -17,7 +17,7 @@ use Rattle.facts.specs.Sums.{sum}
 use Rattle.facts.proofs.Sums.{sum-mono, sum-const}
 use Rattle.facts.proofs.Loops.{Scanning, scan-start, scan-more, scan-stop, scan-end}
 use Rattle.netlist.specs.Kinds.{slots, topLevel, sourceLimit}
-use Rattle.netlist.specs.Records.{Netlist, netlist, recordCount}
+use Rattle.netlist.specs.Records.{Netlist}
 use Rattle.netlist.specs.Source.{IsSource}
 use Rattle.fanout.specs.Nets.{row, nodesAt, buffers}
 use Rattle.fanout.proofs.Nets.{row-length}
@@ -101,10 +101,9 @@ module _ (n : Netlist) (s : ℕ) where
           }
 
 -- what an answer of the count says
-pub refusing : (bytes : List ℕ) (s number place m total : ℕ) (z : Sizing) → m ≡ recordCount bytes →
-    z ≡ sizingOf (treesBelow (netlist bytes) s m) total → z ≡ Refuses number place → treeChecks (netlist bytes) s ≡ Refused number place
-refusing bytes s number place m total z size e f =
-    ap (treesBelow (netlist bytes) s) (sym size) ∙ go (treesBelow (netlist bytes) s m) (sym e ∙ f)
+pub refusing : (n : Netlist) (s number place total : ℕ) (z : Sizing) → z ≡ sizingOf (treeChecks n s) total → z ≡ Refuses number place →
+    treeChecks n s ≡ Refused number place
+refusing n s number place total z e f = go (treeChecks n s) (sym e ∙ f)
   where
     go : (a : Checked) → sizingOf a total ≡ Refuses number place → a ≡ Refused number place
     go Passed g = let z : _≡_ {A = ℕ} 0 1 = cc in absurd (omega arith)

@@ -50,10 +50,10 @@ module _ (bytes : List ℕ) (s d : ℕ) where
     unfolding sourceMaps
     trees-refuse number place e = rw (i, e) refl
 
-    pub ends-tree : (number place m total : ℕ) (z : Sizing) (r : Ends) → m ≡ recordCount bytes →
-        z ≡ sizingOf (treesBelow (netlist bytes) s m) total → z ≡ Refuses number place → r ≡ noEnds → r ≡ blockEnds bytes s d
-    ends-tree number place m total z r size e f g =
-        g ∙ ends-are (Refused number place) (trees-refuse number place (refusing bytes s number place m total z size e f))
+    pub ends-tree : (number place total : ℕ) (z : Sizing) (r : Ends) → z ≡ sizingOf (treeChecks (netlist bytes) s) total →
+        z ≡ Refuses number place → r ≡ noEnds → r ≡ blockEnds bytes s d
+    ends-tree number place total z r e f g =
+        g ∙ ends-are (Refused number place) (trees-refuse number place (refusing (netlist bytes) s number place total z e f))
 
 -- 9
 module _ (bytes : List ℕ) (s N : ℕ) (first next : List ℕ) (end total : ℕ) (h : Counted bytes s N first next end total) where

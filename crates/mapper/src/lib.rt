@@ -11,8 +11,8 @@ ghost use Rattle.netlist.specs.Checks.{inputChecks};
 ghost use Rattle.netlist.specs.Source.{IsSource};
 ghost use Rattle.fanout.specs.Nets.{up};
 ghost use Rattle.mapper.specs.Bytes.{encode, encoded, put, written, bytesOf, onto};
-ghost use Rattle.mapper.specs.Mapped.{treeSize, blockStart, mappedSize, bufferOf, mapped, Ready};
-ghost use Rattle.mapper.specs.Answer.{treesBelow, gates, share, refusal, figures, mapAnswer, mapArea};
+ghost use Rattle.mapper.specs.Mapped.{treeSize, blockStart, bufferTotal, mappedSize, bufferOf, mapped, Ready};
+ghost use Rattle.mapper.specs.Answer.{treesBelow, treeChecks, gates, share, refusal, figures, mapAnswer, mapArea};
 ghost use Rattle.mapper.specs.View.{noEnds, blockEnds, blockView};
 ghost use Rattle.mapper.specs.Chains.{Linked, Chained, Filled, Walkable, Walked, Drained, Stale, Measured, sizingOf, behind, levelRecord, Net, Based, Hung, Hangable, Noded, Writable, Wrote, relinked, relinkedAt, Counted, Maps};
 use facts::Checked;
@@ -289,6 +289,29 @@ fn count_trees(
         d += 1;
     }
     Sizing::Total(total)
+}
+
+// All trees of a source that passes 1 to 7: its slots are linked, and the buffers counted. The row is all zero before and after.
+fn size_trees(
+    source: &[u8],
+    s: u32,
+    n: usize,
+    end: usize,
+    first: &mut [u16; RECORDS],
+    next: &mut [u16; SINKS],
+    row: &mut [u32; DISTANCES],
+) -> Sizing
+    requires { ⌜ inputChecks s (now source) ≡ Checked.Passed ⌝ }
+    requires { ⌜ n ≡ recordCount (now source) ⌝ }
+    requires { ⌜ end ≡ slots * n ⌝ }
+    requires { ⌜ Linked (netlist (now source)) (now first) (now next) (slots * n) ⌝ }
+    requires { ⌜ now row ≡ replicate (suc topLevel) 0 ⌝ }
+    ensures { λ r. ⌜ r ≡ sizingOf (treeChecks (netlist (now (source .entry))) s) (bufferTotal (netlist (now (source .entry))) s) ⌝ }
+    ensures { λ _. ⌜ Chained (netlist (now (source .entry))) (now (first .exit)) (now (next .exit)) 0 end ⌝ }
+    ensures { λ _. ⌜ now (row .exit) ≡ replicate (suc topLevel) 0 ⌝ }
+{
+    link_all(source, n, first, next);
+    count_trees(source, s, n, end, first, next, row)
 }
 
 // The low and the high byte of a field.
@@ -680,8 +703,7 @@ fn map_source(source: &[u8], s: u32, area: &mut [u8]) -> Mapping
     let mut first = [end as u16; RECORDS];
     let mut next = [0u16; SINKS];
     let mut row = [0u32; DISTANCES];
-    link_all(source, n, &mut first, &mut next);
-    let sizing = count_trees(source, s, n, end, &first, &next, &mut row);
+    let sizing = size_trees(source, s, n, end, &mut first, &mut next, &mut row);
     match sizing {
         Sizing::Total(total) => map_trees(
             source,
@@ -793,8 +815,7 @@ fn source_ends(source: &[u8], s: u32, d: usize) -> Ends
     let mut first = [end as u16; RECORDS];
     let mut next = [0u16; SINKS];
     let mut row = [0u32; DISTANCES];
-    link_all(source, n, &mut first, &mut next);
-    let sizing = count_trees(source, s, n, end, &first, &next, &mut row);
+    let sizing = size_trees(source, s, n, end, &mut first, &mut next, &mut row);
     match sizing {
         Sizing::Total(total) => counted_ends(source, s, n, end, &first, &next, total, d),
         Sizing::Refuses(_, _) => no_ends(),

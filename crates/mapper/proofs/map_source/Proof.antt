@@ -1,5 +1,5 @@
 -- `map_source` meets its contract: the chains, the trees, then 8 or what follows it.
-use Rattle.mapper.proofs.Answering.{input-source, input-capacity, input-end, input-unlinked, input-chained, counted-all, refused-tree, kept-tree}
+use Rattle.mapper.proofs.Answering.{input-end, input-unlinked, counted-all, refused-tree, kept-tree}
 use borrow.Author.Needs.{needs}
 use Rattle.mapper.proofs.map_source.Statement.{statement}
 use Rattle.mapper.proofs.map_source.Tie as tie
@@ -13,18 +13,15 @@ mul-end c = search needs
 cast-first : tie.Need-cast-first
 cast-first c = search input-end
 
-link-all-requires : tie.Need-link-all-requires
-link-all-requires c κs = (search input-source, (search needs, search (needs, input-unlinked)))
-
-count-trees-requires : tie.Need-count-trees-requires
-count-trees-requires c κs = (search (needs, input-chained), (search input-capacity, (search needs, search needs)))
+size-trees-requires : tie.Need-size-trees-requires
+size-trees-requires c κs = (search needs, (search needs, (search needs, (search (needs, input-unlinked), search needs))))
 
 enum-known-sizing : tie.Need-enum-known-sizing
 enum-known-sizing c = search needs
 
 map-trees-requires : tie.Need-map-trees-requires
 map-trees-requires c κs =
-    (counted-all _ _ (search needs) _ (search needs) _ _ (search needs) (c .before .before .before .before .before .sizing .given .1) _ _ (search needs), search needs)
+    (counted-all _ _ (search needs) _ (search needs) _ _ (search needs) (c .before .before .before .before .before .sizing .given .1) _ _ _ (search needs), search needs)
 
 enum-known-sizing-2 : tie.Need-enum-known-sizing-2
 enum-known-sizing-2 c = search needs
@@ -48,8 +45,7 @@ map-source-spec =
     record-count-requires
     mul-end
     cast-first
-    link-all-requires
-    count-trees-requires
+    size-trees-requires
     enum-known-sizing
     map-trees-requires
     enum-known-sizing-2

@@ -1,5 +1,5 @@
 -- `source_ends` meets its contract: the chains, the trees, then 8 or what follows it.
-use Rattle.mapper.proofs.Answering.{input-source, input-capacity, input-end, input-unlinked, input-chained, counted-all}
+use Rattle.mapper.proofs.Answering.{input-end, input-unlinked, counted-all}
 use Rattle.mapper.proofs.View.{ends-tree}
 use borrow.Author.Needs.{needs}
 use Rattle.mapper.proofs.source_ends.Statement.{statement}
@@ -14,17 +14,14 @@ mul-end c = search needs
 cast-first : tie.Need-cast-first
 cast-first c = search input-end
 
-link-all-requires : tie.Need-link-all-requires
-link-all-requires c κs = (search input-source, (search needs, search (needs, input-unlinked)))
-
-count-trees-requires : tie.Need-count-trees-requires
-count-trees-requires c κs = (search (needs, input-chained), (search input-capacity, (search needs, search needs)))
+size-trees-requires : tie.Need-size-trees-requires
+size-trees-requires c κs = (search needs, (search needs, (search needs, (search (needs, input-unlinked), search needs))))
 
 enum-known-sizing : tie.Need-enum-known-sizing
 enum-known-sizing c = search needs
 
 counted-ends-requires : tie.Need-counted-ends-requires
-counted-ends-requires c κs = counted-all _ _ (search needs) _ (search needs) _ _ (search needs) (c .before .before .before .sizing .given .1) _ _ (search needs)
+counted-ends-requires c κs = counted-all _ _ (search needs) _ (search needs) _ _ (search needs) (c .before .before .before .sizing .given .1) _ _ _ (search needs)
 
 enum-told : tie.Need-enum-told
 enum-told c = search needs
@@ -45,8 +42,7 @@ source-ends-spec =
     record-count-requires
     mul-end
     cast-first
-    link-all-requires
-    count-trees-requires
+    size-trees-requires
     enum-known-sizing
     counted-ends-requires
     enum-told
