@@ -9,7 +9,7 @@ use native.Mathlib.Omega.{arith}
 use borrow.Author.Tests.{leb-false, lt-leb, not-false, not-true}
 use Rattle.facts.specs.declared.Checked.{Checked}
 use Rattle.facts.specs.declared.Checked.the-variants as checked
-use Rattle.facts.specs.Refusals.{First, FirstAt}
+use Rattle.facts.specs.Refusals.{rowOf, First, FirstAt}
 use Rattle.facts.proofs.Refusals.{exact, rows-before, one-row, first-check, first-after}
 use Rattle.facts.proofs.Reflect.{check-passed, then-passed}
 use Rattle.netlist.specs.Kinds.{isDriver, majority}
@@ -128,7 +128,7 @@ driver-is source d h =
 
 count-first : (s : ℕ) (source : List ℕ) (d : ℕ) → First (CountFails s source d) (countChecks s source d)
 count-first s source d =
-    first-after (rows-before 4 (input-rows s source) (λ n p f. omega (arith, one-row 20 d (NoDriver source d) n p f)))
+    first-after (rows-before (rowOf 7) (input-rows s source) (λ n p f. omega (arith, one-row 20 d (NoDriver source d) n p f)))
     (input-first s source)
     (λ e. first-check 20 d (driver-is source d (input-passed s source e .isSource)))
 

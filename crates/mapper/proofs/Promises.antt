@@ -80,7 +80,7 @@ module _ (bytes : List ℕ) (s : ℕ) where
   tree-rows : Rattle.facts.proofs.Refusals.InRow (rowOf 8) Trees
   tree-rows = scan-rows (λ d. Fails 8 d (Treeless (netlist bytes) s d)) (rowOf 8) 8 8 (recordCount bytes) (λ d. within-one 8 d (Treeless (netlist bytes) s d))
 
-  late-rows : (k p : ℕ) → (Trees or Fails 9 0 (TooLarge (netlist bytes) s)) k p → (4 < rowOf k) × (rowOf k < 7)
+  late-rows : (k p : ℕ) → (Trees or Fails 9 0 (TooLarge (netlist bytes) s)) k p → (rowOf 7 < rowOf k) × (rowOf k ≤ rowOf 9)
   late-rows k p =
       ⊎-elim (λ f. omega (arith, tree-rows k p f)) (λ f. omega (arith, one-row 9 0 (TooLarge (netlist bytes) s) k p f))
 
@@ -88,11 +88,11 @@ module _ (bytes : List ℕ) (s : ℕ) where
   unfolding sourceMaps
   maps-first =
       first-after
-      (rows-before 4 (input-rows s bytes) (λ k p f. late-rows k p f .0))
+      (rows-before (rowOf 7) (input-rows s bytes) (λ k p f. late-rows k p f .0))
       (input-first s bytes)
       (λ i.
       first-then
-      (rows-before 5 (λ k p f. omega (arith, tree-rows k p f)) (λ k p f. omega (arith, one-row 9 0 (TooLarge (netlist bytes) s) k p f)))
+      (rows-before (rowOf 8) (λ k p f. omega (arith, tree-rows k p f)) (λ k p f. omega (arith, one-row 9 0 (TooLarge (netlist bytes) s) k p f)))
       (first-scan (treeCheck (netlist bytes) s) (λ d. Fails 8 d (Treeless (netlist bytes) s d)) (rowOf 8) 8 8
       (λ d. within-one 8 d (Treeless (netlist bytes) s d)) (recordCount bytes)
       (λ d l. first-check 8 d (treeless-is (netlist bytes) s d (input-source bytes s i) (omega (arith, input-capacity bytes s i .0)))))
@@ -102,7 +102,7 @@ module _ (bytes : List ℕ) (s : ℕ) where
   unfolding mapChecks
   map-first area =
       first-then
-      (rows-before 6
+      (rows-before (rowOf 9)
       (λ k p. ⊎-elim (λ f. omega (arith, input-rows s bytes k p f)) (λ f. omega (arith, late-rows k p f)))
       (λ k p f. omega (arith, one-row 10 0 (TooShort (netlist bytes) s area) k p f)))
       maps-first

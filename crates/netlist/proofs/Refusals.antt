@@ -62,46 +62,46 @@ level-is m r =
         (iff-sum (less topLevel (r .level)) (iff-trans (either _ _) (iff-sum (at input 0) (at output (depth m)))))
 
 -- 4 to 7 stand at one place of one row
-later-within : (m : Netlist) (k : ℕ) → Within 4 k 5 6 (Fails 5 k (BadInversion (m .at k)) or Fails 6 k (BadSlots m k (m .at k)))
-later-within m k = within-or 4 k 5 5 6 6 (within-one 5 k _) (within-one 6 k _) (omega arith) (omega arith) (omega arith)
+later-within : (m : Netlist) (k : ℕ) → Within (rowOf 7) k 5 6 (Fails 5 k (BadInversion (m .at k)) or Fails 6 k (BadSlots m k (m .at k)))
+later-within m k = within-or (rowOf 7) k 5 5 6 6 (within-one 5 k _) (within-one 6 k _) (omega arith) (omega arith) (omega arith)
 
-structure-within : (m : Netlist) (k : ℕ) → Within 4 k 4 6 (StructureFails m k)
-structure-within m k = within-or 4 k 4 4 5 6 (within-one 4 k _) (later-within m k) (omega arith) (omega arith) (omega arith)
+structure-within : (m : Netlist) (k : ℕ) → Within (rowOf 7) k 4 6 (StructureFails m k)
+structure-within m k = within-or (rowOf 7) k 4 4 5 6 (within-one 4 k _) (later-within m k) (omega arith) (omega arith) (omega arith)
 
-record-within : (m : Netlist) (k : ℕ) → Within 4 k 4 7 (RecordFails m k)
-record-within m k = within-or 4 k 4 6 7 7 (structure-within m k) (within-one 7 k _) (omega arith) (omega arith) (omega arith)
+record-within : (m : Netlist) (k : ℕ) → Within (rowOf 7) k 4 7 (RecordFails m k)
+record-within m k = within-or (rowOf 7) k 4 6 7 7 (structure-within m k) (within-one 7 k _) (omega arith) (omega arith) (omega arith)
 
 record-first : (m : Netlist) (k : ℕ) → First (RecordFails m k) (recordChecks m k)
 record-first m k =
-    first-then (within-before 4 k 4 6 7 7 (structure-within m k) (within-one 7 k _) (omega arith))
-    (first-then (within-before 4 k 4 4 5 6 (within-one 4 k _) (later-within m k) (omega arith))
+    first-then (within-before (rowOf 7) k 4 6 7 7 (structure-within m k) (within-one 7 k _) (omega arith))
+    (first-then (within-before (rowOf 7) k 4 4 5 6 (within-one 4 k _) (later-within m k) (omega arith))
     (first-check 4 k (less output (m .at k .kind)))
-    (first-then (within-before 4 k 5 5 6 6 (within-one 5 k _) (within-one 6 k _) (omega arith))
+    (first-then (within-before (rowOf 7) k 5 5 6 6 (within-one 5 k _) (within-one 6 k _) (omega arith))
     (first-check 5 k (inversion-is (m .at k)))
     (first-check 6 k (slots-are m k (m .at k)))))
     (first-check 7 k (level-is m (m .at k)))
 
-records-rows : (bytes : List ℕ) → InRow 4 (Each (recordCount bytes) (RecordFails (netlist bytes)))
-records-rows bytes = scan-rows (RecordFails (netlist bytes)) 4 4 7 (recordCount bytes) (record-within (netlist bytes))
+records-rows : (bytes : List ℕ) → InRow (rowOf 7) (Each (recordCount bytes) (RecordFails (netlist bytes)))
+records-rows bytes = scan-rows (RecordFails (netlist bytes)) (rowOf 7) 4 7 (recordCount bytes) (record-within (netlist bytes))
 
-size-rows : (bytes : List ℕ) (n p : ℕ) → SizeFails bytes n p → (1 < rowOf n) × (rowOf n < 4)
+size-rows : (bytes : List ℕ) (n p : ℕ) → SizeFails bytes n p → (rowOf 1 < rowOf n) × (rowOf n ≤ rowOf 3)
 size-rows bytes n p =
     ⊎-elim
     (λ f. omega (arith, one-row 2 0 (Ragged bytes) n p f))
     (λ f. omega (arith, one-row 3 0 (TooMany bytes) n p f))
 
--- the conditions of checks 2 to 7 stand in the table's rows from 2 to 4
-pub source-rows : (bytes : List ℕ) (n p : ℕ) → SourceFails bytes n p → (1 < rowOf n) × (rowOf n ≤ 4)
+-- the conditions of checks 2 to 7 stand in the table's rows after that of 1, up to that of 7
+pub source-rows : (bytes : List ℕ) (n p : ℕ) → SourceFails bytes n p → (rowOf 1 < rowOf n) × (rowOf n ≤ rowOf 7)
 source-rows bytes n p =
     ⊎-elim (λ f. omega (arith, size-rows bytes n p f)) (λ f. omega (arith, records-rows bytes n p f))
 
--- and those of 1 to 7 in the rows up to 4
-pub input-rows : (s : ℕ) (bytes : List ℕ) → UpTo 4 (InputFails s bytes)
+-- and those of 1 to 7 in the rows up to that of 7
+pub input-rows : (s : ℕ) (bytes : List ℕ) → UpTo (rowOf 7) (InputFails s bytes)
 input-rows s bytes n p =
     ⊎-elim (λ f. omega (arith, one-row 1 0 (BadCapacity s) n p f)) (λ f. source-rows bytes n p f .1)
 
 -- so no refusal has number 0
-pub input-numbered : (s : ℕ) (bytes : List ℕ) → After 0 (InputFails s bytes)
+pub input-numbered : (s : ℕ) (bytes : List ℕ) → After (rowOf 0) (InputFails s bytes)
 input-numbered s bytes n p =
     ⊎-elim
     (λ f. omega (arith, one-row 1 0 (BadCapacity s) n p f))
@@ -111,17 +111,17 @@ pub source-first : (bytes : List ℕ) → First (SourceFails bytes) (sourceCheck
 unfolding sourceChecks
 source-first bytes =
     first-then
-    (rows-before 3 (λ n p f. omega (arith, size-rows bytes n p f)) (λ n p f. omega (arith, records-rows bytes n p f)))
-    (first-then (rows-before 2 (λ n p f. omega (arith, one-row 2 0 (Ragged bytes) n p f)) (λ n p f. omega (arith, one-row 3 0 (TooMany bytes) n p f)))
+    (rows-before (rowOf 3) (λ n p f. omega (arith, size-rows bytes n p f)) (λ n p f. omega (arith, records-rows bytes n p f)))
+    (first-then (rows-before (rowOf 2) (λ n p f. omega (arith, one-row 2 0 (Ragged bytes) n p f)) (λ n p f. omega (arith, one-row 3 0 (TooMany bytes) n p f)))
     (first-check 2 0 (unlike (length bytes % width) 0))
     (first-check 3 0 (less sourceLimit (recordCount bytes))))
-    (first-scan (recordChecks (netlist bytes)) (RecordFails (netlist bytes)) 4 4 7 (record-within (netlist bytes)) (recordCount bytes)
+    (first-scan (recordChecks (netlist bytes)) (RecordFails (netlist bytes)) (rowOf 7) 4 7 (record-within (netlist bytes)) (recordCount bytes)
     (λ k l. record-first (netlist bytes) k))
 
 pub input-first : (s : ℕ) (bytes : List ℕ) → First (InputFails s bytes) (inputChecks s bytes)
 input-first s bytes =
     first-then
-    (rows-before 1 (λ n p f. omega (arith, one-row 1 0 (BadCapacity s) n p f)) (λ n p f. source-rows bytes n p f .0))
+    (rows-before (rowOf 1) (λ n p f. omega (arith, one-row 1 0 (BadCapacity s) n p f)) (λ n p f. source-rows bytes n p f .0))
     (first-check 1 0 (capacity-is s))
     (source-first bytes)
 

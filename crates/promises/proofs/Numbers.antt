@@ -1,5 +1,5 @@
 -- The numbers tell a refusal from an accepted answer, since no check has number 0; so they are as exact as the checks.
-use Prim.Native.Nat.{ℕ, zero, suc, _<_, _≤_}
+use Prim.Native.Nat.{ℕ, zero, suc, _<_}
 use native.Mathlib.Omega.{arith}
 use mathlib.Core.Path.{_≡_, refl, sym, ap, _∙_}
 use mathlib.Core.Logic.{⊎-elim}
@@ -33,19 +33,19 @@ above zero h = absurd (h refl)
 above (suc k) h = omega arith
 
 -- a number stands in a row only if it is not 0
-positive : (number r : ℕ) → r ≤ rowOf number → 0 < r → 0 < number
-positive number r l p = above number (λ e. omega (arith, ap rowOf e))
+positive : (number r : ℕ) → r < rowOf number → 0 < number
+positive number r l = above number (λ e. omega (arith, ap rowOf e))
 
 area-numbered : (Bad : Type 0) (row : List ℕ) → Numbered (AreaFails Bad row)
 area-numbered Bad row number place = ⊎-elim (λ f. omega (arith, f .0)) (λ z. omega (arith, z .2 .0))
 
 source-numbered : (source : List ℕ) → Numbered (SourceFails source)
-source-numbered source number place f = positive number 2 (source-rows source number place f .0) (omega arith)
+source-numbered source number place f = positive number (rowOf 1) (source-rows source number place f .0)
 
 verify-numbered : (source : List ℕ) (s : ℕ) (mapped : List ℕ) → Numbered (VerifyFails source s mapped)
 verify-numbered source s mapped number place =
     ⊎-elim
-    (λ f. positive number 1 (input-numbered s source number place f) (omega arith))
+    (λ f. positive number (rowOf 0) (input-numbered s source number place f))
     (⊎-elim
     (λ f. omega (arith, f .0))
     (⊎-elim

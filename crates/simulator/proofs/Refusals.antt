@@ -21,20 +21,20 @@ use Rattle.simulator.specs.Step.{rowLimit, badRows, stepChecks, stepAnsw
 use Rattle.simulator.specs.Run.{badOutputs, runChecks, runAnswer}
 use Rattle.simulator.specs.Refusals.{BadAreas, BadRows, BadOutputs, BitFails, AreaFails, EvaluateExact, StepExact, RunExact}
 
-bits-row : (row : List ℕ) (n p : ℕ) → Each (length row) (BitFails row) n p → rowOf n ≡ 13
+bits-row : (row : List ℕ) (n p : ℕ) → Each (length row) (BitFails row) n p → rowOf n ≡ rowOf 19
 bits-row row n p z = one-row 19 (z .0) _ n p (z .2)
 
--- 18 and 19 stand in the last rows
-area-rows : (Bad : Type 0) (row : List ℕ) → After 11 (AreaFails Bad row)
+-- 18 and 19 stand in rows after that of 17
+area-rows : (Bad : Type 0) (row : List ℕ) → After (rowOf 17) (AreaFails Bad row)
 area-rows Bad row n p =
     ⊎-elim (λ f. omega (arith, one-row 18 0 Bad n p f)) (λ f. omega (arith, bits-row row n p f))
 
 area-first : (c : Bool) (Bad : Type 0) (row : List ℕ) → (c ≡ true) ↔ Bad → First (AreaFails Bad row) (check 18 0 c andThen bitChecks row)
 unfolding bitChecks
 area-first c Bad row e =
-    first-then (rows-before 12 (λ n p f. omega (arith, one-row 18 0 Bad n p f)) (λ n p f. omega (arith, bits-row row n p f)))
+    first-then (rows-before (rowOf 18) (λ n p f. omega (arith, one-row 18 0 Bad n p f)) (λ n p f. omega (arith, bits-row row n p f)))
     (first-check 18 0 e)
-    (first-scan (bitCheck row) (BitFails row) 13 19 19 (λ k. within-one 19 k _) (length row)
+    (first-scan (bitCheck row) (BitFails row) (rowOf 19) 19 19 (λ k. within-one 19 k _) (length row)
     (λ k l. first-check 19 k (less 1 (getD row k 0))))
 
 areas-are : (n : Netlist) (row area : List ℕ) → (badAreas n row area ≡ true) ↔ BadAreas n row area
@@ -58,7 +58,7 @@ unfolding evaluateAnswer evaluateChecks
 evaluate-exact source row area =
     exact
     (first-then
-    (rows-before 11 (λ n p f. omega (arith, source-rows source n p f)) (area-rows (BadAreas (netlist source) row area) row))
+    (rows-before (rowOf 17) (λ n p f. omega (arith, source-rows source n p f)) (area-rows (BadAreas (netlist source) row area) row))
     (source-first source)
     (area-first _ _ row (areas-are (netlist source) row area)))
 
@@ -67,7 +67,7 @@ unfolding stepAnswer stepChecks
 step-exact source s mapped row area =
     exact
     (first-then
-    (rows-before 11 (verify-rows source s mapped) (area-rows (BadRows (netlist source) (netlist mapped) 1 row area) row))
+    (rows-before (rowOf 17) (verify-rows source s mapped) (area-rows (BadRows (netlist source) (netlist mapped) 1 row area) row))
     (verify-first source s mapped)
     (area-first _ _ row (rows-are (netlist source) (netlist mapped) 1 row area)))
 
@@ -76,7 +76,7 @@ unfolding runAnswer runChecks
 run-exact source s mapped r rows area outs =
     exact
     (first-then
-    (rows-before 11 (verify-rows source s mapped)
+    (rows-before (rowOf 17) (verify-rows source s mapped)
     (area-rows (BadRows (netlist source) (netlist mapped) r rows area ⊎ BadOutputs (netlist source) r outs) rows))
     (verify-first source s mapped)
     (subst (First _) (twice (badRows (netlist source) (netlist mapped) r rows area) (badOutputs (netlist source) r outs) (bitChecks rows))

@@ -11,7 +11,7 @@ use lib.Dec.{ltb, leb, eqb}
 use Rattle.facts.specs.declared.Checked.{Checked}
 use Rattle.facts.specs.declared.Checked.the-variants.{Passed, Refused as Failed}
 use Rattle.facts.specs.Sums.{any}
-use Rattle.facts.specs.Refusals.{Fails, _or_, Each, First}
+use Rattle.facts.specs.Refusals.{rowOf, Fails, _or_, Each, First}
 use Rattle.facts.proofs.Sums.{any-some}
 use Rattle.facts.proofs.Reflect.{reflect, iff-sum, iff-pair, iff-trans, iff-some, less, most, same, unlike, both, either}
 use Rattle.facts.proofs.Refusals.{InRow, UpTo, Within, After, rows-before, one-row, within-one, within-or, within-before, first-check, first-then, first-after, first-scan, scan-rows, exact}
@@ -97,77 +97,77 @@ strays-are n m k whole p l = iff-trans (any-some (strays m (n .at k) (m .at k)) 
     at j u = p .named k j (omega arith) (rw (p .kinds k l) u)
 
 -- 12 to 15 stand at one place of one row
-keep-within : (n m : Netlist) (k : ℕ) → Within 9 k 12 13 (KeepFails n m k)
-keep-within n m k = within-or 9 k 12 12 13 13 (within-one 12 k _) (within-one 13 k _) (omega arith) (omega arith) (omega arith)
+keep-within : (n m : Netlist) (k : ℕ) → Within (rowOf 15) k 12 13 (KeepFails n m k)
+keep-within n m k = within-or (rowOf 15) k 12 12 13 13 (within-one 12 k _) (within-one 13 k _) (omega arith) (omega arith) (omega arith)
 
-slots-within : (m : Netlist) (k : ℕ) → Within 9 k 14 15 (SlotsFail m k)
-slots-within m k = within-or 9 k 14 14 15 15 (within-one 14 k _) (within-one 15 k _) (omega arith) (omega arith) (omega arith)
+slots-within : (m : Netlist) (k : ℕ) → Within (rowOf 15) k 14 15 (SlotsFail m k)
+slots-within m k = within-or (rowOf 15) k 14 14 15 15 (within-one 14 k _) (within-one 15 k _) (omega arith) (omega arith) (omega arith)
 
-place-within : (n m : Netlist) (k : ℕ) → Within 9 k 12 15 (PlaceFails n m k)
-place-within n m k = within-or 9 k 12 13 14 15 (keep-within n m k) (slots-within m k) (omega arith) (omega arith) (omega arith)
+place-within : (n m : Netlist) (k : ℕ) → Within (rowOf 15) k 12 15 (PlaceFails n m k)
+place-within n m k = within-or (rowOf 15) k 12 13 14 15 (keep-within n m k) (slots-within m k) (omega arith) (omega arith) (omega arith)
 
 place-first : (n m : Netlist) (k : ℕ) → First (PlaceFails n m k) (placeChecks n m k)
 place-first n m k =
-    first-then (within-before 9 k 12 13 14 15 (keep-within n m k) (slots-within m k) (omega arith))
-    (first-then (within-before 9 k 12 12 13 13 (within-one 12 k _) (within-one 13 k _) (omega arith))
+    first-then (within-before (rowOf 15) k 12 13 14 15 (keep-within n m k) (slots-within m k) (omega arith))
+    (first-then (within-before (rowOf 15) k 12 12 13 13 (within-one 12 k _) (within-one 13 k _) (omega arith))
     (first-check 12 k (changed-is n k (m .at k)))
     (first-check 13 k (foreign-is n k (m .at k))))
-    (first-then (within-before 9 k 14 14 15 15 (within-one 14 k _) (within-one 15 k _) (omega arith))
+    (first-then (within-before (rowOf 15) k 14 14 15 15 (within-one 14 k _) (within-one 15 k _) (omega arith))
     (first-check 14 k (names-are m (m .at k)))
     (first-check 15 k (levels-are m (m .at k))))
 
 module _ (n : Netlist) (s : ℕ) (m : Netlist) where
-  places-row : InRow 9 (Each (m .size) (PlaceFails n m))
-  places-row = scan-rows (PlaceFails n m) 9 12 15 (m .size) (place-within n m)
+  places-row : InRow (rowOf 15) (Each (m .size) (PlaceFails n m))
+  places-row = scan-rows (PlaceFails n m) (rowOf 15) 12 15 (m .size) (place-within n m)
 
-  traces-row : InRow 10 (Each (n .size) (TraceFails n m))
-  traces-row = scan-rows (TraceFails n m) 10 16 16 (n .size) (λ k. within-one 16 k _)
+  traces-row : InRow (rowOf 16) (Each (n .size) (TraceFails n m))
+  traces-row = scan-rows (TraceFails n m) (rowOf 16) 16 16 (n .size) (λ k. within-one 16 k _)
 
-  feeds-row : InRow 11 (Each (m .size) (FeedFails s m))
-  feeds-row = scan-rows (FeedFails s m) 11 17 17 (m .size) (λ k. within-one 17 k _)
+  feeds-row : InRow (rowOf 17) (Each (m .size) (FeedFails s m))
+  feeds-row = scan-rows (FeedFails s m) (rowOf 17) 17 17 (m .size) (λ k. within-one 17 k _)
 
-  later-rows : After 9 (Each (n .size) (TraceFails n m) or Each (m .size) (FeedFails s m))
+  later-rows : After (rowOf 15) (Each (n .size) (TraceFails n m) or Each (m .size) (FeedFails s m))
   later-rows a p = ⊎-elim (λ f. omega (arith, traces-row a p f)) (λ f. omega (arith, feeds-row a p f))
 
-  legal-rows : After 8 (LegalFails n s m)
+  legal-rows : After (rowOf 11) (LegalFails n s m)
   legal-rows a p = ⊎-elim (λ f. omega (arith, places-row a p f)) (λ f. omega (arith, later-rows a p f))
 
   legal-first : n .size ≤ m .size → First (LegalFails n s m) (legalChecks n s m)
   unfolding legalChecks
   legal-first whole =
-      first-after (rows-before 9 (λ a p f. omega (arith, places-row a p f)) later-rows)
-      (first-scan (placeChecks n m) (PlaceFails n m) 9 12 15 (place-within n m) (m .size) (λ k l. place-first n m k))
+      first-after (rows-before (rowOf 15) (λ a p f. omega (arith, places-row a p f)) later-rows)
+      (first-scan (placeChecks n m) (PlaceFails n m) (rowOf 15) 12 15 (place-within n m) (m .size) (λ k l. place-first n m k))
       (λ e.
-      first-then (rows-before 10 (λ a p f. omega (arith, traces-row a p f)) (λ a p f. omega (arith, feeds-row a p f)))
-      (first-scan (traceCheck n m) (TraceFails n m) 10 16 16 (λ k. within-one 16 k _) (n .size)
+      first-then (rows-before (rowOf 16) (λ a p f. omega (arith, traces-row a p f)) (λ a p f. omega (arith, feeds-row a p f)))
+      (first-scan (traceCheck n m) (TraceFails n m) (rowOf 16) 16 16 (λ k. within-one 16 k _) (n .size)
       (λ k l. first-check 16 k (strays-are n m k whole (placed n m whole e) l)))
-      (first-scan (feedCheck s m) (FeedFails s m) 11 17 17 (λ k. within-one 17 k _) (m .size)
+      (first-scan (feedCheck s m) (FeedFails s m) (rowOf 17) 17 17 (λ k. within-one 17 k _) (m .size)
       (λ k l. first-check 17 k (less (capacityOf s (m .at k .kind)) (feeds m k)))))
 
 module _ (n : Netlist) (s : ℕ) (bytes : List ℕ) where
-  length-row : InRow 8 (Fails 11 0 (BadLength (n .size) bytes))
+  length-row : InRow (rowOf 11) (Fails 11 0 (BadLength (n .size) bytes))
   length-row = one-row 11 0 (BadLength (n .size) bytes)
 
-  mapped-rows : After 4 (MappedFails n s bytes)
+  mapped-rows : After (rowOf 7) (MappedFails n s bytes)
   mapped-rows a p =
       ⊎-elim (λ f. omega (arith, length-row a p f)) (λ f. omega (arith, legal-rows n s (netlist bytes) a p f))
 
   mapped-first : First (MappedFails n s bytes) (mappedChecks n s bytes)
   unfolding mappedChecks
   mapped-first =
-      first-after (rows-before 8 (λ a p f. omega (arith, length-row a p f)) (legal-rows n s (netlist bytes)))
+      first-after (rows-before (rowOf 11) (λ a p f. omega (arith, length-row a p f)) (legal-rows n s (netlist bytes)))
       (first-check 11 0 (length-is (n .size) bytes))
       (λ e. legal-first n s (netlist bytes) (let f = simp reflect at e in f .1 .0))
 
 pub verify-first : (source : List ℕ) (s : ℕ) (mapped : List ℕ) → First (VerifyFails source s mapped) (verifyChecks source s mapped)
 unfolding verifyChecks
 verify-first source s mapped =
-    first-then (rows-before 4 (input-rows s source) (mapped-rows (netlist source) s mapped))
+    first-then (rows-before (rowOf 7) (input-rows s source) (mapped-rows (netlist source) s mapped))
     (input-first s source)
     (mapped-first (netlist source) s mapped)
 
--- the conditions of 1 to 7 and 11 to 17 stand in the table's rows up to 11
-pub verify-rows : (source : List ℕ) (s : ℕ) (mapped : List ℕ) → UpTo 11 (VerifyFails source s mapped)
+-- the conditions of 1 to 7 and 11 to 17 stand in the table's rows up to that of 17
+pub verify-rows : (source : List ℕ) (s : ℕ) (mapped : List ℕ) → UpTo (rowOf 17) (VerifyFails source s mapped)
 verify-rows source s mapped a p =
     let n = netlist source in
     let m = netlist mapped in
