@@ -1,24 +1,24 @@
 -- The promises about the call: its answer is a refusal exactly by its checks, and otherwise what is counted from the driver's row.
-use Prim.Native.Nat.{ℕ, _<_}
+use Prim.Native.Nat.{ℕ}
 use mathlib.Core.Path.{_≡_, refl, sym, _∙_, ap, subst}
 use mathlib.Core.Bool.{Bool, true, false, not}
 use mathlib.Core.List.{List}
 use mathlib.Core.Logic.{_↔_, inl, inr, ⊎-elim}
 use native.Mathlib.Decide.{decLt}
 use native.Mathlib.Omega.{arith}
-use borrow.Author.Tests.{leb-false, lt-leb, not-false, not-true}
+use borrow.Author.Tests.{not-false, not-true}
 use Rattle.facts.specs.declared.Checked.{Checked}
 use Rattle.facts.specs.declared.Checked.the-variants as checked
 use Rattle.facts.specs.Refusals.{rowOf, First, FirstAt}
 use Rattle.facts.proofs.Refusals.{exact, rows-before, one-row, first-check, first-after}
 use Rattle.facts.proofs.Reflect.{check-passed, then-passed}
-use Rattle.netlist.specs.Kinds.{isDriver, majority}
+use Rattle.netlist.specs.Kinds.{isDriver}
 use Rattle.netlist.specs.Records.{netlist, recordAt, recordCount}
 use Rattle.netlist.specs.Checks.{inputChecks}
 use Rattle.netlist.specs.Source.{Source}
 use Rattle.netlist.specs.declared.Record.{Record}
 use Rattle.netlist.proofs.Records.{record-past}
-use Rattle.netlist.proofs.Source.{input-passed}
+use Rattle.netlist.proofs.Source.{input-passed, is-output}
 use Rattle.netlist.proofs.Refusals.{input-rows, input-first}
 use Rattle.netlist.specs.Source.{Input}
 use Rattle.fanout.specs.declared.Count.{Count}
@@ -114,15 +114,12 @@ fewest-exactly s source d n = (
 -- in a source 20 is answered exactly for a record that is absent or an output
 driver-is : (source : List ℕ) (d : ℕ) → Source source → (not (isDriver (recordAt source d .kind)) ≡ true) ↔ NoDriver source d
 driver-is source d h =
-    (there, ⊎-elim (λ l. none (omega (arith, ap (λ (r : Record). r .kind) (record-past source d l)))) (λ e. none (omega arith)))
+    (there, ⊎-elim (λ l. ap (λ (r : Record). not (isDriver (r .kind))) (record-past source d l)) (ap (λ (kind : ℕ). not (isDriver kind))))
   where
-    none : majority < recordAt source d .kind → not (isDriver (recordAt source d .kind)) ≡ true
-    none l = ap not (lt-leb (recordAt source d .kind) majority l)
-
     there : not (isDriver (recordAt source d .kind)) ≡ true → NoDriver source d
     there e =
         elim (decLt d (recordCount source)) [
-          | yes l ↦ inr (omega (arith, leb-false (recordAt source d .kind) majority (not-true _ e), h .isSource .kinds d l))
+          | yes l ↦ inr (is-output (netlist source) (h .isSource) d l (not-true _ e))
           | no g ↦ inl (omega arith)
         ]
 

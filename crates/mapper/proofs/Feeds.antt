@@ -11,6 +11,7 @@ use Rattle.facts.proofs.Bools.{and-l, and-r, and-i}
 use Rattle.facts.proofs.Sums.{sum-none, sum-single-le, sum-cong, sum-add, sum-append, count-append, count₂-cong, count-none, count-all, count-le, count-mono, count₂-none, count-div, fibres}
 use Rattle.netlist.specs.Kinds.{slots, topLevel, buffer, arity}
 use Rattle.netlist.specs.Records.{Netlist, used, fanin, names, feeds}
+use Rattle.netlist.proofs.Source.{no-buffer}
 use Rattle.fanout.specs.Nets.{sinks, sinkAt, nodesAt}
 use Rattle.fanout.specs.Answer.{driverCapacity}
 use Rattle.mapper.specs.Mapped.{netRow, buffersOf, treeSize, mappedSize, place, parent, bufferRecord, rank, distance, sinkNumber, sinkParent, mappedAt, mapped, Ready}
@@ -217,7 +218,7 @@ module _ (n : Netlist) (s : ℕ) (r : Ready n s) where
       ∙ omega (
         arith,
         count-none isBuffer (n .size)
-            (λ i l e. omega (arith, r .source .kinds i l, kind-kept n s r i l, eqb-true (mappedAt n s i .kind) buffer e)),
+            (λ i l e. no-buffer n (r .source) i l (kind-kept n s r i l) (eqb-true (mappedAt n s i .kind) buffer e)),
         count-all (λ y. isBuffer (n .size + y)) (sum (treeSize n s) (n .size))
             (λ y l. eq-eqb _ buffer (buffer-kind n s r (n .size + y) (omega arith) (omega arith))),
       )

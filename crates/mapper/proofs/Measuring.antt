@@ -8,11 +8,11 @@ use native.Mathlib.Nat.{div-self}
 use native.Mathlib.Decide.{decLt, ℕ-discrete}
 use lib.ListN.{length, getD, drop, set, replicate, length-set, length-replicate, List·getD-eq-default}
 use lib.Seq.{getD-set-same, getD-set-other, getD-drop, drop-nil, ext-getD}
-use borrow.Author.Tests.{leb-false}
 use Rattle.facts.proofs.Sums.{count₂-le, count₂-none}
 use Rattle.netlist.specs.Kinds.{slots, topLevel, sourceLimit, isDriver}
 use Rattle.netlist.specs.Records.{Netlist}
 use Rattle.netlist.specs.Source.{IsSource}
+use Rattle.netlist.proofs.Source.{is-output}
 use Rattle.fanout.specs.Nets.{row, sinks, sinkAt, up, nodes, buffers, nodesAt, fewest}
 use Rattle.fanout.proofs.Nets.{up-zero, row-length, row-at}
 use Rattle.mapper.specs.declared.Tree.{Tree}
@@ -92,7 +92,7 @@ module _ (n : Netlist) (s d k : ℕ) (i : IsSource n) (p : 0 < s) (l : d < n .si
   no-driver : isDriver (n .at d .kind) ≡ false → (x : ℕ) → getD (drop k (row n d)) x 0 ≡ 0
   no-driver e x =
       getD-drop k (row n d) x 0
-      ∙ row-none n d (k + x) (no-sinks n d (k + x) i (omega (arith, leb-false (n .at d .kind) _ e, i .kinds d l)))
+      ∙ row-none n d (k + x) (no-sinks n d (k + x) i (is-output n i d l e))
 
   pub net-nodes : nodesAt s (netRow n d) k ≡ nodesAt s (row n d) k
   unfolding netRow nodes

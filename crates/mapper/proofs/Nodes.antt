@@ -9,7 +9,7 @@ use native.Mathlib.Omega.{arith}
 use native.Mathlib.Decide.{decLt}
 use lib.ListN.{getD, drop, List·getD-eq-default}
 use lib.Seq.{getD-drop}
-use borrow.Author.Tests.{lt-ltb, le-ltb, ltb-true, le-leb, leb-false, eq-eqb, eqb-true}
+use borrow.Author.Tests.{lt-ltb, le-ltb, ltb-true, eq-eqb, eqb-true}
 use Rattle.facts.proofs.Bools.{and-l, and-r, and-i}
 use Rattle.facts.proofs.Sums.{count₂-none}
 use Rattle.netlist.specs.declared.Record.{Record}
@@ -17,6 +17,7 @@ use Rattle.netlist.specs.Kinds.{slots, unused, topLevel, output, buffer, arity,
 use Rattle.netlist.specs.Records.{Netlist, slot, used, fanin, names}
 use Rattle.netlist.specs.Source.{IsSource}
 use Rattle.netlist.proofs.Checks.{arity-slots}
+use Rattle.netlist.proofs.Source.{is-output}
 use Rattle.fanout.specs.Nets.{row, sinks, sinkAt, up, nodes, buffers, nodesAt, buffersAt}
 use Rattle.fanout.proofs.Nets.{div-up, up-zero, nodes-at, row-length, row-at}
 use Rattle.mapper.specs.Mapped.{netRow, buffersOf, mappedSize, place, parent, bufferRecord, rank, distance, sinkNumber, sinkParent, rewired, mappedAt, Ready}
@@ -74,10 +75,6 @@ module _ (n : Netlist) (s : ℕ) (r : Ready n s) where
   pub pos : 0 < s
   pos = omega (arith, r .low)
 
-  -- what is no output drives
-  pub drives : (d : ℕ) → d < n .size → n .at d .kind ≢ output → isDriver (n .at d .kind) ≡ true
-  drives d l h = le-leb (n .at d .kind) _ (omega (arith, r .source .kinds d l))
-
   -- the nodes at a distance: its buffers and its sinks
   pub nodes-split : (d k : ℕ) → d < n .size → suc k ≤ topLevel →
       nodesAt s (netRow n d) (suc k) ≡ buffersOf n s d (suc k) + sinks n d (suc k)
@@ -91,7 +88,7 @@ module _ (n : Netlist) (s : ℕ) (r : Ready n s) where
           omega (
             arith,
             up-zero s pos,
-            no-sinks n d (suc k) (r .source) (omega (arith, leb-false (n .at d .kind) _ e, r .source .kinds d ld)),
+            no-sinks n d (suc k) (r .source) (is-output n (r .source) d ld e),
           )
 
   -- a node of d's tree at distance k

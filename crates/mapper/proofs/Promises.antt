@@ -6,7 +6,6 @@ use mathlib.Core.Bool.{Bool, true, false, cond, not}
 use mathlib.Core.List.{List, [], _++_, append-assoc}
 use native.Mathlib.Omega.{arith}
 use native.Mathlib.Nat.{zero-add}
-use native.Mathlib.Decide.{decLt}
 use lib.ListN.{length, take, drop, length-append, length-drop}
 use lib.Seq.{take-at, drop-at}
 use lib.Dec.{leb}
@@ -20,12 +19,11 @@ use Rattle.facts.specs.Refusals.{rowOf, Fails, _or_, Each, First}
 use Rattle.facts.proofs.Bools.{true-false}
 use Rattle.facts.proofs.Reflect.{less, check-passed, then-passed, less-none}
 use Rattle.facts.proofs.Refusals.{exact, rows-before, one-row, within-one, first-check, first-after, first-then, first-scan, scan-rows}
-use Rattle.netlist.specs.declared.Record.{Record}
 use Rattle.netlist.specs.Kinds.{width, mappedLimit, isDriver}
 use Rattle.netlist.specs.Records.{Netlist, netlist, recordCount, recordAt}
 use Rattle.netlist.specs.Source.{IsSource}
 use Rattle.netlist.specs.Checks.{inputChecks}
-use Rattle.netlist.proofs.Records.{record-past}
+use Rattle.netlist.proofs.Source.{driver-inside}
 use Rattle.netlist.proofs.Refusals.{input-rows, input-first}
 use Rattle.fanout.specs.Nets.{row, nodes, buffers, hasTree, fewest}
 use Rattle.fanout.specs.Trees.{netOf, RowOf}
@@ -129,14 +127,6 @@ module _ (bytes : List ℕ) (s : ℕ) where
       passed-ready bytes s (a .0) (b .0)
       (less-none mappedLimit (mappedSize (netlist bytes) s) .0 (check-passed 9 0 (tooLarge (netlist bytes) s) .0 (b .1)))
 
-  -- a driver stands in the source
-  driver-inside : (d : ℕ) → isDriver (recordAt bytes d .kind) ≡ true → d < recordCount bytes
-  driver-inside d e =
-      elim (decLt d (recordCount bytes)) [
-        | yes l ↦ l
-        | no g ↦ absurd (true-false _ e (ap (λ (r : Record). isDriver (r .kind)) (record-past bytes d (omega arith))))
-      ]
-
   module _ (area : List ℕ) (e : mapChecks bytes s area ≡ Passed) where
     parts : (sourceMaps bytes s ≡ Passed) × (check 10 0 (tooShort (netlist bytes) s area) ≡ Passed)
     unfolding mapChecks
@@ -181,7 +171,7 @@ module _ (bytes : List ℕ) (s : ℕ) where
         t : Attained driverCapacity s (netOf (netlist bytes) d) (row (netlist bytes) d)
         t =
             fewest-attained driverCapacity s (netOf (netlist bytes) d) (row (netlist bytes) d) positive rowed
-            (subst (λ (r : List ℕ). hasTree driverCapacity s r ≡ true) (driver-row (netlist bytes) d b) (ready .trees d (driver-inside d b)))
+            (subst (λ (r : List ℕ). hasTree driverCapacity s r ≡ true) (driver-row (netlist bytes) d b) (ready .trees d (driver-inside bytes d b)))
 
     net-none : (d : ℕ) → isDriver (recordAt bytes d .kind) ≡ false → treeSize (netlist bytes) s d ≡ 0
     unfolding buffers
@@ -273,7 +263,7 @@ module _ (bytes : List ℕ) (s d : ℕ) where
       rest = mappedSize (netlist bytes) s - to
 
       before : to ≤ mappedSize (netlist bytes) s
-      before = omega (arith, sum-more (treeSize (netlist bytes) s) (suc d) (recordCount bytes) (driver-inside bytes s d b))
+      before = omega (arith, sum-more (treeSize (netlist bytes) s) (suc d) (recordCount bytes) (driver-inside bytes d b))
 
       inside : to ≤ recordCount (mapArea bytes s area)
       inside = omega (arith, before, accepts bytes s area e .long, room bytes s area e)

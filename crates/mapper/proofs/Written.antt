@@ -9,6 +9,7 @@ use lib.ListN.{length, List·getD-eq-default}
 use Rattle.netlist.specs.Kinds.{slots, unused, isGate, arity, invertible}
 use Rattle.netlist.specs.Records.{Netlist, netlist, slot}
 use Rattle.netlist.proofs.Checks.{arity-slots}
+use Rattle.netlist.proofs.Source.{kind-byte}
 use Rattle.mapper.specs.Bytes.{bytesOf, Fits}
 use Rattle.mapper.specs.Mapped.{mappedSize, bufferRecord, rewired, mappedAt, mapped, Ready}
 use Rattle.mapper.proofs.Bytes.{netlist-bytes}
@@ -58,7 +59,7 @@ module _ (n : Netlist) (s : ℕ) (r : Ready n s) where
       elim (decLt i (n .size)) [
         | yes h ↦
             record {
-              kind = omega (arith, kind-kept n s r i h, r .source .kinds i h);
+              kind = omega (arith, kind-kept n s r i h, kind-byte n (r .source) i h);
               inversion = omega (arith, inversion-kept n s r i h, r .source .inversions i h, pow-le-pow-right {n = 2} (omega arith) (invertible-le (n .at i .kind)));
               level = omega (arith, level-kept n s r i h, r .source .levels i h);
               slots = λ j. slot-fits i j l;

@@ -1,19 +1,24 @@
--- A source passes checks 2 to 7 exactly if it is one: whole records with the facts of `IsSource`.
+-- A source passes checks 2 to 7 exactly if it is one: whole records with the facts of `IsSource`; and what its kinds are.
 use Prim.Native.Nat.{ℕ, _<_}
+use native.Mathlib.Decide.{decLt}
 use native.Mathlib.Omega.{arith}
-use mathlib.Core.Path.{_≡_}
-use mathlib.Core.Logic.{_↔_}
+use mathlib.Core.Path.{_≡_, ap}
+use mathlib.Core.Logic.{_↔_, _≢_}
+use mathlib.Core.Bool.{true, false}
 use mathlib.Core.List.{List}
 use Rattle.facts.specs.declared.Checked.the-variants.{Passed}
 use lib.Dec.{ltb}
-use borrow.Author.Tests.{ltb-false}
+use borrow.Author.Tests.{ltb-false, leb-false}
 use Rattle.facts.specs.Checks.{check}
+use Rattle.facts.proofs.Bools.{true-false}
 use Rattle.facts.proofs.Reflect.{reflect, check-passed, then-passed, or-none}
-use Rattle.netlist.specs.Kinds.{slots, arity}
-use Rattle.netlist.specs.Records.{recordAt}
+use Rattle.netlist.specs.declared.Record.{Record}
+use Rattle.netlist.specs.Kinds.{slots, majority, output, buffer, arity, isDriver}
+use Rattle.netlist.specs.Records.{Netlist, recordCount, recordAt}
 use Rattle.netlist.specs.Checks.{badCapacity, sourceChecks, inputChecks}
-use Rattle.netlist.specs.Source.{Source, Input}
+use Rattle.netlist.specs.Source.{IsSource, Source, Input}
 use Rattle.netlist.proofs.Checks.{arity-slots}
+use Rattle.netlist.proofs.Records.{record-past}
 
 pub source-passed : (bytes : List ℕ) → (sourceChecks bytes ≡ Passed) ↔ Source bytes
 unfolding sourceChecks
@@ -60,3 +65,25 @@ input-passed s source e =
       high = ltb-false 4 s (c .1);
       isSource = source-passed source .0 (h .1);
     }
+
+-- the kinds of a source's records
+module _ (n : Netlist) (source : IsSource n) (k : ℕ) (l : k < n .size) where
+  -- what has the kind of one is no buffer
+  pub no-buffer : {kind : ℕ} → kind ≡ n .at k .kind → kind ≢ buffer
+  no-buffer e b = omega (arith, source .kinds k l)
+
+  -- what does not drive is an output
+  pub is-output : isDriver (n .at k .kind) ≡ false → n .at k .kind ≡ output
+  is-output e = omega (arith, leb-false (n .at k .kind) majority e, source .kinds k l)
+
+  -- a kind is a byte
+  pub kind-byte : n .at k .kind < 256
+  kind-byte = omega (arith, source .kinds k l)
+
+-- a driver stands within the bytes
+pub driver-inside : (bytes : List ℕ) (d : ℕ) → isDriver (recordAt bytes d .kind) ≡ true → d < recordCount bytes
+driver-inside bytes d e =
+    elim (decLt d (recordCount bytes)) [
+      | yes l ↦ l
+      | no g ↦ absurd (true-false _ e (ap (λ (r : Record). isDriver (r .kind)) (record-past bytes d (omega arith))))
+    ]

@@ -5,23 +5,21 @@ use native.Mathlib.Omega.{arith}
 use mathlib.Core.Path.{_≡_, refl, sym, ap, subst, _∙_}
 use mathlib.Core.Logic.{_↔_}
 use mathlib.Core.Bool.{true}
-use mathlib.Core.List.{List}
-use borrow.Author.Tests.{eqb-true, eq-eqb, leb-true, lt-leb}
+use borrow.Author.Tests.{eqb-true, eq-eqb, lt-leb}
 use Rattle.facts.specs.Sums.{sum}
 use Rattle.facts.specs.Blocks.{block}
 use Rattle.facts.proofs.Bools.{and-l, and-r, and-i}
 use Rattle.facts.proofs.Blocks.{block-at}
-use Rattle.netlist.specs.declared.Record.{Record}
-use Rattle.netlist.specs.Kinds.{buffer, majority, isDriver}
-use Rattle.netlist.specs.Records.{Netlist, netlist, recordCount, recordAt, fanin}
-use Rattle.netlist.proofs.Records.{record-past}
+use Rattle.netlist.specs.Kinds.{buffer}
+use Rattle.netlist.specs.Records.{Netlist, netlist, recordCount, fanin}
+use Rattle.netlist.proofs.Source.{no-buffer, driver-inside}
 use Rattle.verifier.specs.Legal.{Traces}
 use Rattle.verifier.specs.Trace.{driver}
 use Rattle.verifier.specs.Checks.{isBuffer}
 use Rattle.verifier.specs.Fewest.{onNet}
 use Rattle.verifier.proofs.Trace.{buffer-named, traces-driver}
 use Rattle.mapper.specs.Bytes.{recs}
-use Rattle.mapper.specs.Mapped.{Ready, treeSize, blockStart, mappedSize, mappedAt, bufferRecord, mapped}
+use Rattle.mapper.specs.Mapped.{Ready, treeSize, blockStart, mappedSize, bufferRecord, mapped}
 use Rattle.mapper.proofs.Mapped.{within-tree, placed}
 use Rattle.mapper.proofs.Nodes.{pos, kind-kept, parent-traced, buffer-node, at-placed, buffer-kind}
 use Rattle.mapper.proofs.Promises.{block-written}
@@ -31,10 +29,6 @@ use Rattle.promises.proofs.Ready.{mapped-legal}
 use Rattle.promises.proofs.Written.{maps-passed, mapped-from, written-netlist}
 
 module _ (n : Netlist) (s : ℕ) (r : Ready n s) where
-  -- a source record is no buffer
-  no-buffer : (x : ℕ) → x < n .size → mappedAt n s x .kind ≡ buffer → ⊥
-  no-buffer x l e = omega (arith, kind-kept n s r x l, r .source .kinds x l)
-
   -- the fanin of a buffer of d's tree traces back to d
   net-of : (x : ℕ) (l : n .size ≤ x) (u : x < mappedSize n s) → driver (mapped n s) (fanin (mapped n s) x 0) ≡ placed n s (pos n s r) x l u .d
   unfolding bufferRecord
@@ -45,7 +39,7 @@ module _ (n : Netlist) (s : ℕ) (r : Ready n s) where
       rw (at-placed n s r x p)
       (parent-traced n s r (Traces (mapped n s) (p .d)) (p .d) (p .k) (p .j)
       (buffer-node n s r (p .d) (p .k) (p .j) (p .driver) (p .near) (p .number))
-      (Traces.here refl (no-buffer (p .d) (p .driver)))
+      (Traces.here refl (no-buffer n (r .source) (p .d) (p .driver) (kind-kept n s r (p .d) (p .driver))))
       (λ y e t. Traces.back e t)) in
       traces-driver (mapped n s) (legal .named) (legal .balanced) (p .d) (fanin (mapped n s) x 0)
       (buffer-named (mapped n s) (legal .named) (legal .balanced) x u (buffer-kind n s r x l u))
@@ -64,7 +58,7 @@ module _ (n : Netlist) (s : ℕ) (r : Ready n s) where
       inside : onNet (mapped n s) d x ≡ true → (blockStart n s d ≤ x) × (x < blockStart n s d + treeSize n s d)
       inside e =
           elim (decLt x (n .size)) [
-            | yes a ↦ absurd (no-buffer x a (eqb-true _ buffer (and-l (isBuffer (mapped n s) x) _ e)))
+            | yes a ↦ absurd (no-buffer n (r .source) x a (kind-kept n s r x a) (eqb-true _ buffer (and-l (isBuffer (mapped n s) x) _ e)))
             | no a ↦
                 let p = placed n s (pos n s r) x (omega arith) u in
                 let same : p .d ≡ d = sym (net-of x (omega arith) u) ∙ eqb-true _ d (and-r (isBuffer (mapped n s) x) _ e) in
@@ -80,20 +74,6 @@ module _ (n : Netlist) (s : ℕ) (r : Ready n s) where
           block-of (p .d) x (p .driver) (omega (arith, p .index)) (omega (arith, p .index, within-tree n s (pos n s r) (p .d) (p .k) (p .j) (p .near) (p .number))) in
           let same : p .d ≡ d = sym mine ∙ block-of d x l (h .0) (h .1) in
           and-i (isBuffer (mapped n s) x) _ (eq-eqb _ buffer (buffer-kind n s r x a u)) (eq-eqb _ d (net-of x a u ∙ same))
-
--- a driver is a record of the source
-driver-inside : (bytes : List ℕ) (d : ℕ) → isDriver (recordAt bytes d .kind) ≡ true → d < recordCount bytes
-driver-inside bytes d e =
-    elim (decLt d (recordCount bytes)) [
-      | yes l ↦ l
-      | no g ↦
-          absurd
-          (omega (
-            arith,
-            leb-true (recordAt bytes d .kind) majority e,
-            ap (λ (r : Record). r .kind) (record-past bytes d (let h : recordCount bytes ≤ d = omega arith in h)),
-          ))
-    ]
 
 pub block-exact : BlockExact
 block-exact source s area d maps drives =

@@ -3,13 +3,13 @@ use Prim.Native.Nat.{ℕ, _≤_, _<_}
 use native.Mathlib.Decide.{decLt}
 use native.Mathlib.Omega.{arith}
 use mathlib.Core.Path.{_≡_, refl, sym, subst, _∙_}
-use mathlib.Core.Logic.{_≢_}
 use borrow.Author.Tests.{ne-eqb, eq-eqb}
 use Rattle.facts.specs.Sums.{sum}
 use Rattle.facts.proofs.Sums.{sum-cong}
 use Rattle.netlist.specs.Kinds.{buffer, arity}
 use Rattle.netlist.specs.Records.{Netlist, fanin, feeds}
 use Rattle.netlist.specs.Source.{IsSource}
+use Rattle.netlist.proofs.Source.{no-buffer}
 use Rattle.fanout.specs.Nets.{row, fewest}
 use Rattle.verifier.specs.Legal.{Legal, Kept, Traces, capacityOf}
 use Rattle.verifier.specs.Checks.{bufferCount}
@@ -35,19 +35,15 @@ module _ (n : Netlist) (s : ℕ) (r : Ready n s) where
         empty = λ j a b. slot-kept n s r k j l b a;
       }
 
-  -- a source record is no buffer
-  no-buffer : (k : ℕ) → k < n .size → n .at k .kind ≢ buffer
-  no-buffer k l e = omega (arith, r .source .kinds k l)
-
   fanin-end : (i j : ℕ) → i < n .size → j < arity (n .at i .kind) → Traces (mapped n s) (fanin n i j) (fanin n i j)
   fanin-end i j l a =
       let b : fanin n i j < n .size = omega (arith, r .source .earlier i j l a) in
-      Traces.here refl (λ e. no-buffer (fanin n i j) b (sym (kind-kept n s r (fanin n i j) b) ∙ e))
+      Traces.here refl (no-buffer n (r .source) (fanin n i j) b (kind-kept n s r (fanin n i j) b))
 
   branched : (k : ℕ) → k < mappedSize n s → feeds (mapped n s) k ≤ capacityOf s (mappedAt n s k .kind)
   branched k l =
       elim (decLt k (n .size)) [
-        | yes a ↦ rw (ne-eqb (mappedAt n s k .kind) buffer (λ e. no-buffer k a (sym (kind-kept n s r k a) ∙ e))) (driver-feeds n s r k a)
+        | yes a ↦ rw (ne-eqb (mappedAt n s k .kind) buffer (no-buffer n (r .source) k a (kind-kept n s r k a))) (driver-feeds n s r k a)
         | no a ↦
             let p = placed n s (pos n s r) k (omega arith) l in
             rw (eq-eqb (mappedAt n s k .kind) buffer (buffer-kind n s r k (omega arith) l))

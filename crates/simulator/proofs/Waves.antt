@@ -13,6 +13,7 @@ use Rattle.facts.proofs.Sums.{count-cong}
 use Rattle.netlist.specs.Kinds.{arity, input, buffer}
 use Rattle.netlist.specs.Records.{Netlist, fanin}
 use Rattle.netlist.specs.Source.{IsSource}
+use Rattle.netlist.proofs.Source.{no-buffer}
 use Rattle.verifier.specs.Legal.{Legal, Traces}
 use Rattle.verifier.specs.Legal.Traces.{here, back}
 use Rattle.simulator.specs.Logic.{on, isInput, turned, onesBelow, gate, next, plain}
@@ -105,7 +106,7 @@ module _ (n : Netlist) (s : ℕ) (m : Netlist) (source : IsSource n) (legal : Le
       still : m .at x .inversion ≡ 0
       still =
           elim (decLt x (n .size)) [
-            | yes o ↦ absurd (omega (arith, source .kinds x o, legal .kept x o .kind))
+            | yes o ↦ absurd (no-buffer n source x o (legal .kept x o .kind) b)
             | no o ↦ legal .buffers x (omega arith) i .inversion
           ]
 

@@ -16,7 +16,7 @@ use Rattle.facts.proofs.Sums.{count-append, count-none, count-all}
 use Rattle.netlist.specs.Kinds.{slots, unused, buffer, arity}
 use Rattle.netlist.specs.Records.{Netlist, netlist, recordCount, fanin}
 use Rattle.netlist.specs.Source.{IsSource}
-use Rattle.netlist.proofs.Source.{source-passed}
+use Rattle.netlist.proofs.Source.{source-passed, no-buffer}
 use Rattle.verifier.specs.Legal.{Legal, Traces, Named, Balanced}
 use Rattle.verifier.specs.Checks.{isBuffer, bufferCount, legalChecks, mappedChecks, verifyChecks, verified, verifyAnswer}
 use Rattle.verifier.specs.Accepted.{Accepted, AcceptedExactly}
@@ -87,7 +87,7 @@ module _ (n : Netlist) (s : ℕ) (m : Netlist) where
       (omega (
         arith,
         count-append (isBuffer m) (n .size) (m .size - n .size),
-        count-none (isBuffer m) (n .size) (λ k l e. omega (arith, eqb-true (m .at k .kind) buffer e, legal .kept k l .kind, source .kinds k l)),
+        count-none (isBuffer m) (n .size) (λ k l e. no-buffer n source k l (legal .kept k l .kind) (eqb-true (m .at k .kind) buffer e)),
         count-all (λ i. isBuffer m (n .size + i)) (m .size - n .size)
             (λ i l. eq-eqb (m .at (n .size + i) .kind) buffer (legal .buffers (n .size + i) (omega arith) (omega arith) .kind)),
       ))

@@ -23,7 +23,7 @@ use Rattle.netlist.specs.Kinds.{width, slots, unused, topLevel, mappedLimit, ou
 use Rattle.netlist.specs.Records.{Netlist, netlist, recordCount, recordAt, blank, slot}
 use Rattle.netlist.specs.Source.{IsSource}
 use Rattle.netlist.specs.Checks.{inputChecks}
-use Rattle.netlist.proofs.Source.{input-passed as input}
+use Rattle.netlist.proofs.Source.{input-passed as input, no-buffer}
 use Rattle.verifier.specs.Checks.{badEmpty, differs, noBuffer, badName, notOneLower, slotChecks, placeChecks, traceCheck, feedCheck, badLength, legalChecks, mappedChecks, verifyChecks}
 use Rattle.verifier.specs.Walking.{Sized, Driven, Placed}
 use Rattle.verifier.specs.Feeding.{stop, badSlot, bufferChecks}
@@ -182,13 +182,13 @@ module _ (n m : Netlist) (records size : ℕ) (sized : Sized n m records size) w
   driven h =
       let f = simp reflect at h in
       record {
-        driver = λ k l b. let g : k < n .size = omega (arith, sized .records) in omega (arith, f k g .0 .0 g .0, sized .source .kinds k g);
+        driver = λ k l. let g : k < n .size = omega (arith, sized .records) in no-buffer n (sized .source) k g (f k g .0 .0 g .0);
       }
 
   pub placed-driven : Placed n m → Driven records m
   placed-driven p =
       record {
-        driver = λ k l b. let g : k < n .size = omega (arith, sized .records) in omega (arith, p .kinds k g, sized .source .kinds k g);
+        driver = λ k l. let g : k < n .size = omega (arith, sized .records) in no-buffer n (sized .source) k g (p .kinds k g);
       }
 
 -- checks that agree on every place

@@ -17,6 +17,7 @@ use Rattle.facts.proofs.Sums.{sum-append, sum-cong, sum-mono, term-le, count-ap
 use Rattle.netlist.specs.Kinds.{slots, topLevel, buffer, arity}
 use Rattle.netlist.specs.Records.{Netlist, netlist, used, fanin, names, feeds}
 use Rattle.netlist.specs.Source.{IsSource}
+use Rattle.netlist.proofs.Source.{no-buffer}
 use Rattle.fanout.specs.Nets.{sinkAt, sinks, row, nodesAt, buffersAt, hasTree, fewest}
 use Rattle.fanout.specs.Answer.{driverCapacity}
 use Rattle.fanout.proofs.Nets.{minimal, minimal-nodes, fewest-sum, row-length, row-at}
@@ -118,8 +119,8 @@ facts-on-net m d level x h =
 
 module _ (n : Netlist) (s : ℕ) (m : Netlist) (source : IsSource n) (legal : Legal n s m) where
   -- a source record is no buffer
-  no-buffer : (k : ℕ) → k < n .size → m .at k .kind ≢ buffer
-  no-buffer k h e = omega (arith, legal .kept k h .kind, source .kinds k h)
+  kept-no-buffer : (k : ℕ) → k < n .size → m .at k .kind ≢ buffer
+  kept-no-buffer k h = no-buffer n source k h (legal .kept k h .kind)
 
   -- the sinks of d and the buffers of its net hang on it
   sink-hangs :
@@ -170,7 +171,7 @@ module _ (n : Netlist) (s : ℕ) (m : Netlist) (source : IsSource n) (legal : Le
       (n .size)
       (m .size - n .size)
       (λ i l. count-mono (sinkAt n d x i) (hangs m d level i) slots (λ j b h. sink-hangs d x i j l h))
-      (λ i l h. no-buffer i l (on-net-facts m d level i h .isBuffer))
+      (λ i l h. kept-no-buffer i l (on-net-facts m d level i h .isBuffer))
       (λ i l h. count-some (hangs m d level (n .size + i)) 0 slots (lit< tt) (buffer-hangs d level (n .size + i) h)))
     where
       level : ℕ
@@ -298,7 +299,7 @@ module _ (n : Netlist) (s : ℕ) (m : Netlist) (source : IsSource n) (legal : Le
 
   -- buffers stand from the source's size on
   buffer-place : (x : ℕ) → m .at x .kind ≡ buffer → n .size ≤ x
-  buffer-place x b = elim (decLe (n .size) x) [ yes l ↦ l | no g ↦ absurd (no-buffer x (omega arith) b) ]
+  buffer-place x b = elim (decLe (n .size) x) [ yes l ↦ l | no g ↦ absurd (kept-no-buffer x (omega arith) b) ]
 
   -- a buffer on d's net stands above d, at most at the largest level
   pub above : (d x : ℕ) → d < n .size → x < m .size → onNet m d x ≡ true →
@@ -374,7 +375,7 @@ module _ (n : Netlist) (s : ℕ) (m : Netlist) (source : IsSource n) (legal : Le
   pub has-tree : (d : ℕ) → 0 < s → d < n .size → hasTree driverCapacity s (row n d) ≡ true
   has-tree d p l =
       let one : feeds m d ≤ driverCapacity =
-      rw (ne-eqb (m .at d .kind) buffer (no-buffer d l)) at (legal .branched d (omega (arith, legal .whole))) in
+      rw (ne-eqb (m .at d .kind) buffer (kept-no-buffer d l)) at (legal .branched d (omega (arith, legal .whole))) in
       le-leb (nodesAt s (row n d) 1) driverCapacity (omega (arith, nodes-fed d p l))
 
 -- a buffer is on the net of d exactly if its slot, traced back through buffers, ends there
