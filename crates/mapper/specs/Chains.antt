@@ -66,7 +66,7 @@ pub record Filled (n : Netlist) (d : ℕ) (counts : List ℕ) (top : ℕ) : Type
   pub near : top ≤ topLevel
   pub beyond : (k : ℕ) → top < k → getD counts k 0 ≡ 0
 
--- a row that can be walked down from distance top to 1: its entries are small, and zero beyond
+-- a row that can be walked down from distance top to 1: its entries are small, and zero at 0 and beyond top
 pub record Walkable (s : ℕ) (counts : List ℕ) (top : ℕ) : Type 0 where
   pub low : 2 ≤ s
   pub high : s ≤ 4

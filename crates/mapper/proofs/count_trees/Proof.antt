@@ -26,7 +26,7 @@ returns : tie.Need-returns Inv-loop μ-loop
 returns c =
     let m = c .before .before in
     let l = m .before .before in
-    (count-stop _ _ _ _ _ _ _ (l .before .loop .inv) (l .loop-test .taken) (m .measure .ensures .0) (c .if1 .taken), search needs)
+    (count-stop _ _ _ _ _ _ _ (l .before .loop .inv) (l .loop-test .taken) (m .measure .ensures .0) (search needs), search needs)
 
 cast-total : tie.Need-cast-total Inv-loop μ-loop
 cast-total c = search needs
