@@ -87,16 +87,6 @@ used-slots kind j a e h = omega (arith, arity-slots kind)
 pub these-slots : (kind x named a : ℕ) → x ≡ kind → x ≡ named → a ≡ arity named → a ≡ arity kind
 these-slots kind x named a k n e = e ∙ ap arity (sym n ∙ k)
 
--- past the arms no kind of a source is left
-past-two : (kind : ℕ) → (kind ≡ 0 → ⊥) → (kind ≡ 1 → ⊥) → (kind ≡ 2 → ⊥) → 2 < kind
-past-two kind f g h = omega arith
-
-past-four : (kind : ℕ) → 2 < kind → (kind ≡ 3 → ⊥) → (kind ≡ 4 → ⊥) → 4 < kind
-past-four kind l f g = omega arith
-
-pub other-kind : (m : Netlist) (k kind : ℕ) → kind ≡ m .at k .kind → (kind ≡ 0 → ⊥) → (kind ≡ 1 → ⊥) → (kind ≡ 2 → ⊥) → (kind ≡ 3 → ⊥) → (kind ≡ 4 → ⊥) → Refused 4 k ≡ recordChecks m k
-other-kind m k kind e f g h i j = rw (← e, lt-ltb output kind (past-four kind (past-two kind f g h) i j))
-
 module _ (deep : ℕ) (r : Record) (kind level : ℕ) (k : kind ≡ r .kind) (l : level ≡ r .level) where
   pub level-large : topLevel < level → true ≡ misplaced deep r
   level-large h = rw (← l, lt-ltb topLevel level h)

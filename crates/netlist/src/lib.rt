@@ -398,19 +398,20 @@ fn check_used(bytes: &[u8], deep: u16, k: u32, used: usize) -> Checked
     }
 }
 
-// Checks 4 to 7 of record k.
+// Checks 4 to 7 of record k, by a path for each kind.
 fn check_record(bytes: &[u8], deep: u16, k: u32) -> Checked
     requires { ⌜ k < recordCount (now bytes) ⌝ }
     requires { ⌜ misplaced deep (recordAt (now bytes) k) ≡ misplaced (Records.depth (netlist (now bytes))) (recordAt (now bytes) k) ⌝ }
     ensures { λ a. ⌜ a ≡ recordChecks (netlist (now (bytes .entry))) k ⌝ }
 {
-    match kind_of(bytes, k as usize) {
+    let kind = kind_of(bytes, k as usize);
+    match kind {
         INPUT => check_used(bytes, deep, k, arity(INPUT)),
         AND => check_used(bytes, deep, k, arity(AND)),
         OR => check_used(bytes, deep, k, arity(OR)),
         MAJORITY => check_used(bytes, deep, k, arity(MAJORITY)),
         OUTPUT => check_used(bytes, deep, k, arity(OUTPUT)),
-        _ => Checked::Refused(4, k),
+        _ => check_used(bytes, deep, k, arity(kind)),
     }
 }
 

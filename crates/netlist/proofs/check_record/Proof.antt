@@ -1,6 +1,6 @@
 -- `check_record` meets its contract: each arm knows the kind, and by it how many slots are used.
 use borrow.Author.Needs.{needs}
-use Rattle.netlist.proofs.Checks.{these-slots, other-kind}
+use Rattle.netlist.proofs.Checks.{these-slots}
 use Rattle.netlist.proofs.check_record.Statement.{statement}
 use Rattle.netlist.proofs.check_record.Tie as tie
 
@@ -37,6 +37,12 @@ arity-requires-5 c κs = search needs
 check-used-requires-5 : tie.Need-check-used-requires-5
 check-used-requires-5 c κs = search (needs, these-slots)
 
+arity-requires-6 : tie.Need-arity-requires-6
+arity-requires-6 c κs = search needs
+
+check-used-requires-6 : tie.Need-check-used-requires-6
+check-used-requires-6 c κs = search (needs, these-slots)
+
 returns : tie.Need-returns
 returns c = search needs
 
@@ -53,7 +59,7 @@ returns-5 : tie.Need-returns-5
 returns-5 c = search needs
 
 returns-6 : tie.Need-returns-6
-returns-6 c = search other-kind
+returns-6 c = search needs
 
 pub check-record-spec : {M : Type 1} → statement M
 check-record-spec =
@@ -70,6 +76,8 @@ check-record-spec =
     check-used-requires-4
     arity-requires-5
     check-used-requires-5
+    arity-requires-6
+    check-used-requires-6
     returns
     returns-2
     returns-3
