@@ -1,7 +1,7 @@
 -- Laws of sums and counts over the numbers below n: congruence, order, addition, swapping, fibres, double counting, ranks.
 use Prim.Native.Nat.{ℕ, zero, suc, _+_, _*_, _-_, _≤_, _<_, _/_, _%_}
 use mathlib.Core.Path.{_≡_, refl, sym, _∙_, ap, ap₂, subst, subst⁻¹}
-use mathlib.Core.Bool.{Bool, true, false, _&&_, _||_, not}
+use mathlib.Core.Bool.{Bool, true, false, _&&_, _||_}
 use mathlib.Core.Logic.{_↔_}
 use native.Mathlib.Omega.{arith}
 use native.Mathlib.Nat.{mul-zero, mul-suc, mul-add, add-zero, add-suc, add-sub-of-le, mul-add-div, div-eq-of-lt, mul-add-mod-self-left, mod-eq-of-lt, div-mul-le-self, lt-div-mul-add}
@@ -130,11 +130,6 @@ bit-or true true h = absurd (h refl refl)
 bit-or true false h = refl
 bit-or false b h = omega arith
 
-bit-split : (a b : Bool) → bit a ≡ bit (a && b) + bit (a && not b)
-bit-split true true = refl
-bit-split true false = refl
-bit-split false b = refl
-
 -- what implies more is counted more often
 pub count-mono : (p q : ℕ → Bool) (n : ℕ) → ((i : ℕ) → i < n → p i ≡ true → q i ≡ true) → count p n ≤ count q n
 unfolding count
@@ -237,24 +232,6 @@ count₂-flat p w (suc n) h =
 -- the rank of a counted index, the number counted below it, is below the count
 pub rank-lt : (p : ℕ → Bool) (i n : ℕ) → i < n → p i ≡ true → count p i < count p n
 rank-lt p i n l e = omega (arith, count-more p (suc i) n l, count-true p i e)
-
--- each rank below the count has its index
-pub rank-index : (p : ℕ → Bool) (n r : ℕ) → r < count p n → (i : ℕ) × (i < n) × (p i ≡ true) × (count p i ≡ r)
-unfolding count sum
-rank-index p zero r l = absurd (omega arith)
-rank-index p (suc n) r l = go (p n) refl (rank-index p n r)
-  where
-    go : (b : Bool) → p n ≡ b →
-        (r < count p n → (i : ℕ) × (i < n) × (p i ≡ true) × (count p i ≡ r)) →
-        (i : ℕ) × (i < suc n) × (p i ≡ true) × (count p i ≡ r)
-    go false e before =
-        let f = before (omega (arith, count-false p n e)) in
-        (f .0, omega (arith, f .1), f .2, f .3)
-    go true e before =
-        elim (decLt r (count p n)) [
-          | yes b ↦ (let f = before b in (f .0, omega (arith, f .1), f .2, f .3))
-          | no g ↦ (n, omega arith, e, omega (arith, count-true p n e))
-        ]
 
 -- counted indices with g of their rank are as many as the ranks with g
 pub count-rank : (p g : ℕ → Bool) (n : ℕ) → count (λ i. p i && g (count p i)) n ≡ count g (count p n)

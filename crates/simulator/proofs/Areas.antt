@@ -1,10 +1,8 @@
 -- Laws of areas: lists given by a function of the index, and bytes that stand for values.
 use Prim.Native.Nat.{ℕ, zero, suc, _<_}
-use mathlib.Core.Path.{_≡_, refl, _∙_}
+use mathlib.Core.Path.{_≡_, refl}
 use mathlib.Core.Bool.{Bool, true, false, not}
-use mathlib.Core.List.{List, [], _∷_, _++_}
 use native.Mathlib.Omega.{arith}
-use lib.ListN.{length, getD, length-append, List·getD-append}
 use lib.Dec.{eqb}
 use Rattle.facts.specs.Sums.{bit}
 use Rattle.netlist.specs.Records.{tabulate}
@@ -13,13 +11,6 @@ use Rattle.netlist.specs.Records.{tabulate}
 pub on-bit : (b : Bool) → not (eqb (bit b) 0) ≡ b
 on-bit true = refl
 on-bit false = refl
-
--- one entry more
-pub length-snoc : (xs : List ℕ) (x n : ℕ) → length xs ≡ n → length (xs ++ (x ∷ [])) ≡ suc n
-length-snoc xs x n e = length-append xs (x ∷ []) ∙ omega arith
-
-pub getD-snoc : (xs : List ℕ) (x n i : ℕ) → length xs ≡ n → i < n → getD (xs ++ (x ∷ [])) i 0 ≡ getD xs i 0
-getD-snoc xs x n i e l = List·getD-append xs (x ∷ []) 0 i (omega arith)
 
 -- equal entries, equal lists
 pub tabulate-cong : (f g : ℕ → ℕ) (n : ℕ) → ((i : ℕ) → i < n → f i ≡ g i) → tabulate f n ≡ tabulate g n
