@@ -192,8 +192,8 @@ module _ (m : Netlist) where
           tallied = λ p. tallied-more k before after t (f .counted e ∙ rw here);
         }
 
-    slots-blamed : (a : Checked) → b ≡ false → a ≡ slotChecks m k r → Counted a right m (k + 1) after
-    slots-blamed a e g =
+    slots-refused : (a : Checked) → b ≡ false → a ≡ slotChecks m k r → Counted a right m (k + 1) after
+    slots-refused a e g =
         record {
           answer = g ∙ rw here (sym decides);
           tallied = λ p. absurd (true-false b (f .good ∙ rw (slots-passed m k r (sym g ∙ p))) e);
@@ -221,10 +221,10 @@ module _ (source mapped : List ℕ) (k : ℕ) (a r : Record) (p : a ≡ recordAt
         Counted Passed (placeChecks (netlist source) (netlist mapped) k) (netlist mapped) (k + 1) after
     record-counted t g = slots-counted (netlist mapped) _ k r q decides c before after f t g
 
-    pub record-blamed :
+    pub record-refused :
         (x : Checked) → c ≡ false → x ≡ slotChecks (netlist mapped) k r →
         Counted x (placeChecks (netlist source) (netlist mapped) k) (netlist mapped) (k + 1) after
-    record-blamed x g h = slots-blamed (netlist mapped) _ k r q decides c before after f x g h
+    record-refused x g h = slots-refused (netlist mapped) _ k r q decides c before after f x g h
 
 -- and from there on
 pub buffer-kind : (r : Record) (b : Bool) → b ≡ noBuffer r → b ≡ false → r .kind ≡ buffer
@@ -251,10 +251,10 @@ module _ (mapped : List ℕ) (k : ℕ) (r : Record) (q : r ≡ recordAt mapped k
         Tallied (netlist mapped) k before → c ≡ true → Counted Passed (bufferChecks (netlist mapped) k) (netlist mapped) (k + 1) after
     buffer-counted t g = slots-counted (netlist mapped) _ k r q settles c before after whole t g
 
-    pub buffer-blamed :
+    pub buffer-refused :
         (x : Checked) → c ≡ false → x ≡ slotChecks (netlist mapped) k r →
         Counted x (bufferChecks (netlist mapped) k) (netlist mapped) (k + 1) after
-    buffer-blamed x g h = slots-blamed (netlist mapped) _ k r q settles c before after whole x g h
+    buffer-refused x g h = slots-refused (netlist mapped) _ k r q settles c before after whole x g h
 
 -- the answer from k on is the answer, and the first k records are counted
 pub record Counting (n m : Netlist) (records : ℕ) (counts : List ℕ) (k : ℕ) : Type 0 where

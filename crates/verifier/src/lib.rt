@@ -210,7 +210,7 @@ fn feed_used(mapped: &[u8], r: Record, counts: &mut [u8]) -> bool
 }
 
 // The refusal of record k, of which some used slot does not pass: 14 comes first.
-fn blame(mapped: &[u8], k: u32, r: Record) -> Checked
+fn refuse_slots(mapped: &[u8], k: u32, r: Record) -> Checked
     requires { ⌜ any (badSlot (netlist (now mapped)) r) (Kinds.arity (r .kind)) ≡ true ⌝ }
     ensures { λ a. ⌜ a ≡ slotChecks (netlist (now (mapped .entry))) k r ⌝ }
 {
@@ -234,7 +234,7 @@ fn check_record(source: &[u8], mapped: &[u8], k: u32, counts: &mut [u8]) -> Chec
     if feed_used(mapped, r, counts) {
         return Checked::Passed;
     }
-    blame(mapped, k, r)
+    refuse_slots(mapped, k, r)
 }
 
 // Checks 12, 14 and 15 of every record below the source's size, rising.
@@ -287,7 +287,7 @@ fn check_buffer(mapped: &[u8], n: u32, k: u32, counts: &mut [u8], drivers: &mut 
         drivers[k as usize] = d;
         return Checked::Passed;
     }
-    blame(mapped, k, r)
+    refuse_slots(mapped, k, r)
 }
 
 // Checks 13 to 15 of every record from the source's size on, rising, once those below passed.

@@ -1,6 +1,6 @@
 -- `check_buffer` meets its contract: 13 first, then the slot; a buffer has its fanin's driver.
 use borrow.Author.Needs.{needs}
-use Rattle.verifier.proofs.Feeding.{buffer-uses, unfed, buffer-differs, buffer-counted, buffer-blamed}
+use Rattle.verifier.proofs.Feeding.{buffer-uses, unfed, buffer-differs, buffer-counted, buffer-refused}
 use Rattle.verifier.proofs.Walking.{fanin-room, buffer-room, buffer-known}
 use Rattle.verifier.proofs.check_buffer.Statement.{statement}
 use Rattle.verifier.proofs.check_buffer.Tie as tie
@@ -38,14 +38,14 @@ same-length-2 c = search needs
 returns-2 : tie.Need-returns-2
 returns-2 c = (search buffer-counted, search buffer-known)
 
-blame-requires : tie.Need-blame-requires
-blame-requires c κs = search (needs, unfed, buffer-uses)
+refuse-slots-requires : tie.Need-refuse-slots-requires
+refuse-slots-requires c κs = search (needs, unfed, buffer-uses)
 
 same-length-3 : tie.Need-same-length-3
 same-length-3 c = search needs
 
 returns-3 : tie.Need-returns-3
-returns-3 c = search (needs, buffer-blamed)
+returns-3 c = search (needs, buffer-refused)
 
 pub check-buffer-spec : {M : Type 1} → statement M
 check-buffer-spec =
@@ -62,6 +62,6 @@ check-buffer-spec =
     same-length
     same-length-2
     returns-2
-    blame-requires
+    refuse-slots-requires
     same-length-3
     returns-3)

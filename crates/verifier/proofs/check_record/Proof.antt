@@ -1,7 +1,7 @@
 -- `check_record` meets its contract: 12 first, then the slots.
 use borrow.Author.Needs.{needs}
 use Rattle.verifier.proofs.Checks.{source-empty}
-use Rattle.verifier.proofs.Feeding.{unfed, record-differs, record-counted, record-blamed}
+use Rattle.verifier.proofs.Feeding.{unfed, record-differs, record-counted, record-refused}
 use Rattle.verifier.proofs.check_record.Statement.{statement}
 use Rattle.verifier.proofs.check_record.Tie as tie
 
@@ -26,14 +26,14 @@ same-length c = search needs
 returns-2 : tie.Need-returns-2
 returns-2 c = search record-counted
 
-blame-requires : tie.Need-blame-requires
-blame-requires c κs = search unfed
+refuse-slots-requires : tie.Need-refuse-slots-requires
+refuse-slots-requires c κs = search unfed
 
 same-length-2 : tie.Need-same-length-2
 same-length-2 c = search needs
 
 returns-3 : tie.Need-returns-3
-returns-3 c = search record-blamed
+returns-3 c = search record-refused
 
 pub check-record-spec : {M : Type 1} → statement M
 check-record-spec =
@@ -46,6 +46,6 @@ check-record-spec =
     feed-used-requires
     same-length
     returns-2
-    blame-requires
+    refuse-slots-requires
     same-length-2
     returns-3)

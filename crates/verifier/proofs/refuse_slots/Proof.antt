@@ -1,8 +1,8 @@
--- `blame` meets its contract: where no name is bad, a level is.
+-- `refuse_slots` meets its contract: where no name is bad, a level is.
 use borrow.Author.Needs.{needs}
 use Rattle.verifier.proofs.Checks.{names-bad, levels-bad}
-use Rattle.verifier.proofs.blame.Statement.{statement}
-use Rattle.verifier.proofs.blame.Tie as tie
+use Rattle.verifier.proofs.refuse_slots.Statement.{statement}
+use Rattle.verifier.proofs.refuse_slots.Tie as tie
 
 arity-requires : tie.Need-arity-requires
 arity-requires c κs = search needs
@@ -16,5 +16,5 @@ returns c = search names-bad
 returns-2 : tie.Need-returns-2
 returns-2 c = search levels-bad
 
-pub blame-spec : {M : Type 1} → statement M
-blame-spec = tie.close (tie.spec arity-requires any-bad-name-requires returns returns-2)
+pub refuse-slots-spec : {M : Type 1} → statement M
+refuse-slots-spec = tie.close (tie.spec arity-requires any-bad-name-requires returns returns-2)
