@@ -21,128 +21,9 @@ walk-at t = and 2 walk-kinds.ps (is 2 walk-kinds.ps μ-walk t) walk.Pre
 abbrev walk-below : ℕ → In 2 walk-kinds.ps
 walk-below t = and 2 walk-kinds.ps (falls 2 walk-kinds.ps _<_ μ-walk t) walk.Pre
 
-walk-kind-at-requires : (t : ℕ) → walk-lts.Need-kind-at-requires (
-  kind-at-reads.Asked,
-  kind-at-reads.Learnt,
-  slot-at-reads.Asked,
-  slot-at-reads.Learnt,
-  walk-below t,
-  walk.Post,
-) (walk-at t) walk.Post
-walk-kind-at-requires t c κs = search needs
-
-walk-returns : (t : ℕ) → walk-lts.Need-returns (
-  kind-at-reads.Asked,
-  kind-at-reads.Learnt,
-  slot-at-reads.Asked,
-  slot-at-reads.Learnt,
-  walk-below t,
-  walk.Post,
-) (walk-at t) walk.Post
-walk-returns t c = search walk-stays
-
-walk-mul-found : (t : ℕ) → walk-lts.Need-mul-found (
-  kind-at-reads.Asked,
-  kind-at-reads.Learnt,
-  slot-at-reads.Asked,
-  slot-at-reads.Learnt,
-  walk-below t,
-  walk.Post,
-) (walk-at t) walk.Post
-walk-mul-found t c = search needs
-
-walk-slice-read-found : (t : ℕ) → walk-lts.Need-slice-read-found (
-  kind-at-reads.Asked,
-  kind-at-reads.Learnt,
-  slot-at-reads.Asked,
-  slot-at-reads.Learnt,
-  walk-below t,
-  walk.Post,
-) (walk-at t) walk.Post
-walk-slice-read-found t c = search (needs, walk-room)
-
-walk-returns-2 : (t : ℕ) → walk-lts.Need-returns-2 (
-  kind-at-reads.Asked,
-  kind-at-reads.Learnt,
-  slot-at-reads.Asked,
-  slot-at-reads.Learnt,
-  walk-below t,
-  walk.Post,
-) (walk-at t) walk.Post
-walk-returns-2 t c = search walk-found
-
-walk-sub-walk : (t : ℕ) → walk-lts.Need-sub-walk (
-  kind-at-reads.Asked,
-  kind-at-reads.Learnt,
-  slot-at-reads.Asked,
-  slot-at-reads.Learnt,
-  walk-below t,
-  walk.Post,
-) (walk-at t) walk.Post
-walk-sub-walk t c = search walk-level
-
-walk-slot-at-requires : (t : ℕ) → walk-lts.Need-slot-at-requires (
-  kind-at-reads.Asked,
-  kind-at-reads.Learnt,
-  slot-at-reads.Asked,
-  slot-at-reads.Learnt,
-  walk-below t,
-  walk.Post,
-) (walk-at t) walk.Post
-walk-slot-at-requires t c κs = search needs
-
-walk-walk-requires : (t : ℕ) → walk-lts.Need-walk-requires (
-  kind-at-reads.Asked,
-  kind-at-reads.Learnt,
-  slot-at-reads.Asked,
-  slot-at-reads.Learnt,
-  walk-below t,
-  walk.Post,
-) (walk-at t) walk.Post
-walk-walk-requires t c κs = search (needs, walk-falls, walk-next)
-
-walk-mul-drivers : (t : ℕ) → walk-lts.Need-mul-drivers (
-  kind-at-reads.Asked,
-  kind-at-reads.Learnt,
-  slot-at-reads.Asked,
-  slot-at-reads.Learnt,
-  walk-below t,
-  walk.Post,
-) (walk-at t) walk.Post
-walk-mul-drivers t c = search needs
-
-walk-slice-write-drivers : (t : ℕ) → walk-lts.Need-slice-write-drivers (
-  kind-at-reads.Asked,
-  kind-at-reads.Learnt,
-  slot-at-reads.Asked,
-  slot-at-reads.Learnt,
-  walk-below t,
-  walk.Post,
-) (walk-at t) walk.Post
-walk-slice-write-drivers t c = search (needs, walk-room)
-
-walk-same-length : (t : ℕ) → walk-lts.Need-same-length (
-  kind-at-reads.Asked,
-  kind-at-reads.Learnt,
-  slot-at-reads.Asked,
-  slot-at-reads.Learnt,
-  walk-below t,
-  walk.Post,
-) (walk-at t) walk.Post
-walk-same-length t c = search needs
-
-walk-returns-3 : (t : ℕ) → walk-lts.Need-returns-3 (
-  kind-at-reads.Asked,
-  kind-at-reads.Learnt,
-  slot-at-reads.Asked,
-  slot-at-reads.Learnt,
-  walk-below t,
-  walk.Post,
-) (walk-at t) walk.Post
-walk-returns-3 t c = search walk-keeps
-
-pub +walk-spec : {M : Type 1} → statement M
-+walk-spec = close μ-walk λ t. walk-lts.spec (
+-- what each call asks and leaves
+abbrev claims : ℕ → walk-lts.Claims
+claims t = (
   kind-at-reads.Asked,
   kind-at-reads.Learnt,
   slot-at-reads.Asked,
@@ -150,6 +31,45 @@ pub +walk-spec : {M : Type 1} → statement M
   walk-below t,
   walk.Post,
 )
+
+walk-kind-at-requires : (t : ℕ) → walk-lts.Need-kind-at-requires (claims t) (walk-at t) walk.Post
+walk-kind-at-requires t c κs = search needs
+
+walk-returns : (t : ℕ) → walk-lts.Need-returns (claims t) (walk-at t) walk.Post
+walk-returns t c = search walk-stays
+
+walk-mul-found : (t : ℕ) → walk-lts.Need-mul-found (claims t) (walk-at t) walk.Post
+walk-mul-found t c = search needs
+
+walk-slice-read-found : (t : ℕ) → walk-lts.Need-slice-read-found (claims t) (walk-at t) walk.Post
+walk-slice-read-found t c = search (needs, walk-room)
+
+walk-returns-2 : (t : ℕ) → walk-lts.Need-returns-2 (claims t) (walk-at t) walk.Post
+walk-returns-2 t c = search walk-found
+
+walk-sub-walk : (t : ℕ) → walk-lts.Need-sub-walk (claims t) (walk-at t) walk.Post
+walk-sub-walk t c = search walk-level
+
+walk-slot-at-requires : (t : ℕ) → walk-lts.Need-slot-at-requires (claims t) (walk-at t) walk.Post
+walk-slot-at-requires t c κs = search needs
+
+walk-walk-requires : (t : ℕ) → walk-lts.Need-walk-requires (claims t) (walk-at t) walk.Post
+walk-walk-requires t c κs = search (needs, walk-falls, walk-next)
+
+walk-mul-drivers : (t : ℕ) → walk-lts.Need-mul-drivers (claims t) (walk-at t) walk.Post
+walk-mul-drivers t c = search needs
+
+walk-slice-write-drivers : (t : ℕ) → walk-lts.Need-slice-write-drivers (claims t) (walk-at t) walk.Post
+walk-slice-write-drivers t c = search (needs, walk-room)
+
+walk-same-length : (t : ℕ) → walk-lts.Need-same-length (claims t) (walk-at t) walk.Post
+walk-same-length t c = search needs
+
+walk-returns-3 : (t : ℕ) → walk-lts.Need-returns-3 (claims t) (walk-at t) walk.Post
+walk-returns-3 t c = search walk-keeps
+
+pub +walk-spec : {M : Type 1} → statement M
++walk-spec = close μ-walk λ t. walk-lts.spec (claims t)
     (walk-at t)
     walk.Post
     (walk-kind-at-requires t)
