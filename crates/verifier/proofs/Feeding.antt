@@ -230,8 +230,8 @@ module _ (source mapped : List ℕ) (k : ℕ) (a r : Record) (p : a ≡ recordAt
 pub buffer-kind : (r : Record) (b : Bool) → b ≡ noBuffer r → b ≡ false → r .kind ≡ buffer
 buffer-kind r b e t = let h : noBuffer r ≡ false = sym e ∙ t in (simp reflect at h) .0
 
-pub buffer-uses : (r : Record) (b : Bool) → b ≡ noBuffer r → b ≡ false → 1 ≡ arity (r .kind)
-buffer-uses r b e t = rw (buffer-kind r b e t)
+pub buffer-uses : (r : Record) (b : Bool) (used : ℕ) → b ≡ noBuffer r → b ≡ false → used ≡ arity buffer → used ≡ arity (r .kind)
+buffer-uses r b used e t u = rw (buffer-kind r b e t) u
 
 module _ (mapped : List ℕ) (k : ℕ) (r : Record) (q : r ≡ recordAt mapped k) (b : Bool) (e : b ≡ noBuffer r) where
   foreign : noBuffer (recordAt mapped k) ≡ b
@@ -240,12 +240,12 @@ module _ (mapped : List ℕ) (k : ℕ) (r : Record) (q : r ≡ recordAt mapped k
   pub buffer-differs : (next : ℕ) (counts : List ℕ) → b ≡ true → Counted (Refused 13 k) (bufferChecks (netlist mapped) k) (netlist mapped) next counts
   buffer-differs next counts t = counted-refused (netlist mapped) _ 13 k next counts (rw (foreign, t))
 
-  module _ (same : b ≡ false) (c : Bool) (before after : List ℕ) (f : Fed (netlist mapped) r 1 c before after) where
+  module _ (same : b ≡ false) (used : ℕ) (u : used ≡ arity buffer) (c : Bool) (before after : List ℕ) (f : Fed (netlist mapped) r used c before after) where
     settles : bufferChecks (netlist mapped) k ≡ slotChecks (netlist mapped) k (recordAt mapped k)
     settles = rw (foreign, same)
 
     whole : Fed (netlist mapped) r (arity (r .kind)) c before after
-    whole = rw (← buffer-uses r b e same) f
+    whole = rw (← buffer-uses r b used e same u) f
 
     pub buffer-counted :
         Tallied (netlist mapped) k before → c ≡ true → Counted Passed (bufferChecks (netlist mapped) k) (netlist mapped) (k + 1) after

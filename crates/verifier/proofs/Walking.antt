@@ -80,9 +80,9 @@ module _ (m : Netlist) (drivers : List ℕ) (known : Known m drivers) (n k : ℕ
   pub buffer-room : k < length drivers
   buffer-room = omega (arith, i .here, known .room)
 
-  module _ (r : Record) (x : ℕ) (p : x ≡ slot r 0) (c : Bool) (before after : List ℕ) (f : Fed m r 1 c before after) (g : c ≡ true) where
+  module _ (r : Record) (x : ℕ) (p : x ≡ slot r 0) (used : ℕ) (u : used ≡ arity buffer) (c : Bool) (before after : List ℕ) (f : Fed m r used c before after) (g : c ≡ true) where
     fine : badSlot m r 0 ≡ false
-    fine = any-none (badSlot m r) 1 .0 (not-true (any (badSlot m r) 1) (sym (f .good) ∙ g)) 0 (omega arith)
+    fine = any-none (badSlot m r) used .0 (not-true (any (badSlot m r) used) (sym (f .good) ∙ g)) 0 (omega (arith, u))
 
     named : x < m .size
     named = let h = simp reflect at fine in rw p (h .0 .0)
@@ -96,14 +96,14 @@ module _ (m : Netlist) (drivers : List ℕ) (known : Known m drivers) (n k : ℕ
         rw (p, q) (ap (λ (level : ℕ). walk m level k) (rw q at (l .1)) ∙ walk-back m (m .at (slot (m .at k) 0) .level) k (rw q at e))
 
 pub buffer-known :
-    (m : Netlist) (drivers : List ℕ) (n k d x : ℕ) (r : Record) (b c : Bool) (before after : List ℕ) →
-    d ≡ knownDriver n drivers x → x ≡ slot r 0 → r ≡ m .at k → b ≡ noBuffer r → b ≡ false → Fed m r 1 c before after → c ≡ true →
+    (m : Netlist) (drivers : List ℕ) (n k d x used : ℕ) (r : Record) (b c : Bool) (before after : List ℕ) →
+    d ≡ knownDriver n drivers x → x ≡ slot r 0 → r ≡ m .at k → b ≡ noBuffer r → b ≡ false → used ≡ arity buffer → Fed m r used c before after → c ≡ true →
     Known m drivers → Buffering n m k → Known m (set drivers k d)
-buffer-known m drivers n k d x r b c before after h p q e t f g known i =
+buffer-known m drivers n k d x used r b c before after h p q e t u f g known i =
     keep m drivers k d known (i .here) (
-    λ u.
-    known-right n drivers x m d known (i .driven) (named m drivers known n k i r x p c before after f g) h u
-    ∙ sym (buffer-driver m drivers known n k i r x p c before after f g q (buffer-kind r b e t))
+    λ v.
+    known-right n drivers x m d known (i .driven) (named m drivers known n k i r x p used u c before after f g) h v
+    ∙ sym (buffer-driver m drivers known n k i r x p used u c before after f g q (buffer-kind r b e t))
     )
 
 module _ (m : Netlist) (drivers : List ℕ) (level x : ℕ) (w : Walkable m drivers level x) where

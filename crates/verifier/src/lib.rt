@@ -282,7 +282,7 @@ fn check_buffer(mapped: &[u8], n: u32, k: u32, counts: &mut [u8], drivers: &mut 
     if no_buffer(r) {
         return Checked::Refused(13, k);
     }
-    if feed_slots(mapped, r, 1, counts) {
+    if feed_slots(mapped, r, arity(netlist::BUFFER), counts) {
         let d = known(n, drivers, slot(r, 0));
         drivers[k as usize] = d;
         return Checked::Passed;

@@ -14,6 +14,9 @@ no-buffer-requires c κs = search needs
 returns : tie.Need-returns
 returns c = search (needs, buffer-differs)
 
+arity-requires : tie.Need-arity-requires
+arity-requires c κs = search needs
+
 feed-slots-requires : tie.Need-feed-slots-requires
 feed-slots-requires c κs = search needs
 
@@ -54,6 +57,7 @@ check-buffer-spec =
     record-at-requires
     no-buffer-requires
     returns
+    arity-requires
     feed-slots-requires
     slot-requires
     known-requires
