@@ -18,7 +18,7 @@ use Rattle.netlist.specs.Kinds.{slots, topLevel, arity}
 use Rattle.netlist.specs.Records.{Netlist, slot, used, fanin, names}
 use Rattle.netlist.specs.Source.{IsSource}
 use Rattle.fanout.specs.Nets.{sinkAt, added, row}
-use Rattle.fanout.specs.Filling.{sinksSoFar, Filled, Filling, Empty, Room, Slot, farther, rowWith, farWith}
+use Rattle.fanout.specs.Filling.{sinksSoFar, RowSoFar, RowAtRecord, Empty, SinkRoom, Slot, farther, rowWith, farWith}
 
 -- one slot, whose content is t
 module _ (d below : ℕ) (r : Record) (j t : ℕ) (p : t ≡ slot r j) where
@@ -31,7 +31,7 @@ module _ (d below : ℕ) (r : Record) (j t : ℕ) (p : t ≡ slot r j) where
   pub sink-level : (row : List ℕ) → Slot row d below r j → t ≡ d → below ≤ r .level
   sink-level row h e = h .above (sym p ∙ e)
 
-  pub sink-room : (row : List ℕ) → Slot row d below r j → t ≡ d → Room row (r .level - below)
+  pub sink-room : (row : List ℕ) → Slot row d below r j → t ≡ d → SinkRoom row (r .level - below)
   sink-room row h e = h .room (sym p ∙ e)
 
   pub sink-row : (row after : List ℕ) → t ≡ d → after ≡ added row (r .level - below) → after ≡ rowWith d below r j row
@@ -76,14 +76,14 @@ module _ (m : Netlist) (d i j : ℕ) (source : IsSource m) (inside : i < m .size
       rw (lt-ltb j (arity (m .at i .kind)) l, e)
       (level-test (m .at i .level) (m .at d .level) x (stands-above e))
 
-  filled-more : (row : List ℕ) (far : ℕ) → Filled m d i j row far →
-      Filled m d i (suc j) (rowWith d (m .at d .level) (m .at i) j row) (farWith d (m .at d .level) (m .at i) j far)
+  filled-more : (row : List ℕ) (far : ℕ) → RowSoFar m d i j row far →
+      RowSoFar m d i (suc j) (rowWith d (m .at d .level) (m .at i) j row) (farWith d (m .at d .level) (m .at i) j far)
   filled-more row far f = go (eqb (fanin m i j) d) refl
     where
       at : ℕ
       at = m .at i .level - m .at d .level
 
-      go : (b : Bool) → eqb (fanin m i j) d ≡ b → Filled m d i (suc j) (cond b (added row at) row) (cond b (farther far at) far)
+      go : (b : Bool) → eqb (fanin m i j) d ≡ b → RowSoFar m d i (suc j) (cond b (added row at) row) (cond b (farther far at) far)
       go false e =
           record {
             long = f .long;
@@ -118,10 +118,10 @@ pub record Slots (m : Netlist) (d below i : ℕ) (r : Record) (a : ℕ) (row : L
   pub read : r ≡ m .at i
   pub uses : a ≡ arity (r .kind)
   pub within : j ≤ a
-  pub filled : Filled m d i j row far
+  pub filled : RowSoFar m d i j row far
 
 module _ (m : Netlist) (d below i : ℕ) (r : Record) (a : ℕ) where
-  pub slots-start : (row : List ℕ) (far : ℕ) → Filling m d below i row far → r ≡ m .at i → a ≡ arity (r .kind) →
+  pub slots-start : (row : List ℕ) (far : ℕ) → RowAtRecord m d below i row far → r ≡ m .at i → a ≡ arity (r .kind) →
       Slots m d below i r a row far 0
   slots-start row far f q u =
       record {
@@ -183,7 +183,7 @@ module _ (m : Netlist) (d below i : ℕ) (r : Record) (a : ℕ) where
               (subst (λ (r : Record). j < arity (r .kind)) (h .read) (omega (arith, h .uses))) row far (h .filled));
         }
 
-    pub slots-end : a ≤ j → Filled m d (suc i) 0 row far
+    pub slots-end : a ≤ j → RowSoFar m d (suc i) 0 row far
     slots-end l =
         record {
           long = h .filled .long;
@@ -211,7 +211,7 @@ pub record Records (m : Netlist) (d below n : ℕ) (row : List ℕ) (far k : ℕ
   pub driver : below ≡ m .at d .level
   pub size : n ≡ m .size
   pub within : k ≤ n
-  pub filled : Filled m d k 0 row far
+  pub filled : RowSoFar m d k 0 row far
 
 module _ (m : Netlist) (d below n : ℕ) where
   pub records-start : (row : List ℕ) → Empty m row → below ≡ m .at d .level → n ≡ m .size → Records m d below n row 0 0
@@ -235,7 +235,7 @@ module _ (m : Netlist) (d below n : ℕ) where
       zero-at x = ap (λ (r : List ℕ). getD r x 0) (h .zeros) ∙ zeros-at (suc topLevel) x
 
   module _ (row : List ℕ) (far k : ℕ) (h : Records m d below n row far k) where
-    pub records-room : k < n → Filling m d below k row far
+    pub records-room : k < n → RowAtRecord m d below k row far
     records-room l =
         record {
           isSource = h .isSource;
@@ -244,7 +244,7 @@ module _ (m : Netlist) (d below n : ℕ) where
           filled = h .filled;
         }
 
-    pub records-more : (row′ : List ℕ) (far′ : ℕ) → k < n → Filled m d (suc k) 0 row′ far′ →
+    pub records-more : (row′ : List ℕ) (far′ : ℕ) → k < n → RowSoFar m d (suc k) 0 row′ far′ →
         Records m d below n row′ far′ (k + 1)
     records-more row′ far′ l f =
         record {
@@ -255,6 +255,6 @@ module _ (m : Netlist) (d below n : ℕ) where
           filled = rw (add-one k) f;
         }
 
-    pub records-end : n ≤ k → Filled m d (m .size) 0 row far
+    pub records-end : n ≤ k → RowSoFar m d (m .size) 0 row far
     records-end l =
-        subst (λ (k : ℕ). Filled m d k 0 row far) (let e : k ≡ m .size = omega (arith, h .size, h .within) in e) (h .filled)
+        subst (λ (k : ℕ). RowSoFar m d k 0 row far) (let e : k ≡ m .size = omega (arith, h .size, h .within) in e) (h .filled)

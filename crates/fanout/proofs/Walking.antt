@@ -22,7 +22,7 @@ use Rattle.fanout.specs.declared.Count.the-variants.{Fewest, NoTree}
 use Rattle.fanout.specs.Nets.{row, sinks, up, nodes, buffers, nodesAt, buffersAt, fewest}
 use Rattle.fanout.specs.Trees.{Net, RowOf, sinksAt, netOf}
 use Rattle.fanout.specs.Answer.{treeCount, driverCapacity}
-use Rattle.fanout.specs.Filling.{Filled, Few, Walkable, Walked, sinkLimit}
+use Rattle.fanout.specs.Filling.{RowSoFar, Few, CountableRow, CountedDown, sinkLimit}
 use Rattle.fanout.proofs.Rows.{row-of-net}
 use Rattle.fanout.proofs.Nets.{row-length, row-at, up-zero, nodes-at, nodes-past, none-past, buffers-from, fewest-sum, minimal}
 
@@ -113,8 +113,8 @@ all-past s r (suc n) k pos l z =
     let e : buffersAt s r k ≡ 0 = ap (up s) (h .0) ∙ up-zero s pos in
     (omega (arith, nodes-at s r k pos, z k (omega arith), e), omega (arith, buffers-from s r k pos, h .1, e))
 
-module _ (s : ℕ) (r : List ℕ) (far : ℕ) (can : Walkable s r far) where
-  pub walk-start : Walked s r (far + 1) 0 0
+module _ (s : ℕ) (r : List ℕ) (far : ℕ) (can : CountableRow s r far) where
+  pub walk-start : CountedDown s r (far + 1) 0 0
   walk-start =
       let h = all-past s r (length r) (far + 1) (omega (arith, can .low)) (omega arith) (λ x l. can .past x (omega arith)) in
       record {
@@ -125,7 +125,7 @@ module _ (s : ℕ) (r : List ℕ) (far : ℕ) (can : Walkable s r far) where
         small = omega (arith, can .within);
       }
 
-  module _ (k nodes total : ℕ) (w : Walked s r k nodes total) where
+  module _ (k nodes total : ℕ) (w : CountedDown s r k nodes total) where
     pub walk-few : Few s nodes
     walk-few =
         record { low = can .low; high = can .high; nodes = omega (arith, w .nodesThere, can .few k (w .above)) }
@@ -151,7 +151,7 @@ module _ (s : ℕ) (r : List ℕ) (far : ℕ) (can : Walkable s r far) where
             ap (λ (k : ℕ). buffers s (drop k r)) step,
           )
 
-      pub walk-more : Walked s r (k - 1) (carriers + getD r (k - 1) 0) (total + carriers)
+      pub walk-more : CountedDown s r (k - 1) (carriers + getD r (k - 1) 0) (total + carriers)
       walk-more =
           record {
             above = omega arith;
@@ -183,7 +183,7 @@ module _ (s : ℕ) (r : List ℕ) (far : ℕ) (can : Walkable s r far) where
 
 -- the filled row of a driver is its row, and can be walked
 module _ (s : ℕ) (source : List ℕ) (d far : ℕ) (r : List ℕ) (i : Input s source)
-    (f : Filled (netlist source) d (recordCount source) 0 r far) where
+    (f : RowSoFar (netlist source) d (recordCount source) 0 r far) where
   filled-row : r ≡ row (netlist source) d
   unfolding sinks count sum
   filled-row =
@@ -192,8 +192,8 @@ module _ (s : ℕ) (source : List ℕ) (d far : ℕ) (r : List ℕ) (i : Input s
       let h : x ≤ topLevel = omega (arith, f .long) in
       omega (arith, f .entry x h, row-at (netlist source) d x h))
 
-  pub filled-walkable : Walkable s r far
-  filled-walkable =
+  pub filled-countable : CountableRow s r far
+  filled-countable =
       record {
         low = i .low;
         high = i .high;

@@ -17,18 +17,18 @@ abbrev pub sinksSoFar : Netlist → ℕ → ℕ → ℕ → ℕ → ℕ
 sinksSoFar m d i j x = count₂ (sinkAt m d x) slots i + count (sinkAt m d x i) j
 
 -- a row holds the sinks so far, none of them beyond `far`
-pub record Filled (m : Netlist) (d i j : ℕ) (r : List ℕ) (far : ℕ) : Type 0 where
+pub record RowSoFar (m : Netlist) (d i j : ℕ) (r : List ℕ) (far : ℕ) : Type 0 where
   pub long : length r ≡ suc topLevel
   pub entry : (x : ℕ) → x ≤ topLevel → getD r x 0 ≡ sinksSoFar m d i j x
   pub within : far ≤ topLevel
   pub past : (x : ℕ) → far < x → getD r x 0 ≡ 0
 
 -- the driver of a source, its level, and a row filled up to a record
-pub record Filling (m : Netlist) (d below i : ℕ) (r : List ℕ) (far : ℕ) : Type 0 where
+pub record RowAtRecord (m : Netlist) (d below i : ℕ) (r : List ℕ) (far : ℕ) : Type 0 where
   pub isSource : IsSource m
   pub driver : below ≡ m .at d .level
   pub inside : i < m .size
-  pub filled : Filled m d i 0 r far
+  pub filled : RowSoFar m d i 0 r far
 
 -- a source, and a row of zeros
 pub record Empty (m : Netlist) (r : List ℕ) : Type 0 where
@@ -36,14 +36,14 @@ pub record Empty (m : Netlist) (r : List ℕ) : Type 0 where
   pub zeros : r ≡ replicate (suc topLevel) 0
 
 -- there is room for one more sink at a distance
-pub record Room (r : List ℕ) (x : ℕ) : Type 0 where
+pub record SinkRoom (r : List ℕ) (x : ℕ) : Type 0 where
   pub inRow : x ≤ topLevel
   pub fits : getD r x 0 + 1 < 2 ^ 32
 
 -- slot j of a record that stands above the driver, where it names it, and room for it
 pub record Slot (row : List ℕ) (d below : ℕ) (r : Record) (j : ℕ) : Type 0 where
   pub above : slot r j ≡ d → below ≤ r .level
-  pub room : slot r j ≡ d → Room row (r .level - below)
+  pub room : slot r j ≡ d → SinkRoom row (r .level - below)
 
 -- the larger of two distances
 abbrev pub farther : ℕ → ℕ → ℕ
@@ -66,8 +66,8 @@ pub record Few (s n : ℕ) : Type 0 where
   pub high : s ≤ 4
   pub nodes : n ≤ sinkLimit
 
--- a row that can be walked: few nodes at each distance, none beyond `far`
-pub record Walkable (s : ℕ) (r : List ℕ) (far : ℕ) : Type 0 where
+-- a row whose nodes can be counted: few at each distance, none beyond `far`
+pub record CountableRow (s : ℕ) (r : List ℕ) (far : ℕ) : Type 0 where
   pub low : 2 ≤ s
   pub high : s ≤ 4
   pub within : far ≤ topLevel
@@ -75,7 +75,7 @@ pub record Walkable (s : ℕ) (r : List ℕ) (far : ℕ) : Type 0 where
   pub few : (k : ℕ) → 0 < k → nodesAt s r k ≤ sinkLimit
 
 -- the walk down to distance k: the nodes there, and the buffers from there on
-pub record Walked (s : ℕ) (r : List ℕ) (k nodes total : ℕ) : Type 0 where
+pub record CountedDown (s : ℕ) (r : List ℕ) (k nodes total : ℕ) : Type 0 where
   pub above : 0 < k
   pub within : k ≤ suc topLevel
   pub nodesThere : nodes ≡ nodesAt s r k

@@ -6,7 +6,7 @@ ghost use Rattle.netlist.specs.Source.{Input};
 ghost use Rattle.fanout.specs.Nets.{added, row};
 ghost use Rattle.fanout.specs.Nets;
 ghost use Rattle.fanout.specs.Answer.{treeCount, driverCapacity, countAnswer};
-ghost use Rattle.fanout.specs.Filling.{Filled, Filling, Empty, Room, Slot, rowWith, farWith, Few, Walkable};
+ghost use Rattle.fanout.specs.Filling.{RowSoFar, RowAtRecord, Empty, SinkRoom, Slot, rowWith, farWith, Few, CountableRow};
 use facts::Checked;
 use netlist::Record;
 
@@ -25,7 +25,7 @@ pub const DRIVER_CAPACITY: u32 = 1;
 
 // One more sink at a distance.
 fn add_sink(row: &mut [u32; DISTANCES], distance: usize)
-    requires { ⌜ Room (now row) distance ⌝ }
+    requires { ⌜ SinkRoom (now row) distance ⌝ }
     ensures { λ r. ⌜ now (row .exit) ≡ added (now (row .entry)) distance ⌝ }
 {
     row[distance] += 1;
@@ -60,8 +60,8 @@ fn add_record(
     below: u16,
     k: usize,
 ) -> usize
-    requires { ⌜ Filling (netlist (now source)) driver below k (now row) far ⌝ }
-    ensures { λ f. ⌜ Filled (netlist (now (source .entry))) driver (suc k) 0 (now (row .exit)) f ⌝ }
+    requires { ⌜ RowAtRecord (netlist (now source)) driver below k (now row) far ⌝ }
+    ensures { λ f. ⌜ RowSoFar (netlist (now (source .entry))) driver (suc k) 0 (now (row .exit)) f ⌝ }
 {
     let r = netlist::record_at(source, k);
     let n = netlist::arity(r.kind);
@@ -77,7 +77,7 @@ fn add_record(
 // The row of the driver's net. Answers the largest distance.
 fn fill(source: &[u8], row: &mut [u32; DISTANCES], driver: usize) -> usize
     requires { ⌜ Empty (netlist (now source)) (now row) ⌝ }
-    ensures { λ f. ⌜ Filled (netlist (now (source .entry))) driver (recordCount (now (source .entry))) 0 (now (row .exit)) f ⌝ }
+    ensures { λ f. ⌜ RowSoFar (netlist (now (source .entry))) driver (recordCount (now (source .entry))) 0 (now (row .exit)) f ⌝ }
 {
     let below = netlist::level_at(source, driver);
     let n = netlist::record_count(source);
@@ -106,7 +106,7 @@ fn up(s: u32, n: u32) -> u32
 
 // The walk down from the largest distance: the nodes at each distance and the buffers from there on.
 fn walk(row: &[u32; DISTANCES], far: usize, s: u32) -> Count
-    requires { ⌜ Walkable s (now row) far ⌝ }
+    requires { ⌜ CountableRow s (now row) far ⌝ }
     ensures { λ r. ⌜ r ≡ treeCount driverCapacity s (now (row .entry)) ⌝ }
 {
     let mut k = far + 1;

@@ -1,5 +1,5 @@
 -- `count_driver` meets its contract: the filled row is the driver's, and the walk counts it.
-use Rattle.fanout.proofs.Walking.{filled-walkable, filled-count}
+use Rattle.fanout.proofs.Walking.{filled-countable, filled-count}
 use borrow.Author.Needs.{needs}
 use Rattle.fanout.proofs.count_driver.Statement.{statement}
 use Rattle.fanout.proofs.count_driver.Tie as tie
@@ -8,7 +8,7 @@ fill-requires : tie.Need-fill-requires
 fill-requires c κs = search needs
 
 walk-requires : tie.Need-walk-requires
-walk-requires c κs = search filled-walkable
+walk-requires c κs = search filled-countable
 
 returns : tie.Need-returns
 returns c = search filled-count

@@ -1,12 +1,12 @@
 -- `walk` meets its contract: the nodes at distance k, and the buffers from there on.
 use borrow.Author.Needs.{needs}
-use Rattle.fanout.specs.Filling.{Walked}
+use Rattle.fanout.specs.Filling.{CountedDown}
 use Rattle.fanout.proofs.Walking.{walk-start, walk-few, walk-more, nodes-fit, buffers-fit, walk-tree, walk-none}
 use Rattle.fanout.proofs.walk.Statement.{statement}
 use Rattle.fanout.proofs.walk.Tie as tie
 
 abbrev Inv-loop : tie.InvT-loop
-Inv-loop row far s k₀ nodes₀ buffers₀ k nodes buffers = Walked s row k nodes buffers
+Inv-loop row far s k₀ nodes₀ buffers₀ k nodes buffers = CountedDown s row k nodes buffers
 
 abbrev μ-loop : tie.MeasureT-loop
 μ-loop row far s k₀ nodes₀ buffers₀ k nodes buffers = k
