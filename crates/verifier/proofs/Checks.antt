@@ -25,8 +25,8 @@ use Rattle.netlist.specs.Source.{IsSource}
 use Rattle.netlist.specs.Checks.{inputChecks}
 use Rattle.netlist.proofs.Source.{input-passed as input, no-buffer}
 use Rattle.verifier.specs.Checks.{badEmpty, differs, noBuffer, badName, notOneLower, slotChecks, placeChecks, traceCheck, feedCheck, badLength, legalChecks, mappedChecks, verifyChecks}
-use Rattle.verifier.specs.Walking.{Sized, Driven, Placed}
-use Rattle.verifier.specs.Feeding.{stop, badSlot, bufferChecks}
+use Rattle.verifier.specs.Walking.{Sized, Driven, PlacesPassed}
+use Rattle.verifier.specs.Feeding.{stop, badFanin, bufferChecks}
 
 -- a blank record's slots name nothing
 blank-slot : (j : ℕ) → slot blank j ≡ unused
@@ -104,24 +104,24 @@ module _ (m : Netlist) (r : Record) (j x : ℕ) (e : x ≡ slot r j) where
   fanin-lower y q = rw (q, e, add-one (m .at (slot r j) .level))
 
 module _ (m : Netlist) (r : Record) (j : ℕ) (b : Bool) (e : b ≡ badName m r j) where
-  pub slot-named : b ≡ true → true ≡ badSlot m r j
+  pub slot-named : b ≡ true → true ≡ badFanin m r j
   slot-named t = rw (← e, t)
 
-  pub slot-level : (c : Bool) → b ≡ false → c ≡ notOneLower m r j → c ≡ badSlot m r j
+  pub slot-level : (c : Bool) → b ≡ false → c ≡ notOneLower m r j → c ≡ badFanin m r j
   slot-level c t f = f ∙ rw (← e, t)
 
 -- 14 and 15 pass where no used slot is bad
 module _ (m : Netlist) (k : ℕ) (r : Record) where
-  slots-fine : any (badSlot m r) (arity (r .kind)) ≡ false → slotChecks m k r ≡ Passed
+  slots-fine : any (badFanin m r) (arity (r .kind)) ≡ false → slotChecks m k r ≡ Passed
   slots-fine h = let f = simp reflect at h in simp reflect (λ j l. f j l .0, λ j l. f j l .1)
 
-  pub slots-passed : slotChecks m k r ≡ Passed → any (badSlot m r) (arity (r .kind)) ≡ false
+  pub slots-passed : slotChecks m k r ≡ Passed → any (badFanin m r) (arity (r .kind)) ≡ false
   slots-passed h = let f = simp reflect at h in simp reflect (λ j l. (f .0 j l, f .1 j l))
 
-  pub slots-good : (b : Bool) → b ≡ not (any (badSlot m r) (arity (r .kind))) → b ≡ true → slotChecks m k r ≡ Passed
-  slots-good b e t = slots-fine (not-true (any (badSlot m r) (arity (r .kind))) (sym e ∙ t))
+  pub slots-good : (b : Bool) → b ≡ not (any (badFanin m r) (arity (r .kind))) → b ≡ true → slotChecks m k r ≡ Passed
+  slots-good b e t = slots-fine (not-true (any (badFanin m r) (arity (r .kind))) (sym e ∙ t))
 
-  module _ (some : any (badSlot m r) (arity (r .kind)) ≡ true) (b : Bool) (n : ℕ) (p : n ≡ arity (r .kind)) (e : b ≡ any (badName m r) n) where
+  module _ (some : any (badFanin m r) (arity (r .kind)) ≡ true) (b : Bool) (n : ℕ) (p : n ≡ arity (r .kind)) (e : b ≡ any (badName m r) n) where
     pub names-bad : b ≡ true → Refused 14 k ≡ slotChecks m k r
     names-bad t = rw (← p, ← e, t)
 
@@ -131,7 +131,7 @@ module _ (m : Netlist) (k : ℕ) (r : Record) where
         go : (c : Bool) → any (notOneLower m r) n ≡ c → Refused 15 k ≡ check 15 k c
         go true u = refl
         go false u =
-            absurd (true-false (any (badSlot m r) (arity (r .kind))) some (slots-passed (rw (← p, ← e, t, u))))
+            absurd (true-false (any (badFanin m r) (arity (r .kind))) some (slots-passed (rw (← p, ← e, t, u))))
 
 module _ (records : ℕ) (bytes : List ℕ) where
   pub length-ragged : length bytes % width ≢ 0 → true ≡ badLength records bytes
@@ -161,7 +161,7 @@ module _ (n m : Netlist) (k : ℕ) where
   place-buffer l = rw (le-ltb k (n .size) l, le-leb (n .size) k l)
 
 -- what 12 to 15 leave for the trace
-pub placed : (n m : Netlist) → n .size ≤ m .size → scan (placeChecks n m) 0 (m .size) ≡ Passed → Placed n m
+pub placed : (n m : Netlist) → n .size ≤ m .size → scan (placeChecks n m) 0 (m .size) ≡ Passed → PlacesPassed n m
 placed n m whole h =
     let f = simp reflect at h in
     record {
@@ -173,7 +173,7 @@ placed n m whole h =
     }
 
 pub places-placed :
-    (n m : Netlist) (records size : ℕ) → Sized n m records size → scan (placeChecks n m) 0 (m .size) ≡ Passed → Placed n m
+    (n m : Netlist) (records size : ℕ) → Sized n m records size → scan (placeChecks n m) 0 (m .size) ≡ Passed → PlacesPassed n m
 places-placed n m records size sized h = placed n m (omega (arith, sized .records, sized .size, sized .whole)) h
 
 -- what 12 leaves: no record below the source's size is a buffer
@@ -185,7 +185,7 @@ module _ (n m : Netlist) (records size : ℕ) (sized : Sized n m records size) w
         driver = λ k l. let g : k < n .size = omega (arith, sized .records) in no-buffer n (sized .source) k g (f k g .0 .0 g .0);
       }
 
-  pub placed-driven : Placed n m → Driven records m
+  pub placed-driven : PlacesPassed n m → Driven records m
   placed-driven p =
       record {
         driver = λ k l. let g : k < n .size = omega (arith, sized .records) in no-buffer n (sized .source) k g (p .kinds k g);

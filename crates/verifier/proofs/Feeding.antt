@@ -27,8 +27,8 @@ use Rattle.netlist.proofs.Checks.{arity-slots}
 use Rattle.fanout.specs.Answer.{driverCapacity}
 use Rattle.verifier.specs.Legal.{capacityOf}
 use Rattle.verifier.specs.Checks.{differs, noBuffer, slotChecks, placeChecks, feedCheck}
-use Rattle.verifier.specs.Walking.{Sized, Placed}
-use Rattle.verifier.specs.Feeding.{stop, more, fedOnce, fedBy, tally, badSlot, bufferChecks, Fed, Tallied, Counted, capacityAt, countCheck}
+use Rattle.verifier.specs.Walking.{Sized, PlacesPassed}
+use Rattle.verifier.specs.Feeding.{stop, more, fedOnce, fedBy, tally, badFanin, bufferChecks, Fed, Tallied, TalliedIfPassed, capacityAt, countCheck}
 use Rattle.verifier.proofs.Checks.{slots-good, slots-passed, kept-bad, kept-slots, placed-driven, scan-cong, scan-onward, scan-early}
 
 module _ (counts : List ℕ) (x : ℕ) where
@@ -105,13 +105,13 @@ tally-count entries m (suc n) x l =
 
 -- the first j slots of a record are good, and counted
 pub record FedSlots (m : Netlist) (r : Record) (n : ℕ) (before counts : List ℕ) (j : ℕ) : Type 0 where
-  pub none : NoneYet (badSlot m r) n j
+  pub none : NoneYet (badFanin m r) n j
   pub done : counts ≡ fedBy before r j
 
 module _ (m : Netlist) (r : Record) (n : ℕ) (before : List ℕ) where
   pub slots-start : FedSlots m r n before before 0
   unfolding fedBy
-  slots-start = record { none = any-start (badSlot m r) n; done = refl }
+  slots-start = record { none = any-start (badFanin m r) n; done = refl }
 
   module _ (counts : List ℕ) (j : ℕ) (i : FedSlots m r n before counts j) where
     pub slots-length : length counts ≡ length before
@@ -121,31 +121,31 @@ module _ (m : Netlist) (r : Record) (n : ℕ) (before : List ℕ) where
     slots-end l =
         let w : j ≡ n = omega (arith, i .none .within) in
         record {
-          good = rw (← any-end (badSlot m r) n j (i .none) l);
+          good = rw (← any-end (badFanin m r) n j (i .none) l);
           counted = λ t. i .done ∙ ap (fedBy before r) w;
         }
 
-    module _ (l : j < n) (b : Bool) (e : b ≡ badSlot m r j) where
+    module _ (l : j < n) (b : Bool) (e : b ≡ badFanin m r j) where
       pub slots-bad : b ≡ true → Fed m r n false before counts
       slots-bad t =
           record {
-            good = rw (← any-found (badSlot m r) n j b l e t);
+            good = rw (← any-found (badFanin m r) n j b l e t);
             counted = λ t. absurd (true-false false t refl);
           }
 
       pub slots-room : (x : ℕ) → x ≡ slot r j → b ≡ false → m .size ≤ length before → x < length counts
       slots-room x p t h =
-          let g : badSlot m r j ≡ false = sym e ∙ t in
+          let g : badFanin m r j ≡ false = sym e ∙ t in
           let f = simp reflect at g in
           rw (i .done, by-length before r j) (omega (arith, f .0 .0))
 
     pub slots-more :
-        (after : List ℕ) (x : ℕ) (b : Bool) → j < n → x ≡ slot r j → after ≡ fedOnce counts x → b ≡ badSlot m r j → b ≡ false →
+        (after : List ℕ) (x : ℕ) (b : Bool) → j < n → x ≡ slot r j → after ≡ fedOnce counts x → b ≡ badFanin m r j → b ≡ false →
         FedSlots m r n before after (j + 1)
     unfolding fedBy
     slots-more after x b l p f e t =
         record {
-          none = any-more (badSlot m r) n j b (i .none) l e t;
+          none = any-more (badFanin m r) n j b (i .none) l e t;
           done = f ∙ rw (add-one j, p, i .done);
         }
 
@@ -178,21 +178,21 @@ module _ (m : Netlist) where
         counted = f ∙ rw (e, add-one k) (ap (λ (l : List ℕ). fedBy l (m .at k) (arity (m .at k .kind))) (t .counted));
       }
 
-  counted-refused : (right : Checked) (number place k : ℕ) (counts : List ℕ) → right ≡ Refused number place → Counted (Refused number place) right m k counts
+  counted-refused : (right : Checked) (number place k : ℕ) (counts : List ℕ) → right ≡ Refused number place → TalliedIfPassed (Refused number place) right m k counts
   counted-refused right number place k counts e =
       record { answer = sym e; tallied = λ p. absurd (let z : _≡_ {A = ℕ} 0 1 = cc in omega arith) }
 
   -- a record whose slots decide
   module _ (right : Checked) (k : ℕ) (r : Record) (here : r ≡ m .at k) (decides : right ≡ slotChecks m k (m .at k))
       (b : Bool) (before after : List ℕ) (f : Fed m r (arity (r .kind)) b before after) where
-    slots-counted : Tallied m k before → b ≡ true → Counted Passed right m (k + 1) after
+    slots-counted : Tallied m k before → b ≡ true → TalliedIfPassed Passed right m (k + 1) after
     slots-counted t e =
         record {
           answer = sym (decides ∙ rw (← here) (slots-good m k r b (f .good) e));
           tallied = λ p. tallied-more k before after t (f .counted e ∙ rw here);
         }
 
-    slots-refused : (a : Checked) → b ≡ false → a ≡ slotChecks m k r → Counted a right m (k + 1) after
+    slots-refused : (a : Checked) → b ≡ false → a ≡ slotChecks m k r → TalliedIfPassed a right m (k + 1) after
     slots-refused a e g =
         record {
           answer = g ∙ rw here (sym decides);
@@ -200,15 +200,15 @@ module _ (m : Netlist) where
         }
 
 -- some slot of a record that was not fed is bad
-pub unfed : (m : Netlist) (r : Record) (n : ℕ) (b : Bool) (before after : List ℕ) → Fed m r n b before after → n ≡ arity (r .kind) → b ≡ false → any (badSlot m r) (arity (r .kind)) ≡ true
-unfed m r n b before after f u e = rw (← u) (not-false (any (badSlot m r) n) (sym (f .good) ∙ e))
+pub unfed : (m : Netlist) (r : Record) (n : ℕ) (b : Bool) (before after : List ℕ) → Fed m r n b before after → n ≡ arity (r .kind) → b ≡ false → any (badFanin m r) (arity (r .kind)) ≡ true
+unfed m r n b before after f u e = rw (← u) (not-false (any (badFanin m r) n) (sym (f .good) ∙ e))
 
 -- what the code has of record k: below the source's size
 module _ (source mapped : List ℕ) (k : ℕ) (a r : Record) (p : a ≡ recordAt source k) (q : r ≡ recordAt mapped k) (b : Bool) (e : b ≡ differs a r)
     (l : k < recordCount source) where
   pub record-differs :
       (next : ℕ) (counts : List ℕ) → b ≡ true →
-      Counted (Refused 12 k) (placeChecks (netlist source) (netlist mapped) k) (netlist mapped) next counts
+      TalliedIfPassed (Refused 12 k) (placeChecks (netlist source) (netlist mapped) k) (netlist mapped) next counts
   record-differs next counts t =
       counted-refused (netlist mapped) _ 12 k next counts (kept-bad (netlist source) (netlist mapped) k l (rw (← p, ← q, ← e) t))
 
@@ -218,12 +218,12 @@ module _ (source mapped : List ℕ) (k : ℕ) (a r : Record) (p : a ≡ recordAt
 
     pub record-counted :
         Tallied (netlist mapped) k before → c ≡ true →
-        Counted Passed (placeChecks (netlist source) (netlist mapped) k) (netlist mapped) (k + 1) after
+        TalliedIfPassed Passed (placeChecks (netlist source) (netlist mapped) k) (netlist mapped) (k + 1) after
     record-counted t g = slots-counted (netlist mapped) _ k r q decides c before after f t g
 
     pub record-refused :
         (x : Checked) → c ≡ false → x ≡ slotChecks (netlist mapped) k r →
-        Counted x (placeChecks (netlist source) (netlist mapped) k) (netlist mapped) (k + 1) after
+        TalliedIfPassed x (placeChecks (netlist source) (netlist mapped) k) (netlist mapped) (k + 1) after
     record-refused x g h = slots-refused (netlist mapped) _ k r q decides c before after f x g h
 
 -- and from there on
@@ -237,7 +237,7 @@ module _ (mapped : List ℕ) (k : ℕ) (r : Record) (q : r ≡ recordAt mapped k
   foreign : noBuffer (recordAt mapped k) ≡ b
   foreign = rw (← q, e)
 
-  pub buffer-differs : (next : ℕ) (counts : List ℕ) → b ≡ true → Counted (Refused 13 k) (bufferChecks (netlist mapped) k) (netlist mapped) next counts
+  pub buffer-differs : (next : ℕ) (counts : List ℕ) → b ≡ true → TalliedIfPassed (Refused 13 k) (bufferChecks (netlist mapped) k) (netlist mapped) next counts
   buffer-differs next counts t = counted-refused (netlist mapped) _ 13 k next counts (rw (foreign, t))
 
   module _ (same : b ≡ false) (used : ℕ) (u : used ≡ arity buffer) (c : Bool) (before after : List ℕ) (f : Fed (netlist mapped) r used c before after) where
@@ -248,43 +248,43 @@ module _ (mapped : List ℕ) (k : ℕ) (r : Record) (q : r ≡ recordAt mapped k
     whole = rw (← buffer-uses r b used e same u) f
 
     pub buffer-counted :
-        Tallied (netlist mapped) k before → c ≡ true → Counted Passed (bufferChecks (netlist mapped) k) (netlist mapped) (k + 1) after
+        Tallied (netlist mapped) k before → c ≡ true → TalliedIfPassed Passed (bufferChecks (netlist mapped) k) (netlist mapped) (k + 1) after
     buffer-counted t g = slots-counted (netlist mapped) _ k r q settles c before after whole t g
 
     pub buffer-refused :
         (x : Checked) → c ≡ false → x ≡ slotChecks (netlist mapped) k r →
-        Counted x (bufferChecks (netlist mapped) k) (netlist mapped) (k + 1) after
+        TalliedIfPassed x (bufferChecks (netlist mapped) k) (netlist mapped) (k + 1) after
     buffer-refused x g h = slots-refused (netlist mapped) _ k r q settles c before after whole x g h
 
 -- the answer from k on is the answer, and the first k records are counted
-pub record Counting (n m : Netlist) (records : ℕ) (counts : List ℕ) (k : ℕ) : Type 0 where
+pub record Tallying (n m : Netlist) (records : ℕ) (counts : List ℕ) (k : ℕ) : Type 0 where
   pub scanning : Scanning (placeChecks n m) records k
   pub tallied : Tallied m k counts
 
 module _ (n m : Netlist) (records : ℕ) (counts : List ℕ) where
-  pub counting-start : Tallied m 0 counts → Counting n m records counts 0
-  counting-start t = record { scanning = scan-start (placeChecks n m) records; tallied = t }
+  pub tallying-start : Tallied m 0 counts → Tallying n m records counts 0
+  tallying-start t = record { scanning = scan-start (placeChecks n m) records; tallied = t }
 
-  pub counting-onward : (k : ℕ) → k ≤ records → scan (placeChecks n m) 0 k ≡ Passed → Tallied m k counts → Counting n m records counts k
-  counting-onward k l h t = record { scanning = scan-onward (placeChecks n m) k records l h; tallied = t }
+  pub tallying-onward : (k : ℕ) → k ≤ records → scan (placeChecks n m) 0 k ≡ Passed → Tallied m k counts → Tallying n m records counts k
+  tallying-onward k l h t = record { scanning = scan-onward (placeChecks n m) k records l h; tallied = t }
 
-  module _ (k : ℕ) (i : Counting n m records counts k) (size : ℕ) (e : size ≡ records) where
-    pub counting-end : size ≤ k → Counted Passed (scan (placeChecks n m) 0 records) m records counts
-    counting-end l =
+  module _ (k : ℕ) (i : Tallying n m records counts k) (size : ℕ) (e : size ≡ records) where
+    pub tallying-end : size ≤ k → TalliedIfPassed Passed (scan (placeChecks n m) 0 records) m records counts
+    tallying-end l =
         let w : k ≡ records = omega (arith, i .scanning .within) in
         record { answer = scan-end (placeChecks n m) records k (i .scanning) (rw e at l); tallied = λ p. rw (← w) (i .tallied) }
 
-    module _ (l : k < size) (a : Checked) (after : List ℕ) (c : Counted a (placeChecks n m k) m (k + 1) after) where
-      pub counting-stop : (number place : ℕ) → a ≡ Refused number place → Counted (Refused number place) (scan (placeChecks n m) 0 records) m records after
-      counting-stop number place p =
+    module _ (l : k < size) (a : Checked) (after : List ℕ) (c : TalliedIfPassed a (placeChecks n m k) m (k + 1) after) where
+      pub tallying-stop : (number place : ℕ) → a ≡ Refused number place → TalliedIfPassed (Refused number place) (scan (placeChecks n m) 0 records) m records after
+      tallying-stop number place p =
           counted-refused m _ number place records after (sym (scan-stop (placeChecks n m) records k number place a (i .scanning) (rw e at l) (c .answer) p))
 
-      pub counting-more : a ≡ Passed → Counting n m records after (k + 1)
-      counting-more p =
+      pub tallying-more : a ≡ Passed → Tallying n m records after (k + 1)
+      tallying-more p =
           record { scanning = scan-more (placeChecks n m) records k a (i .scanning) (rw e at l) (c .answer) p; tallied = c .tallied p }
 
 -- what a part of the checks leaves for the next
-module _ (a right : Checked) (m : Netlist) (k : ℕ) (counts : List ℕ) (c : Counted a right m k counts) where
+module _ (a right : Checked) (m : Netlist) (k : ℕ) (counts : List ℕ) (c : TalliedIfPassed a right m k counts) where
   pub counted-passed : a ≡ Passed → right ≡ Passed
   counted-passed p = sym (c .answer) ∙ p
 
@@ -296,8 +296,8 @@ module _ (a right : Checked) (m : Netlist) (k : ℕ) (counts : List ℕ) (c : Co
 
 pub counted-early :
     (n m : Netlist) (a : Checked) (k next number place records size : ℕ) (counts after : List ℕ) →
-    Counted a (scan (placeChecks n m) 0 (n .size)) m k counts → a ≡ Refused number place → Sized n m records size →
-    Counted (Refused number place) (scan (placeChecks n m) 0 (m .size)) m next after
+    TalliedIfPassed a (scan (placeChecks n m) 0 (n .size)) m k counts → a ≡ Refused number place → Sized n m records size →
+    TalliedIfPassed (Refused number place) (scan (placeChecks n m) 0 (m .size)) m next after
 counted-early n m a k next number place records size counts after c p sized =
     counted-refused m _ number place next after
     (scan-early (placeChecks n m) (n .size) (m .size) (omega (arith, sized .records, sized .size, sized .whole)) number place (sym (c .answer) ∙ p))
@@ -309,7 +309,7 @@ pub capacity-buffer : (s n k : ℕ) → n ≤ k → s ≡ capacityAt s n k
 capacity-buffer s n k l = rw (le-ltb k n l)
 
 -- 17 by the counts
-module _ (n m : Netlist) (s records size : ℕ) (sized : Sized n m records size) (p : Placed n m) (below : s < stop) (counts : List ℕ) (t : Tallied m (m .size) counts) where
+module _ (n m : Netlist) (s records size : ℕ) (sized : Sized n m records size) (p : PlacesPassed n m) (below : s < stop) (counts : List ℕ) (t : Tallied m (m .size) counts) where
   module _ (k : ℕ) (l : k < m .size) where
     fed : getD counts k 0 ≡ min stop (feeds m k)
     unfolding feeds

@@ -22,7 +22,7 @@ use Rattle.netlist.specs.Checks.{ragged}
 use Rattle.netlist.proofs.Refusals.{input-first, input-rows}
 use Rattle.verifier.specs.declared.Verified.the-variants.{Refused}
 use Rattle.verifier.specs.Legal.{capacityOf}
-use Rattle.verifier.specs.Walking.{Placed}
+use Rattle.verifier.specs.Walking.{PlacesPassed}
 use Rattle.verifier.specs.Trace.{driver}
 use Rattle.verifier.specs.Checks.{badLength, badEmpty, differs, noBuffer, changed, foreign, badName, notOneLower, strays, placeChecks, traceCheck, feedCheck, legalChecks, mappedChecks, verifyChecks, verified, bufferCount}
 use Rattle.verifier.specs.Refusals.{BadLength, Changed, Foreign, BadNames, Unbalanced, Strays, KeepFails, SlotsFail, PlaceFails, TraceFails, FeedFails, LegalFails, MappedFails, VerifyFails, RefusedExactly}
@@ -86,7 +86,7 @@ levels-are m r =
     (iff-some (arity (r .kind)) _ _ (λ j. unlike (r .level) (suc (m .at (slot r j) .level))))
 
 strays-are :
-    (n m : Netlist) (k : ℕ) → n .size ≤ m .size → Placed n m → k < n .size →
+    (n m : Netlist) (k : ℕ) → n .size ≤ m .size → PlacesPassed n m → k < n .size →
     (any (strays m (n .at k) (m .at k)) (arity (n .at k .kind)) ≡ true) ↔ Strays n m k
 strays-are n m k whole p l = iff-trans (any-some (strays m (n .at k) (m .at k)) (arity (n .at k .kind))) (
   λ x. (x .0, x .1, (driver m (fanin m k (x .0)), driver-traces m (p .named) (p .balanced) (fanin m k (x .0)) (at (x .0) (x .1)), unlike (driver m (fanin m k (x .0))) (fanin n k (x .0)) .0 (x .2))),

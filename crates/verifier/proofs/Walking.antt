@@ -21,12 +21,12 @@ use Rattle.netlist.specs.declared.Record.{Record}
 use Rattle.netlist.specs.Kinds.{buffer, arity}
 use Rattle.netlist.specs.Records.{Netlist, netlist, recordAt, recordCount, slot}
 use Rattle.verifier.specs.Trace.{walk, driver}
-use Rattle.verifier.specs.Walking.{Sized, Driven, Buffering, unknown, Known, knownDriver, Placed, Walkable, Walked, AllWalkable, Answered}
-use Rattle.verifier.specs.Feeding.{stop, badSlot, bufferChecks, Fed, Tallied, Counted}
+use Rattle.verifier.specs.Walking.{Sized, Driven, Buffering, unknown, Known, knownDriver, PlacesPassed, Traceable, Traced, SlotsTraceable, SlotsTraced}
+use Rattle.verifier.specs.Feeding.{stop, badFanin, bufferChecks, Fed, Tallied, TalliedIfPassed}
 use Rattle.verifier.specs.Checks.{noBuffer, placeChecks, strays, traceCheck}
 use Rattle.verifier.proofs.Trace.{walk-here, walk-back, buffer-named, buffer-level, driver-here, driver-back}
 use Rattle.verifier.proofs.Checks.{driven, place-buffer}
-use Rattle.verifier.proofs.Feeding.{tallied-start, buffer-kind, Counting, counting-onward, counting-end, counting-stop, counting-more}
+use Rattle.verifier.proofs.Feeding.{tallied-start, buffer-kind, Tallying, tallying-onward, tallying-end, tallying-stop, tallying-more}
 
 -- one driver more is known
 keep : (m : Netlist) (drivers : List ℕ) (x d : ℕ) → Known m drivers → x < m .size → (d ≢ unknown → d ≡ driver m x) → Known m (set drivers x d)
@@ -81,8 +81,8 @@ module _ (m : Netlist) (drivers : List ℕ) (known : Known m drivers) (n k : ℕ
   buffer-room = omega (arith, i .here, known .room)
 
   module _ (r : Record) (x : ℕ) (p : x ≡ slot r 0) (used : ℕ) (u : used ≡ arity buffer) (c : Bool) (before after : List ℕ) (f : Fed m r used c before after) (g : c ≡ true) where
-    fine : badSlot m r 0 ≡ false
-    fine = any-none (badSlot m r) used .0 (not-true (any (badSlot m r) used) (sym (f .good) ∙ g)) 0 (omega (arith, u))
+    fine : badFanin m r 0 ≡ false
+    fine = any-none (badFanin m r) used .0 (not-true (any (badFanin m r) used) (sym (f .good) ∙ g)) 0 (omega (arith, u))
 
     named : x < m .size
     named = let h = simp reflect at fine in rw p (h .0 .0)
@@ -106,16 +106,16 @@ buffer-known m drivers n k d x used r b c before after h p q e t u f g known i =
     ∙ sym (buffer-driver m drivers known n k i r x p used u c before after f g q (buffer-kind r b e t))
     )
 
-module _ (m : Netlist) (drivers : List ℕ) (level x : ℕ) (w : Walkable m drivers level x) where
+module _ (m : Netlist) (drivers : List ℕ) (level x : ℕ) (w : Traceable m drivers level x) where
   pub walk-room : x < length drivers
   walk-room = omega (arith, w .here, w .known .room)
 
-  pub walk-found : getD drivers x 0 ≢ unknown → Walked m x (getD drivers x 0) drivers
+  pub walk-found : getD drivers x 0 ≢ unknown → Traced m x (getD drivers x 0) drivers
   walk-found h =
       record { ends = w .known .right x (w .here) h; known = w .known }
 
   module _ (y : ℕ) (e : y ≡ m .at x .kind) where
-    pub walk-stays : y ≢ buffer → Walked m x x drivers
+    pub walk-stays : y ≢ buffer → Traced m x x drivers
     walk-stays b =
         record { ends = sym (driver-here m (w .named) (w .balanced) x (rw e at b)); known = w .known }
 
@@ -131,7 +131,7 @@ module _ (m : Netlist) (drivers : List ℕ) (level x : ℕ) (w : Walkable m driv
       walk-falls t h = omega (arith, walk-level)
 
       module _ (z : ℕ) (f : z ≡ slot (m .at x) 0) where
-        pub walk-next : Walkable m drivers (level - 1) z
+        pub walk-next : Traceable m drivers (level - 1) z
         walk-next =
             rw f (record {
               named = w .named;
@@ -141,19 +141,19 @@ module _ (m : Netlist) (drivers : List ℕ) (level x : ℕ) (w : Walkable m driv
               known = w .known;
             })
 
-        pub walk-keeps : (d : ℕ) (after : List ℕ) → Walked m z d after → Walked m x d (set after x d)
+        pub walk-keeps : (d : ℕ) (after : List ℕ) → Traced m z d after → Traced m x d (set after x d)
         walk-keeps d after v =
             let ends : d ≡ driver m x = v .ends ∙ rw f (sym (driver-back m (w .named) (w .balanced) x (w .here) is-buffer)) in
             record { ends = ends; known = keep m after x d (v .known) (w .here) (λ u. ends) }
 
 -- a record whose driver is known needs no walk
 pub known-found :
-    (m : Netlist) (drivers : List ℕ) (level x : ℕ) → Walkable m drivers level x → (n d : ℕ) → Driven n m →
-    d ≡ knownDriver n drivers x → d ≢ unknown → Walked m x d drivers
+    (m : Netlist) (drivers : List ℕ) (level x : ℕ) → Traceable m drivers level x → (n d : ℕ) → Driven n m →
+    d ≡ knownDriver n drivers x → d ≢ unknown → Traced m x d drivers
 known-found m drivers level x w n d i e h =
     record { ends = known-right n drivers x m d (w .known) i (w .here) e h; known = w .known }
 
-pub walk-start : (m : Netlist) (drivers : List ℕ) (level below x : ℕ) → level ≡ below → Walkable m drivers below x → Walkable m drivers level x
+pub walk-start : (m : Netlist) (drivers : List ℕ) (level below x : ℕ) → level ≡ below → Traceable m drivers below x → Traceable m drivers level x
 walk-start m drivers level below x e w = rw e w
 
 -- no slot below j strays, and what is known is right
@@ -161,17 +161,17 @@ pub record NoneStrayed (m : Netlist) (a r : Record) (n : ℕ) (drivers : List �
   pub none : NoneYet (strays m a r) n j
   pub known : Known m drivers
 
-module _ (m : Netlist) (before : List ℕ) (a r : Record) (n : ℕ) (u : n ≡ arity (a .kind)) (w : AllWalkable m before r (arity (a .kind))) where
+module _ (m : Netlist) (before : List ℕ) (a r : Record) (n : ℕ) (u : n ≡ arity (a .kind)) (w : SlotsTraceable m before r (arity (a .kind))) where
   pub strayed-start : NoneStrayed m a r n before 0
   strayed-start = record { none = any-start (strays m a r) n; known = w .known }
 
   module _ (drivers : List ℕ) (j : ℕ) (i : NoneStrayed m a r n drivers j) where
-    pub strayed-end : n ≤ j → Answered m false (any (strays m a r) (arity (a .kind))) drivers
+    pub strayed-end : n ≤ j → SlotsTraced m false (any (strays m a r) (arity (a .kind))) drivers
     strayed-end l = record { answer = rw (← u) (any-end (strays m a r) n j (i .none) l); known = i .known }
 
     module _ (l : j < n) (x : ℕ) (e : x ≡ slot r j) where
-      pub strayed-walkable : Walkable m drivers (m .at x .level) x
-      strayed-walkable =
+      pub strayed-traceable : Traceable m drivers (m .at x .level) x
+      strayed-traceable =
           record {
             named = w .named;
             balanced = w .balanced;
@@ -180,11 +180,11 @@ module _ (m : Netlist) (before : List ℕ) (a r : Record) (n : ℕ) (u : n ≡ a
             known = i .known;
           }
 
-    module _ (after : List ℕ) (x d y : ℕ) (f : Walked m x d after) (e : x ≡ slot r j) (l : j < n) where
+    module _ (after : List ℕ) (x d y : ℕ) (f : Traced m x d after) (e : x ≡ slot r j) (l : j < n) where
       here : y ≡ slot a j → strays m a r j ≡ not (eqb d y)
       here g = rw (← e, ← g, f .ends)
 
-      pub strayed-found : d ≢ y → y ≡ slot a j → Answered m true (any (strays m a r) (arity (a .kind))) after
+      pub strayed-found : d ≢ y → y ≡ slot a j → SlotsTraced m true (any (strays m a r) (arity (a .kind))) after
       strayed-found t g =
           record { answer = rw (← u) (any-found (strays m a r) n j true l (sym (here g ∙ rw (ne-eqb d y t))) refl); known = f .known }
 
@@ -206,8 +206,8 @@ module _ (source mapped : List ℕ) (drivers : List ℕ) where
     tracing-end l = scan-end (traceCheck (netlist source) (netlist mapped)) (recordCount source) k (i .scanning) (rw e at l)
 
     module _ (l : k < n) (a r : Record) (p : a ≡ recordAt source k) (q : r ≡ recordAt mapped k) where
-      pub tracing-walkable : Placed (netlist source) (netlist mapped) → AllWalkable (netlist mapped) drivers r (arity (a .kind))
-      tracing-walkable w =
+      pub tracing-slots : PlacesPassed (netlist source) (netlist mapped) → SlotsTraceable (netlist mapped) drivers r (arity (a .kind))
+      tracing-slots w =
           record {
             named = w .named;
             balanced = w .balanced;
@@ -215,7 +215,7 @@ module _ (source mapped : List ℕ) (drivers : List ℕ) where
             known = i .known;
           }
 
-      module _ (after : List ℕ) (b : Bool) (f : Answered (netlist mapped) b (any (strays (netlist mapped) a r) (arity (a .kind))) after) where
+      module _ (after : List ℕ) (b : Bool) (f : SlotsTraced (netlist mapped) b (any (strays (netlist mapped) a r) (arity (a .kind))) after) where
         each : check 16 k b ≡ traceCheck (netlist source) (netlist mapped) k
         each = rw (f .answer, p, q)
 
@@ -232,7 +232,7 @@ module _ (source mapped : List ℕ) (drivers : List ℕ) where
 -- the pass over the buffers: the answer from k on is the answer, the first k records are counted, and what is known is right
 pub record Noting (n m : Netlist) (records : ℕ) (counts drivers : List ℕ) (k : ℕ) : Type 0 where
   pub from : records ≤ k
-  pub counting : Counting n m (m .size) counts k
+  pub tallying : Tallying n m (m .size) counts k
   pub known : Known m drivers
 
 module _ (n m : Netlist) (records size : ℕ) (sized : Sized n m records size) (counts drivers : List ℕ) where
@@ -241,31 +241,31 @@ module _ (n m : Netlist) (records size : ℕ) (sized : Sized n m records size) (
   noting-start h t known =
       record {
         from = omega arith;
-        counting =
+        tallying =
             rw (sized .records)
-            (counting-onward n m (m .size) counts (n .size) (omega (arith, sized .records, sized .size, sized .whole)) h t);
+            (tallying-onward n m (m .size) counts (n .size) (omega (arith, sized .records, sized .size, sized .whole)) h t);
         known = known;
       }
 
   module _ (k : ℕ) (i : Noting n m records counts drivers k) where
-    pub noting-end : size ≤ k → Counted Passed (scan (placeChecks n m) 0 (m .size)) m (m .size) counts
-    noting-end l = counting-end n m (m .size) counts k (i .counting) size (sized .size) l
+    pub noting-end : size ≤ k → TalliedIfPassed Passed (scan (placeChecks n m) 0 (m .size)) m (m .size) counts
+    noting-end l = tallying-end n m (m .size) counts k (i .tallying) size (sized .size) l
 
     module _ (l : k < size) where
       pub noting-buffering : scan (placeChecks n m) 0 (n .size) ≡ Passed → Buffering records m k
       noting-buffering h = record { from = i .from; here = omega (arith, sized .size); driven = driven n m records size sized h }
 
-      module _ (a : Checked) (after : List ℕ) (c : Counted a (bufferChecks m k) m (k + 1) after) where
-        place : Counted a (placeChecks n m k) m (k + 1) after
+      module _ (a : Checked) (after : List ℕ) (c : TalliedIfPassed a (bufferChecks m k) m (k + 1) after) where
+        place : TalliedIfPassed a (placeChecks n m k) m (k + 1) after
         place = rw (place-buffer n m k (omega (arith, sized .records, i .from))) c
 
-        pub noting-stop : (number place : ℕ) → a ≡ Refused number place → Counted (Refused number place) (scan (placeChecks n m) 0 (m .size)) m (m .size) after
-        noting-stop number at p = counting-stop n m (m .size) counts k (i .counting) size (sized .size) l a after place number at p
+        pub noting-stop : (number place : ℕ) → a ≡ Refused number place → TalliedIfPassed (Refused number place) (scan (placeChecks n m) 0 (m .size)) m (m .size) after
+        noting-stop number at p = tallying-stop n m (m .size) counts k (i .tallying) size (sized .size) l a after place number at p
 
         pub noting-more : (later : List ℕ) → Known m later → a ≡ Passed → Noting n m records after later (k + 1)
         noting-more later known p =
             record {
               from = omega (arith, i .from);
-              counting = counting-more n m (m .size) counts k (i .counting) size (sized .size) l a after place p;
+              tallying = tallying-more n m (m .size) counts k (i .tallying) size (sized .size) l a after place p;
               known = known;
             }

@@ -38,8 +38,8 @@ tally entries m zero = replicate entries 0
 tally entries m (suc i) = fedBy (tally entries m i) (m .at i) (arity (m .at i .kind))
 
 -- 14 and 15, one used slot
-abbrev pub badSlot : Netlist → Record → ℕ → Bool
-badSlot m r j = badName m r j || notOneLower m r j
+abbrev pub badFanin : Netlist → Record → ℕ → Bool
+badFanin m r j = badName m r j || notOneLower m r j
 
 -- 13 to 15 of record k
 abbrev pub bufferChecks : Netlist → ℕ → Checked
@@ -47,7 +47,7 @@ bufferChecks m k = check 13 k (noBuffer (m .at k)) andThen slotChecks m k (m .at
 
 -- whether none of the first n slots of a record is bad; if so, all are counted
 pub record Fed (m : Netlist) (r : Record) (n : ℕ) (b : Bool) (before after : List ℕ) : Type 0 where
-  pub good : b ≡ not (any (badSlot m r) n)
+  pub good : b ≡ not (any (badFanin m r) n)
   pub counted : b ≡ true → after ≡ fedBy before r n
 
 -- the first k records are counted, with an entry for every record
@@ -56,7 +56,7 @@ pub record Tallied (m : Netlist) (k : ℕ) (counts : List ℕ) : Type 0 where
   pub counted : counts ≡ tally (length counts) m k
 
 -- an answer of checks; if all pass, the first k records are counted
-pub record Counted (a right : Checked) (m : Netlist) (k : ℕ) (counts : List ℕ) : Type 0 where
+pub record TalliedIfPassed (a right : Checked) (m : Netlist) (k : ℕ) (counts : List ℕ) : Type 0 where
   pub answer : a ≡ right
   pub tallied : a ≡ Passed → Tallied m k counts
 

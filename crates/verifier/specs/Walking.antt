@@ -45,15 +45,15 @@ abbrev pub knownDriver : ℕ → List ℕ → ℕ → ℕ
 knownDriver n drivers x = cond (ltb x n) x (getD drivers x 0)
 
 -- what 12 to 15 leave for the trace: records that are kept, buffers, and slots that name records one level lower
-pub record Placed (n m : Netlist) : Type 0 where
+pub record PlacesPassed (n m : Netlist) : Type 0 where
   pub whole : n .size ≤ m .size
   pub kinds : (k : ℕ) → k < n .size → m .at k .kind ≡ n .at k .kind
   pub buffers : (k : ℕ) → n .size ≤ k → k < m .size → m .at k .kind ≡ buffer
   pub named : Named m
   pub balanced : Balanced m
 
--- a record from which a walk may start, with its level
-pub record Walkable (m : Netlist) (drivers : List ℕ) (level x : ℕ) : Type 0 where
+-- a record from which a trace may start, with its level
+pub record Traceable (m : Netlist) (drivers : List ℕ) (level x : ℕ) : Type 0 where
   pub named : Named m
   pub balanced : Balanced m
   pub here : x < m .size
@@ -61,18 +61,18 @@ pub record Walkable (m : Netlist) (drivers : List ℕ) (level x : ℕ) : Type 0 
   pub known : Known m drivers
 
 -- where it ends, with what is known then
-pub record Walked (m : Netlist) (x d : ℕ) (drivers : List ℕ) : Type 0 where
+pub record Traced (m : Netlist) (x d : ℕ) (drivers : List ℕ) : Type 0 where
   pub ends : d ≡ driver m x
   pub known : Known m drivers
 
--- the first n slots of a record, each of which may be walked from
-pub record AllWalkable (m : Netlist) (drivers : List ℕ) (r : Record) (n : ℕ) : Type 0 where
+-- the first n slots of a record, each of which may be traced from
+pub record SlotsTraceable (m : Netlist) (drivers : List ℕ) (r : Record) (n : ℕ) : Type 0 where
   pub named : Named m
   pub balanced : Balanced m
   pub slots : (j : ℕ) → j < n → slot r j < m .size
   pub known : Known m drivers
 
--- an answer on slots, with what is known then
-pub record Answered (m : Netlist) (b right : Bool) (drivers : List ℕ) : Type 0 where
+-- an answer on the traces of slots, with what is known then
+pub record SlotsTraced (m : Netlist) (b right : Bool) (drivers : List ℕ) : Type 0 where
   pub answer : b ≡ right
   pub known : Known m drivers

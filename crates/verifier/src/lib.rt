@@ -13,17 +13,17 @@ ghost use Rattle.netlist.specs.Source.{IsSource};
 ghost use Rattle.netlist.specs.Checks.{inputChecks};
 ghost use Rattle.verifier.specs.Walking.{
   Sized,
-  Placed,
+  PlacesPassed,
   Driven,
   Buffering,
   Known,
   knownDriver,
-  Walkable,
-  Walked,
-  AllWalkable,
-  Answered,
+  Traceable,
+  Traced,
+  SlotsTraceable,
+  SlotsTraced,
 };
-ghost use Rattle.verifier.specs.Feeding.{stop, capacityAt, countCheck, badSlot, bufferChecks, fedOnce, Fed, Tallied, Counted};
+ghost use Rattle.verifier.specs.Feeding.{stop, capacityAt, countCheck, badFanin, bufferChecks, fedOnce, Fed, Tallied, TalliedIfPassed};
 ghost use Rattle.verifier.specs.Checks;
 ghost use Rattle.verifier.specs.Checks.{
   badEmpty,
@@ -159,8 +159,8 @@ fn not_one_lower(mapped: &[u8], r: Record, j: usize) -> bool
 }
 
 // Checks 14 and 15 of one used slot.
-fn bad_slot(mapped: &[u8], r: Record, j: usize) -> bool
-    ensures { λ b. ⌜ b ≡ badSlot (netlist (now (mapped .entry))) r j ⌝ }
+fn bad_fanin(mapped: &[u8], r: Record, j: usize) -> bool
+    ensures { λ b. ⌜ b ≡ badFanin (netlist (now (mapped .entry))) r j ⌝ }
 {
     if bad_name(mapped, r, j) {
         return true;
@@ -186,7 +186,7 @@ fn feed_slots(mapped: &[u8], r: Record, n: usize, counts: &mut [u8]) -> bool
 {
     let mut j: usize = 0;
     while j < n {
-        if bad_slot(mapped, r, j) {
+        if bad_fanin(mapped, r, j) {
             return false;
         }
         feed(counts, slot(r, j) as usize);
@@ -211,7 +211,7 @@ fn feed_used(mapped: &[u8], r: Record, counts: &mut [u8]) -> bool
 
 // The refusal of record k, of which some used slot does not pass: 14 comes first.
 fn refuse_slots(mapped: &[u8], k: u32, r: Record) -> Checked
-    requires { ⌜ any (badSlot (netlist (now mapped)) r) (Kinds.arity (r .kind)) ≡ true ⌝ }
+    requires { ⌜ any (badFanin (netlist (now mapped)) r) (Kinds.arity (r .kind)) ≡ true ⌝ }
     ensures { λ a. ⌜ a ≡ slotChecks (netlist (now (mapped .entry))) k r ⌝ }
 {
     if any_bad_name(mapped, r, arity(r.kind)) {
@@ -225,7 +225,7 @@ fn check_record(source: &[u8], mapped: &[u8], k: u32, counts: &mut [u8]) -> Chec
     requires { ⌜ IsSource (netlist (now source)) ⌝ }
     requires { ⌜ k < recordCount (now source) ⌝ }
     requires { ⌜ Tallied (netlist (now mapped)) k (now counts) ⌝ }
-    ensures { λ a. ⌜ Counted a (placeChecks (netlist (now (source .entry))) (netlist (now (mapped .entry))) k) (netlist (now (mapped .entry))) (k + 1) (now (counts .exit)) ⌝ }
+    ensures { λ a. ⌜ TalliedIfPassed a (placeChecks (netlist (now (source .entry))) (netlist (now (mapped .entry))) k) (netlist (now (mapped .entry))) (k + 1) (now (counts .exit)) ⌝ }
 {
     let r = record_at(mapped, k as usize);
     if differs(record_at(source, k as usize), r) {
@@ -242,7 +242,7 @@ fn check_records(source: &[u8], mapped: &[u8], n: u32, counts: &mut [u8]) -> Che
     requires { ⌜ n ≡ recordCount (now source) ⌝ }
     requires { ⌜ IsSource (netlist (now source)) ⌝ }
     requires { ⌜ Tallied (netlist (now mapped)) 0 (now counts) ⌝ }
-    ensures { λ a. ⌜ Counted a (scan (placeChecks (netlist (now (source .entry))) (netlist (now (mapped .entry)))) 0 (recordCount (now (source .entry)))) (netlist (now (mapped .entry))) (recordCount (now (source .entry))) (now (counts .exit)) ⌝ }
+    ensures { λ a. ⌜ TalliedIfPassed a (scan (placeChecks (netlist (now (source .entry))) (netlist (now (mapped .entry)))) 0 (recordCount (now (source .entry)))) (netlist (now (mapped .entry))) (recordCount (now (source .entry))) (now (counts .exit)) ⌝ }
 {
     let mut k: u32 = 0;
     while k < n {
@@ -275,7 +275,7 @@ fn check_buffer(mapped: &[u8], n: u32, k: u32, counts: &mut [u8], drivers: &mut 
     requires { ⌜ Buffering n (netlist (now mapped)) k ⌝ }
     requires { ⌜ Tallied (netlist (now mapped)) k (now counts) ⌝ }
     requires { ⌜ Known (netlist (now mapped)) (now drivers) ⌝ }
-    ensures { λ a. ⌜ Counted a (bufferChecks (netlist (now (mapped .entry))) k) (netlist (now (mapped .entry))) (k + 1) (now (counts .exit)) ⌝ }
+    ensures { λ a. ⌜ TalliedIfPassed a (bufferChecks (netlist (now (mapped .entry))) k) (netlist (now (mapped .entry))) (k + 1) (now (counts .exit)) ⌝ }
     ensures { λ _. ⌜ Known (netlist (now (mapped .entry))) (now (drivers .exit)) ⌝ }
 {
     let r = record_at(mapped, k as usize);
@@ -303,7 +303,7 @@ fn check_buffers(
     requires { ⌜ scan (placeChecks (netlist (now source)) (netlist (now mapped))) 0 (recordCount (now source)) ≡ Checked.Passed ⌝ }
     requires { ⌜ Tallied (netlist (now mapped)) (recordCount (now source)) (now counts) ⌝ }
     requires { ⌜ Known (netlist (now mapped)) (now drivers) ⌝ }
-    ensures { λ a. ⌜ Counted a (scan (placeChecks (netlist (now (source .entry))) (netlist (now (mapped .entry)))) 0 (recordCount (now (mapped .entry)))) (netlist (now (mapped .entry))) (recordCount (now (mapped .entry))) (now (counts .exit)) ⌝ }
+    ensures { λ a. ⌜ TalliedIfPassed a (scan (placeChecks (netlist (now (source .entry))) (netlist (now (mapped .entry)))) 0 (recordCount (now (mapped .entry)))) (netlist (now (mapped .entry))) (recordCount (now (mapped .entry))) (now (counts .exit)) ⌝ }
     ensures { λ _. ⌜ Known (netlist (now (mapped .entry))) (now (drivers .exit)) ⌝ }
 {
     let mut k = n;
@@ -322,8 +322,8 @@ fn check_buffers(
 
 // The driver of record x, back through buffers: the level falls at each call. What a walk finds is kept for the next.
 fn walk(mapped: &[u8], drivers: &mut [u16], level: u16, x: u16) -> u16
-    requires { ⌜ Walkable (netlist (now mapped)) (now drivers) level x ⌝ }
-    ensures { λ d. ⌜ Walked (netlist (now (mapped .entry))) x d (now (drivers .exit)) ⌝ }
+    requires { ⌜ Traceable (netlist (now mapped)) (now drivers) level x ⌝ }
+    ensures { λ d. ⌜ Traced (netlist (now (mapped .entry))) x d (now (drivers .exit)) ⌝ }
 {
     if netlist::kind_at(mapped, x as usize) != netlist::BUFFER {
         return x;
@@ -344,9 +344,9 @@ fn walk(mapped: &[u8], drivers: &mut [u16], level: u16, x: u16) -> u16
 
 // The driver of record x: known, or found by a walk.
 fn driver_of(mapped: &[u8], n: u32, drivers: &mut [u16], x: u16) -> u16
-    requires { ⌜ Walkable (netlist (now mapped)) (now drivers) (recordAt (now mapped) x .level) x ⌝ }
+    requires { ⌜ Traceable (netlist (now mapped)) (now drivers) (recordAt (now mapped) x .level) x ⌝ }
     requires { ⌜ Driven n (netlist (now mapped)) ⌝ }
-    ensures { λ d. ⌜ Walked (netlist (now (mapped .entry))) x d (now (drivers .exit)) ⌝ }
+    ensures { λ d. ⌜ Traced (netlist (now (mapped .entry))) x d (now (drivers .exit)) ⌝ }
 {
     let d = known(n, drivers, x);
     if d != UNKNOWN {
@@ -357,9 +357,9 @@ fn driver_of(mapped: &[u8], n: u32, drivers: &mut [u16], x: u16) -> u16
 
 // Check 16 of the used slots of a source record a that stands mapped as r: one is traced to another driver.
 fn any_strays(mapped: &[u8], n: u32, drivers: &mut [u16], a: Record, r: Record) -> bool
-    requires { ⌜ AllWalkable (netlist (now mapped)) (now drivers) r (Kinds.arity (a .kind)) ⌝ }
+    requires { ⌜ SlotsTraceable (netlist (now mapped)) (now drivers) r (Kinds.arity (a .kind)) ⌝ }
     requires { ⌜ Driven n (netlist (now mapped)) ⌝ }
-    ensures { λ b. ⌜ Answered (netlist (now (mapped .entry))) b (any (strays (netlist (now (mapped .entry))) a r) (Kinds.arity (a .kind))) (now (drivers .exit)) ⌝ }
+    ensures { λ b. ⌜ SlotsTraced (netlist (now (mapped .entry))) b (any (strays (netlist (now (mapped .entry))) a r) (Kinds.arity (a .kind))) (now (drivers .exit)) ⌝ }
 {
     let used = arity(a.kind);
     let mut j: usize = 0;
@@ -376,7 +376,7 @@ fn any_strays(mapped: &[u8], n: u32, drivers: &mut [u16], a: Record, r: Record) 
 fn check_traces(source: &[u8], mapped: &[u8], n: u32, drivers: &mut [u16]) -> Checked
     requires { ⌜ n ≡ recordCount (now source) ⌝ }
     requires { ⌜ Driven n (netlist (now mapped)) ⌝ }
-    requires { ⌜ Placed (netlist (now source)) (netlist (now mapped)) ⌝ }
+    requires { ⌜ PlacesPassed (netlist (now source)) (netlist (now mapped)) ⌝ }
     requires { ⌜ Known (netlist (now mapped)) (now drivers) ⌝ }
     ensures { λ a. ⌜ a ≡ scan (traceCheck (netlist (now (source .entry))) (netlist (now (mapped .entry)))) 0 (recordCount (now (source .entry))) ⌝ }
 {
@@ -431,7 +431,7 @@ fn check_places(
     requires { ⌜ Sized (netlist (now source)) (netlist (now mapped)) n m ⌝ }
     requires { ⌜ Tallied (netlist (now mapped)) 0 (now counts) ⌝ }
     requires { ⌜ Known (netlist (now mapped)) (now drivers) ⌝ }
-    ensures { λ a. ⌜ Counted a (scan (placeChecks (netlist (now (source .entry))) (netlist (now (mapped .entry)))) 0 (recordCount (now (mapped .entry)))) (netlist (now (mapped .entry))) (recordCount (now (mapped .entry))) (now (counts .exit)) ⌝ }
+    ensures { λ a. ⌜ TalliedIfPassed a (scan (placeChecks (netlist (now (source .entry))) (netlist (now (mapped .entry)))) 0 (recordCount (now (mapped .entry)))) (netlist (now (mapped .entry))) (recordCount (now (mapped .entry))) (now (counts .exit)) ⌝ }
     ensures { λ _. ⌜ Known (netlist (now (mapped .entry))) (now (drivers .exit)) ⌝ }
 {
     let kept = check_records(source, mapped, n, counts);
@@ -452,7 +452,7 @@ fn check_placed(
     drivers: &mut [u16],
 ) -> Checked
     requires { ⌜ Sized (netlist (now source)) (netlist (now mapped)) n m ⌝ }
-    requires { ⌜ Placed (netlist (now source)) (netlist (now mapped)) ⌝ }
+    requires { ⌜ PlacesPassed (netlist (now source)) (netlist (now mapped)) ⌝ }
     requires { ⌜ capacity < stop ⌝ }
     requires { ⌜ Tallied (netlist (now mapped)) (recordCount (now mapped)) (now counts) ⌝ }
     requires { ⌜ Known (netlist (now mapped)) (now drivers) ⌝ }

@@ -4,7 +4,7 @@ use Prim.Native.Nat.{_-_}
 use mathlib.Core.Path.{_≡_}
 use lib.ListN.{length}
 use Rattle.netlist.specs.Records.{netlist}
-use Rattle.verifier.proofs.Walking.{Tracing, tracing-start, tracing-end, tracing-walkable, tracing-more, tracing-stop}
+use Rattle.verifier.proofs.Walking.{Tracing, tracing-start, tracing-end, tracing-slots, tracing-more, tracing-stop}
 use Rattle.verifier.proofs.check_traces.Statement.{statement}
 use Rattle.verifier.proofs.check_traces.Tie as tie
 
@@ -30,7 +30,7 @@ record-at-requires-2 : tie.Need-record-at-requires-2 Inv-loop μ-loop
 record-at-requires-2 c κs = search needs
 
 any-strays-requires : tie.Need-any-strays-requires Inv-loop μ-loop
-any-strays-requires c κs = search (needs, tracing-walkable)
+any-strays-requires c κs = search (needs, tracing-slots)
 
 same-length : tie.Need-same-length Inv-loop μ-loop
 same-length c = search needs

@@ -15,8 +15,8 @@ abbrev μ-loop : tie.MeasureT-loop
 loop-holds : tie.Need-loop-holds Inv-loop μ-loop
 loop-holds c = search slots-start
 
-bad-slot-requires : tie.Need-bad-slot-requires Inv-loop μ-loop
-bad-slot-requires c κs = search needs
+bad-fanin-requires : tie.Need-bad-fanin-requires Inv-loop μ-loop
+bad-fanin-requires c κs = search needs
 
 same-length : tie.Need-same-length Inv-loop μ-loop
 same-length c = search slots-length
@@ -40,7 +40,7 @@ loop-less : tie.Need-loop-less Inv-loop μ-loop
 loop-less c = search needs
 
 loop-again : tie.Need-loop-again Inv-loop μ-loop
-loop-again c = slots-more _ _ _ _ _ _ (c .before .before .before .before .before .before .before .before .loop .inv) _ _ _ (search needs) (search needs) (c .before .before .feed .ensures) (c .before .before .before .before .before .before .bad-slot .ensures) (search needs)
+loop-again c = slots-more _ _ _ _ _ _ (c .before .before .before .before .before .before .before .before .loop .inv) _ _ _ (search needs) (search needs) (c .before .before .feed .ensures) (c .before .before .before .before .before .before .bad-fanin .ensures) (search needs)
 
 same-length-2 : tie.Need-same-length-2 Inv-loop μ-loop
 same-length-2 c = search slots-length
@@ -55,7 +55,7 @@ feed-slots-spec =
     Inv-loop
     μ-loop
     loop-holds
-    bad-slot-requires
+    bad-fanin-requires
     same-length
     returns
     slot-requires
