@@ -18,7 +18,7 @@ use Rattle.netlist.specs.Records.{netlist, recordAt, recordCount, isOutput}
 use Rattle.netlist.specs.Records
 use Rattle.simulator.specs.Logic
 use Rattle.simulator.specs.Logic.{isInput, inputs, outputs, outputsBelow, outputRow}
-use Rattle.simulator.specs.Run.{rowAt, Room, put, after, steps, outputRows}
+use Rattle.simulator.specs.Run.{rowAt, OutputRoom, putOutput, after, steps, outputRows}
 use Rattle.verifier.specs.Legal.{Named}
 use Rattle.simulator.specs.Step.{rowLimit, stepped, Buffered}
 use Rattle.simulator.specs.declared.Shape.{Shape}
@@ -29,18 +29,18 @@ use Rattle.simulator.proofs.Values.{bit-le}
 use Rattle.simulator.proofs.Writes.{Written, length-written, take-written, drop-written, written-more, written-none, written-all}
 
 -- the first i bytes of an area are zeros
-pub record Clearing (n : ℕ) (area old : List ℕ) (i : ℕ) : Type 0 where
+pub record Zeroing (n : ℕ) (area old : List ℕ) (i : ℕ) : Type 0 where
   pub within : i ≤ n
   pub all : n ≡ length old
   pub same : length area ≡ length old
   pub so-far : area ≡ replicate i 0 ++ drop i old
 
 module _ (n : ℕ) (old : List ℕ) where
-  pub clearing-start : n ≡ length old → Clearing n old old 0
-  clearing-start e = record { within = omega arith; all = e; same = refl; so-far = refl }
+  pub zeroing-start : n ≡ length old → Zeroing n old old 0
+  zeroing-start e = record { within = omega arith; all = e; same = refl; so-far = refl }
 
-  pub clearing-more : (area : List ℕ) (i : ℕ) → Clearing n area old i → i < n → Clearing n (set area i 0) old (i + 1)
-  clearing-more area i c h =
+  pub zeroing-more : (area : List ℕ) (i : ℕ) → Zeroing n area old i → i < n → Zeroing n (set area i 0) old (i + 1)
+  zeroing-more area i c h =
       record {
         within = omega arith;
         all = c .all;
@@ -48,8 +48,8 @@ module _ (n : ℕ) (old : List ℕ) where
         so-far = ap (λ (l : List ℕ). set l i 0) (c .so-far) ∙ fill-more i 0 old (omega (arith, c .all));
       }
 
-  pub clearing-end : (area : List ℕ) (i : ℕ) → Clearing n area old i → n ≤ i → area ≡ replicate (length old) 0
-  clearing-end area i c h =
+  pub zeroing-end : (area : List ℕ) (i : ℕ) → Zeroing n area old i → n ≤ i → area ≡ replicate (length old) 0
+  zeroing-end area i c h =
       let e : i ≡ length old = omega (arith, c .within, c .all) in
       c .so-far
       ∙ ap (λ (l : List ℕ). replicate i 0 ++ l) (drop-of-length-le old {i = i} (omega arith))
@@ -61,13 +61,13 @@ pub byte-past : (area : List ℕ) (i : ℕ) → length area ≤ i → 0 ≡ getD
 byte-past area i h = sym (List·getD-eq-default area 0 h)
 
 module _ (is : Bool) (k b : ℕ) (row : List ℕ) where
-  pub put-room : Room is k row → is ≡ true → k < length row
+  pub put-room : OutputRoom is k row → is ≡ true → k < length row
   put-room r e = r .room e
 
-  pub put-here : is ≡ true → set row k b ≡ put is k b row
+  pub put-here : is ≡ true → set row k b ≡ putOutput is k b row
   put-here e = rw e
 
-  pub put-none : is ≡ false → row ≡ put is k b row
+  pub put-none : is ≡ false → row ≡ putOutput is k b row
   put-none e = rw e
 
 pub next-place : (is : Bool) (k : ℕ) → is ≡ true → k + 1 ≡ k + bit is
@@ -106,14 +106,14 @@ module _ (source state : List ℕ) (n : ℕ) (old : List ℕ) where
         rw (c .place, c .long)
         (rank-lt (isOutput (netlist source)) i (recordCount source) (omega (arith, c .all)) t)
 
-    pub collecting-room : Room (eqb x output) k row
+    pub collecting-room : OutputRoom (eqb x output) k row
     collecting-room = record { room = λ t. rw (c .same) (inside (rw e at t)) }
 
     pub collecting-fits : n < 2 ^ 63 → k < 2 ^ 63
     collecting-fits l = omega (arith, c .few)
 
     pub collecting-more : (b next : ℕ) (after : List ℕ) → b ≡ getD state i 0 → next ≡ k + bit (eqb x output) →
-        after ≡ put (eqb x output) k b row → Collecting source state n next (i + 1) after old
+        after ≡ putOutput (eqb x output) k b row → Collecting source state n next (i + 1) after old
     unfolding count sum outputsBelow
     collecting-more b next after p q r = go (isOutput (netlist source) i) refl
       where
@@ -137,14 +137,14 @@ module _ (source state : List ℕ) (n : ℕ) (old : List ℕ) where
 
         go : (t : Bool) → isOutput (netlist source) i ≡ t → Collecting source state n next (i + 1) after old
         go true f =
-            let a : after ≡ set row k b = r ∙ ap (λ (t : Bool). put t k b row) (is ∙ f) in
+            let a : after ≡ set row k b = r ∙ ap (λ (t : Bool). putOutput t k b row) (is ∙ f) in
             let g : next ≡ suc k = q ∙ ap (λ (t : Bool). k + bit t) (is ∙ f) ∙ add-one k in
             done true f
             (rw (a, g, ← p) (written-more _ k b row old (c .so-far) (inside f)))
             (ap length a ∙ length-set row k b ∙ c .same)
             (g ∙ sym (add-one k))
         go false f =
-            let a : after ≡ row = r ∙ ap (λ (t : Bool). put t k b row) (is ∙ f) in
+            let a : after ≡ row = r ∙ ap (λ (t : Bool). putOutput t k b row) (is ∙ f) in
             let g : next ≡ k = q ∙ ap (λ (t : Bool). k + bit t) (is ∙ f) ∙ add-zero k in
             done false f
             (rw (a, g, append-nil (outputsBelow (netlist source) state i)) (c .so-far))

@@ -41,17 +41,17 @@ bit-le true = omega arith
 bit-le false = omega arith
 
 -- the records of a kind below i are counted
-pub record Counting (m : Netlist) (kind n total i : ℕ) : Type 0 where
+pub record KindCounting (m : Netlist) (kind n total i : ℕ) : Type 0 where
   pub within : i ≤ n
   pub few : total ≤ i
   pub so-far : total ≡ count (ofKind m kind) i
 
 module _ (m : Netlist) (kind n : ℕ) where
-  pub counting-start : Counting m kind n 0 0
+  pub counting-start : KindCounting m kind n 0 0
   unfolding count sum
   counting-start = record { within = omega arith; few = omega arith; so-far = refl }
 
-  pub counting-more : (total i x one : ℕ) → Counting m kind n total i → i < n → x ≡ m .at i .kind → one ≡ bit (eqb x kind) → Counting m kind n (total + one) (i + 1)
+  pub counting-more : (total i x one : ℕ) → KindCounting m kind n total i → i < n → x ≡ m .at i .kind → one ≡ bit (eqb x kind) → KindCounting m kind n (total + one) (i + 1)
   unfolding count sum
   counting-more total i x one c h e f =
       record {
@@ -60,12 +60,12 @@ module _ (m : Netlist) (kind n : ℕ) where
         so-far = rw (add-one i, ← e) (omega (arith, c .so-far));
       }
 
-  pub counting-end : (total i size : ℕ) → Counting m kind n total i → n ≤ i → n ≡ size → total ≡ count (ofKind m kind) size
+  pub counting-end : (total i size : ℕ) → KindCounting m kind n total i → n ≤ i → n ≡ size → total ≡ count (ofKind m kind) size
   counting-end total i size c h q =
       let e : i ≡ size = omega (arith, c .within) in
       c .so-far ∙ ap (count (ofKind m kind)) e
 
-  pub counting-fits : (total i x one : ℕ) → Counting m kind n total i → one ≡ bit (eqb x kind) → i < n → n < 2 ^ 64 → total + one < 2 ^ 64
+  pub counting-fits : (total i x one : ℕ) → KindCounting m kind n total i → one ≡ bit (eqb x kind) → i < n → n < 2 ^ 64 → total + one < 2 ^ 64
   counting-fits total i x one c f h l = omega (arith, c .few, bit-le (eqb x kind))
 
 -- the slots below j that are 1 are counted; bits are the inversion bits from j on

@@ -64,9 +64,9 @@ runOutputs source s mapped count rows area outs =
     outs
 
 -- where an output's byte goes there is room
-pub record Room (is : Bool) (k : ℕ) (row : List ℕ) : Type 0 where
+pub record OutputRoom (is : Bool) (k : ℕ) (row : List ℕ) : Type 0 where
   pub room : is ≡ true → k < length row
 
 -- a list with byte b at k, if it is an output's
-abbrev pub put : Bool → ℕ → ℕ → List ℕ → List ℕ
-put is k b row = cond is (set row k b) row
+abbrev pub putOutput : Bool → ℕ → ℕ → List ℕ → List ℕ
+putOutput is k b row = cond is (set row k b) row

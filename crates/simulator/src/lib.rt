@@ -12,7 +12,7 @@ ghost use Rattle.verifier.specs.Legal.{Named};
 ghost use Rattle.simulator.specs.Logic.{on, ofKind, onesBelow, functionIn, valueIn, values, inputs, outputs, outputRow};
 ghost use Rattle.simulator.specs.Evaluate.{bitChecks, badAreas, evaluateChecks, evaluateAnswer, evaluateArea};
 ghost use Rattle.simulator.specs.Step.{rowLimit, renewedBelow, older, stepped, Buffered, copied, badRows, stepChecks, stepAnswer, stepArea};
-ghost use Rattle.simulator.specs.Run.{rowAt, Room, put, after, steps, outputRows, badOutputs, runChecks, runAnswer, runArea, runOutputs};
+ghost use Rattle.simulator.specs.Run.{rowAt, OutputRoom, putOutput, after, steps, outputRows, badOutputs, runChecks, runAnswer, runArea, runOutputs};
 ghost use Rattle.simulator.specs.Waves.{IsRun};
 ghost use Rattle.simulator.specs.Shape.{Wired, Steppable, ShapeOf, Playable};
 ghost use Rattle.simulator.specs.Logic;
@@ -331,10 +331,10 @@ fn byte_at(area: &[u8], i: usize) -> u8
 
 // Puts an output's byte at place k of a row; answers the next place.
 fn put_output(is_output: bool, b: u8, k: usize, row: &mut [u8]) -> usize
-    requires { ⌜ Room «is_output» k (now row) ⌝ }
+    requires { ⌜ OutputRoom «is_output» k (now row) ⌝ }
     requires { ⌜ k < 2 ^ 63 ⌝ }
     ensures { λ r. ⌜ r ≡ k + bit «is_output» ⌝ }
-    ensures { λ r. ⌜ now (row .exit) ≡ put «is_output» k b (now (row .entry)) ⌝ }
+    ensures { λ r. ⌜ now (row .exit) ≡ putOutput «is_output» k b (now (row .entry)) ⌝ }
 {
     if is_output {
         row[k] = b;

@@ -3,12 +3,12 @@ use borrow.Author.Needs.{needs}
 use Prim.Native.Nat.{_-_}
 use mathlib.Core.Path.{_≡_}
 use Rattle.netlist.specs.Records.{netlist, recordCount}
-use Rattle.simulator.proofs.Values.{Counting, counting-start, counting-more, counting-end, counting-fits}
+use Rattle.simulator.proofs.Values.{KindCounting, counting-start, counting-more, counting-end, counting-fits}
 use Rattle.simulator.proofs.count_kind.Statement.{statement}
 use Rattle.simulator.proofs.count_kind.Tie as tie
 
 abbrev Inv-loop : tie.InvT-loop
-Inv-loop bytes kind n total₀ i₀ total i = (n ≡ recordCount bytes) × Counting (netlist bytes) kind n total i
+Inv-loop bytes kind n total₀ i₀ total i = (n ≡ recordCount bytes) × KindCounting (netlist bytes) kind n total i
 
 abbrev μ-loop : tie.MeasureT-loop
 μ-loop bytes kind n total₀ i₀ total i = n - i
