@@ -18,7 +18,7 @@ use Rattle.facts.specs.declared.Checked.the-variants.{Passed, Refused}
 use Rattle.facts.specs.Checks.{scan}
 use Rattle.facts.proofs.Bools.{and-l, true-false}
 use Rattle.facts.proofs.Loops.{NoneYet, any-start, any-more, any-found, any-end, Scanning, scan-start, scan-more, scan-stop, scan-end}
-use Rattle.facts.proofs.Reflect.{reflect}
+use Rattle.facts.proofs.Reflect.{reflect, scan-passed}
 use Rattle.facts.proofs.Sums.{count-append, count-cong, count-none}
 use Rattle.netlist.specs.declared.Record.{Record}
 use Rattle.netlist.specs.Kinds.{slots, buffer, arity}
@@ -28,7 +28,7 @@ use Rattle.fanout.specs.Answer.{driverCapacity}
 use Rattle.verifier.specs.Legal.{capacityOf}
 use Rattle.verifier.specs.Checks.{differs, noBuffer, slotChecks, placeChecks, feedCheck}
 use Rattle.verifier.specs.Walking.{Sized, PlacesPassed}
-use Rattle.verifier.specs.Feeding.{stop, more, fedOnce, fedBy, tally, badFanin, bufferChecks, Fed, Tallied, TalliedIfPassed, capacityAt, countCheck}
+use Rattle.verifier.specs.Feeding.{stop, more, fedOnce, fedBy, tally, badFanin, bufferChecks, Fed, FedAtMost, Tallied, TalliedIfPassed, capacityAt, countCheck}
 use Rattle.verifier.proofs.Checks.{slots-good, slots-passed, kept-bad, kept-slots, placed-driven, scan-cong, scan-onward, scan-early}
 
 module _ (counts : List ℕ) (x : ℕ) where
@@ -354,3 +354,41 @@ module _ (s n : ℕ) (counts : List ℕ) (size k : ℕ) (i : Scanning (countChec
 
   pub count-stop : c < f → Refused 17 k ≡ scan (countCheck s n counts) 0 size
   count-stop h = scan-stop (countCheck s n counts) size k 17 k (Refused 17 k) i l (sym (rw (← q, ← g, lt-ltb c f h))) refl
+
+-- the largest count of the records from `from` on, below k
+module _ (counts : List ℕ) (from : ℕ) where
+  pub most-start : FedAtMost counts from from 0
+  most-start = record { bound = λ j a b. absurd (omega arith) }
+
+  module _ (k most : ℕ) (i : FedAtMost counts from k most) where
+    most-more : (next : ℕ) → most ≤ next → getD counts k 0 ≤ next → FedAtMost counts from (k + 1) next
+    most-more next g h =
+        record {
+          bound = λ j a b. elim (decLt j k) [
+            | yes l ↦ omega (arith, i .bound j a l)
+            | no l ↦ (let e : j ≡ k = omega arith in rw e h)
+          ];
+        }
+
+    pub most-raised : (next : ℕ) → most < getD counts k 0 → next ≡ getD counts k 0 → FedAtMost counts from (k + 1) next
+    most-raised next h e = most-more next (omega arith) (omega arith)
+
+    pub most-kept : (next : ℕ) → getD counts k 0 ≤ most → next ≡ most → FedAtMost counts from (k + 1) next
+    most-kept next h e = most-more next (omega arith) (omega arith)
+
+    pub most-end : (to : ℕ) → to ≤ k → FedAtMost counts from to most
+    most-end to l = record { bound = λ j a b. i .bound j a (omega arith) }
+
+-- 17 passes where the largest counts are within capacity
+pub counts-few :
+    (s n size : ℕ) (counts : List ℕ) (drivers buffers : ℕ) → FedAtMost counts 0 n drivers → drivers ≤ driverCapacity →
+    FedAtMost counts n size buffers → buffers ≤ s → Passed ≡ scan (countCheck s n counts) 0 size
+counts-few s n size counts drivers buffers d g b h = sym (scan-passed (countCheck s n counts) size .1 each)
+  where
+    each : (k : ℕ) → k < size → countCheck s n counts k ≡ Passed
+    each k l = elim (decLt k n) [
+      | yes q ↦ rw (lt-ltb k n q, le-ltb driverCapacity (getD counts k 0) (omega (arith, d .bound k (omega arith) q)))
+      | no q ↦ (
+          let r : n ≤ k = omega arith in
+          rw (le-ltb k n r, le-ltb s (getD counts k 0) (omega (arith, b .bound k r l))))
+    ]

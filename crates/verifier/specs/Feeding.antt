@@ -1,5 +1,5 @@
 -- Check 17's counts, made while 14 and 15 pass over the used slots: a count stops above the largest capacity, so that none can wrap.
-use Prim.Native.Nat.{ℕ, zero, suc, _+_, _≤_}
+use Prim.Native.Nat.{ℕ, zero, suc, _+_, _<_, _≤_}
 use mathlib.Core.Path.{_≡_}
 use mathlib.Core.Bool.{Bool, true, cond, not, _||_}
 use mathlib.Core.List.{List}
@@ -67,3 +67,7 @@ capacityAt s n k = cond (ltb k n) driverCapacity s
 -- 17 of record k, by the counts
 abbrev pub countCheck : ℕ → ℕ → List ℕ → ℕ → Checked
 countCheck s n counts k = check 17 k (ltb (capacityAt s n k) (getD counts k 0))
+
+-- none of the records from `from` on, below `to`, feeds more slots than `most`, by the counts
+pub record FedAtMost (counts : List ℕ) (from to most : ℕ) : Type 0 where
+  pub bound : (k : ℕ) → from ≤ k → k < to → getD counts k 0 ≤ most

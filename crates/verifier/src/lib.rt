@@ -23,7 +23,7 @@ ghost use Rattle.verifier.specs.Walking.{
   SlotsTraceable,
   SlotsTraced,
 };
-ghost use Rattle.verifier.specs.Feeding.{stop, capacityAt, countCheck, badFanin, bufferChecks, fedOnce, Fed, Tallied, TalliedIfPassed};
+ghost use Rattle.verifier.specs.Feeding.{stop, capacityAt, countCheck, badFanin, bufferChecks, fedOnce, Fed, FedAtMost, Tallied, TalliedIfPassed};
 ghost use Rattle.verifier.specs.Checks;
 ghost use Rattle.verifier.specs.Checks.{
   badEmpty,
@@ -403,8 +403,25 @@ fn capacity_at(capacity: u32, n: u32, k: u32) -> u32
     if k < n { DRIVER_CAPACITY } else { capacity }
 }
 
+// The largest count of the records from `from` on, below `to`.
+fn most_fed(counts: &[u8], from: u32, to: u32) -> u8
+    requires { ⌜ to ≤ length (now counts) ⌝ }
+    ensures { λ most. ⌜ FedAtMost (now (counts .entry)) from to most ⌝ }
+{
+    let mut most: u8 = 0;
+    let mut k = from;
+    while k < to {
+        let fed = counts[k as usize];
+        if most < fed {
+            most = fed;
+        }
+        k += 1;
+    }
+    most
+}
+
 // Check 17 of the first m records, rising, by the counts.
-fn check_counts(counts: &[u8], capacity: u32, n: u32, m: u32) -> Checked
+fn first_overfed(counts: &[u8], capacity: u32, n: u32, m: u32) -> Checked
     requires { ⌜ m ≤ length (now counts) ⌝ }
     ensures { λ a. ⌜ a ≡ scan (countCheck capacity n (now (counts .entry))) 0 m ⌝ }
 {
@@ -417,6 +434,20 @@ fn check_counts(counts: &[u8], capacity: u32, n: u32, m: u32) -> Checked
         k += 1;
     }
     Checked::Passed
+}
+
+// Check 17 of the first m records by the largest counts: which record comes first is asked only where one feeds too many.
+fn check_counts(counts: &[u8], capacity: u32, n: u32, m: u32) -> Checked
+    requires { ⌜ n ≤ m ⌝ }
+    requires { ⌜ m ≤ length (now counts) ⌝ }
+    ensures { λ a. ⌜ a ≡ scan (countCheck capacity n (now (counts .entry))) 0 m ⌝ }
+{
+    if most_fed(counts, 0, n) as u32 <= DRIVER_CAPACITY {
+        if most_fed(counts, n, m) as u32 <= capacity {
+            return Checked::Passed;
+        }
+    }
+    first_overfed(counts, capacity, n, m)
 }
 
 // Checks 12 to 15 of every record, rising.

@@ -1,65 +1,38 @@
--- `check_counts` meets its contract: the answer from k on is the answer.
+-- `check_counts` meets its contract: where the largest counts are within capacity, all are.
 use borrow.Author.Needs.{needs}
-use Prim.Native.Nat.{_-_}
-use Rattle.facts.proofs.Loops.{Scanning, scan-start, scan-end}
-use Rattle.verifier.specs.Feeding.{countCheck}
-use Rattle.verifier.proofs.Feeding.{count-more, count-stop}
+use Rattle.verifier.proofs.Feeding.{counts-few}
 use Rattle.verifier.proofs.check_counts.Statement.{statement}
 use Rattle.verifier.proofs.check_counts.Tie as tie
 
-abbrev Inv-loop : tie.InvT-loop
-Inv-loop counts capacity n m k₀ k = Scanning (countCheck capacity n counts) m k
+most-fed-requires : tie.Need-most-fed-requires
+most-fed-requires c κs = search needs
 
-abbrev μ-loop : tie.MeasureT-loop
-μ-loop counts capacity n m k₀ k = m - k
-
-loop-holds : tie.Need-loop-holds Inv-loop μ-loop
-loop-holds c = search scan-start
-
-cast-wide : tie.Need-cast-wide Inv-loop μ-loop
-cast-wide c = search needs
-
-shared-slice-read-wide : tie.Need-shared-slice-read-wide Inv-loop μ-loop
-shared-slice-read-wide c = search needs
-
-wide-requires : tie.Need-wide-requires Inv-loop μ-loop
-wide-requires c κs = search needs
-
-capacity-at-requires : tie.Need-capacity-at-requires Inv-loop μ-loop
-capacity-at-requires c κs = search needs
-
-cast-if1 : tie.Need-cast-if1 Inv-loop μ-loop
+cast-if1 : tie.Need-cast-if1
 cast-if1 c = search needs
 
-returns : tie.Need-returns Inv-loop μ-loop
-returns c = search count-stop
+most-fed-requires-2 : tie.Need-most-fed-requires-2
+most-fed-requires-2 c κs = search needs
 
-add-k : tie.Need-add-k Inv-loop μ-loop
-add-k c = search needs
+cast-if2 : tie.Need-cast-if2
+cast-if2 c = search needs
 
-loop-less : tie.Need-loop-less Inv-loop μ-loop
-loop-less c = search needs
+returns : tie.Need-returns
+returns c = search counts-few
 
-loop-again : tie.Need-loop-again Inv-loop μ-loop
-loop-again c = search count-more
+first-overfed-requires : tie.Need-first-overfed-requires
+first-overfed-requires c κs = search needs
 
-returns-2 : tie.Need-returns-2 Inv-loop μ-loop
-returns-2 c = search scan-end
+returns-2 : tie.Need-returns-2
+returns-2 c = search needs
 
 pub check-counts-spec : {M : Type 1} → statement M
 check-counts-spec =
     tie.close
     (tie.spec
-    Inv-loop
-    μ-loop
-    loop-holds
-    cast-wide
-    shared-slice-read-wide
-    wide-requires
-    capacity-at-requires
+    most-fed-requires
     cast-if1
+    most-fed-requires-2
+    cast-if2
     returns
-    add-k
-    loop-less
-    loop-again
+    first-overfed-requires
     returns-2)
