@@ -113,7 +113,7 @@ pub count-cong : (p q : ℕ → Bool) (n : ℕ) → ((i : ℕ) → i < n → p i
 unfolding count
 count-cong p q n h = sum-cong _ _ n (λ i l. ap bit (h i l))
 
-bit-le : (a : Bool) → bit a ≤ 1
+pub bit-le : (a : Bool) → bit a ≤ 1
 bit-le true = omega arith
 bit-le false = omega arith
 

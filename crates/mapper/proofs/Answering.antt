@@ -13,7 +13,7 @@ use Rattle.facts.specs.declared.Checked.{Checked}
 use Rattle.facts.specs.declared.Checked.the-variants.{Passed, Refused}
 use Rattle.facts.specs.Checks.{check, _andThen_}
 use Rattle.facts.specs.Sums.{bit, sum, count}
-use Rattle.facts.proofs.Sums.{count-le}
+use Rattle.facts.proofs.Sums.{bit-le, count-le}
 use Rattle.facts.proofs.Reflect.{check-passed, scan-passed}
 use Rattle.netlist.specs.Kinds.{width, slots, sourceLimit, mappedLimit, isGate}
 use Rattle.netlist.specs.Records.{Netlist, netlist, recordCount, depth}
@@ -48,12 +48,8 @@ module _ (n : Netlist) where
   gates-start = record { within = omega arith; gates = refl }
 
   module _ (N found i : ℕ) (h : Gating n found i) (size : N ≡ n .size) where
-    pub gates-fit : (b : Bool) (x : ℕ) → N ≤ sourceLimit → i < N → x ≡ bit b → Fits w32 (found + x)
-    gates-fit b x few l e = omega (arith, h .gates, count-le (λ k. isGate (n .at k .kind)) i, one b)
-      where
-        one : (b : Bool) → bit b ≤ 1
-        one true = omega arith
-        one false = omega arith
+    pub gates-fit : (b : Bool) (x : ℕ) → n .size ≤ sourceLimit → i < N → x ≡ bit b → Fits w32 (found + x)
+    gates-fit b x few l e = omega (arith, h .gates, count-le (λ k. isGate (n .at k .kind)) i, bit-le b)
 
     pub gates-more : (b : Bool) (x kind : ℕ) → i < N → kind ≡ n .at i .kind → b ≡ isGate kind → x ≡ bit b → Gating n (found + x) (i + 1)
     unfolding count sum

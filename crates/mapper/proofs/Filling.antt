@@ -11,7 +11,7 @@ use lib.ListN.{length, getD, set, replicate, length-set, length-replicate}
 use lib.Seq.{getD-set-same, getD-set-other, ext-getD}
 use borrow.Author.Tests.{ltb-true, eq-eqb, ne-eqb, eqb-true}
 use Rattle.facts.proofs.Bools.{and-l, and-r, and-i}
-use Rattle.facts.proofs.Sums.{count-true, count-false, count-none, count-le, count₂-flat}
+use Rattle.facts.proofs.Sums.{count-true, count-false, count-none, count-le, count-more, count₂-flat}
 use Rattle.netlist.specs.Kinds.{slots, topLevel}
 use Rattle.netlist.specs.Records.{Netlist}
 use Rattle.netlist.specs.Source.{IsSource}
@@ -39,6 +39,10 @@ sinks-none n d k = count-none (λ z. sinkAt n d k (z / slots) (z % slots)) 0 (λ
 pub sinks-below : (n : Netlist) (d k y : ℕ) → sinksBelow n d k y ≤ y
 unfolding sinksBelow
 sinks-below n d k y = count-le (λ z. sinkAt n d k (z / slots) (z % slots)) y
+
+pub sinks-rise : (n : Netlist) (d k y z : ℕ) → y ≤ z → sinksBelow n d k y ≤ sinksBelow n d k z
+unfolding sinksBelow
+sinks-rise n d k y z l = count-more (λ x. sinkAt n d k (x / slots) (x % slots)) y z l
 
 -- a sink of d stands p / 3's level less d's above it
 module _ (n : Netlist) (d p : ℕ) (named : namesSlot n d p ≡ true) (above : n .at d .level < n .at (p / slots) .level) where

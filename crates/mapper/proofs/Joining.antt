@@ -1,5 +1,5 @@
 -- Laws of writing records one after the other: the first j of n are written.
-use Prim.Native.Nat.{ℕ, zero, suc, _+_, _*_, _≤_, _<_, _/_}
+use Prim.Native.Nat.{ℕ, zero, suc, _+_, _-_, _*_, _≤_, _<_, _/_}
 use mathlib.Core.Path.{_≡_, refl, sym, _∙_, ap, ap₂}
 use mathlib.Core.Bool.{cond}
 use mathlib.Core.List.{List, _++_}
@@ -16,7 +16,7 @@ use Rattle.netlist.specs.Kinds.{width, arity}
 use Rattle.netlist.specs.Records.{recordAt}
 use Rattle.mapper.specs.Bytes.{joined, encode, encoded, put}
 use Rattle.mapper.specs.Mapped.{bufferOf}
-use Rattle.mapper.specs.Chains.{behind, levelRecord, relinked, relinkedAt}
+use Rattle.mapper.specs.Chains.{behind, levelRecord, lineParent, lineRecord, relinked, relinkedAt}
 use Rattle.mapper.proofs.Bytes.{length-joined, length-encode}
 use Rattle.mapper.proofs.Area.{length-put, put-behind}
 
@@ -107,6 +107,29 @@ module _ (area₀ : List ℕ) (s k at level base n : ℕ) (area : List ℕ) (j :
   level-more fanin r after room l e f g =
       join-more area₀ at (levelRecord s k level base) n area j h r after room l (f ∙ ap (bufferOf level) e) g
 
+-- what a node at distance k of a line hangs on, by distance
+pub line-near : (d start k : ℕ) → k < 2 → d ≡ lineParent d start k
+unfolding lineParent
+line-near d start zero l = refl
+line-near d start (suc zero) l = refl
+line-near d start (suc (suc k)) l = absurd (omega arith)
+
+pub line-far : (d start k : ℕ) → 2 ≤ k → start + (k - 2) ≡ lineParent d start k
+unfolding lineParent
+line-far d start zero l = absurd (omega arith)
+line-far d start (suc zero) l = absurd (omega arith)
+line-far d start (suc (suc k)) l = omega arith
+
+-- buffer j of a line
+pub line-more : (area₀ : List ℕ) (d start low n : ℕ) (area : List ℕ) (j : ℕ) → Joining area₀ start (lineRecord d start low) n area j →
+    (fanin : ℕ) (r : Record) (after : List ℕ) → width * (start + n) ≤ length area₀ → j < n → fanin ≡ lineParent d start (j + 1) →
+    r ≡ bufferOf (low + (j + 1)) fanin → after ≡ put area (width * (start + j)) (encode r) →
+    Joining area₀ start (lineRecord d start low) n after (j + 1)
+unfolding lineRecord
+line-more area₀ d start low n area j h fanin r after room l e f g =
+    join-more area₀ start (lineRecord d start low) n area j h r after room l
+    (f ∙ ap₂ bufferOf (ap (λ (k : ℕ). low + k) (add-one j)) (e ∙ ap (lineParent d start) (add-one j))) g
+
 -- record i of the source: read, rewired and written
 pub new-used : (j a kind x y : ℕ) → a ≡ arity kind → j < a → x ≡ cond (ltb j (arity kind)) x y
 new-used j a kind x y e l = rw (← e, lt-ltb j a l) refl
@@ -126,5 +149,5 @@ module _ (bytes parents area₀ : List ℕ) (n : ℕ) (area : List ℕ) (i : ℕ
       (f ∙ ap (λ (r : Record). relinked r parents i) e)
       (g ∙ ap (λ (k : ℕ). put area (width * k) (encode t)) (sym (zero-add i)))
 
-  pub source-end : n ≤ i → area ≡ put area₀ 0 (encoded (relinkedAt bytes parents) n)
-  source-end l = join-end area₀ 0 (relinkedAt bytes parents) n area i h l
+  pub source-end : (N : ℕ) → N ≡ n → N ≤ i → area ≡ put area₀ 0 (encoded (relinkedAt bytes parents) n)
+  source-end N e l = join-end area₀ 0 (relinkedAt bytes parents) n area i h (omega arith)

@@ -4,10 +4,12 @@ pub mod Blocks
 pub mod Bytes
 pub mod Chains
 pub mod Counting
+pub mod Fans
 pub mod Feeds
 pub mod Filling
 pub mod Hanging
 pub mod Joining
+pub mod Lines
 pub mod Lists
 pub mod Mapped
 pub mod Measuring
@@ -15,6 +17,7 @@ pub mod Netting
 pub mod Nodes
 pub mod Planting
 pub mod Promises
+pub mod Threading
 pub mod View
 pub mod Walking
 pub mod Whole

@@ -1,28 +1,29 @@
 -- Laws of writing one net: what each step leaves is what the next one asks.
-use Prim.Native.Nat.{ℕ, zero, suc, _+_, _*_, _≤_, _<_, _/_, _%_}
+use Prim.Native.Nat.{ℕ, zero, suc, _+_, _-_, _*_, _≤_, _<_}
 use mathlib.Core.Path.{_≡_, refl, sym, _∙_, ap, ap₂, subst}
 use mathlib.Core.Bool.{true}
 use mathlib.Core.List.{List}
 use native.Mathlib.Omega.{arith}
 use native.Mathlib.Numerals.{add-one}
 use native.Mathlib.Decide.{decLt}
+use mir.Val.{Fits}
+use mir.Syntax.{w64}
 use lib.ListN.{length, getD, drop, replicate, List·getD-eq-default}
 use lib.Seq.{getD-drop}
-use borrow.Author.Tests.{eq-eqb}
 use Rattle.facts.specs.Sums.{sum}
-use Rattle.facts.proofs.Bools.{and-i}
-use Rattle.netlist.specs.Kinds.{width, slots, topLevel}
+use Rattle.netlist.specs.Kinds.{width, topLevel, mappedLimit}
 use Rattle.netlist.specs.Records.{Netlist}
-use Rattle.fanout.specs.Nets.{row, up, buffersAt}
+use Rattle.fanout.specs.Nets.{row, sinks, up, buffersAt}
 use Rattle.mapper.specs.declared.Tree.{Tree}
-use Rattle.mapper.specs.Bytes.{written}
+use Rattle.mapper.specs.Bytes.{encoded, put, written}
 use Rattle.mapper.specs.Mapped.{buffersOf, treeSize, blockStart, mappedSize, sinkParent, mapped, Ready}
-use Rattle.mapper.specs.Chains.{slotEnd, usedSlot, faninSlot, nextSink, Chained, Filled, Walkable, Walked, Stale, Net, Hung, Noded, Writable, Wrote}
+use Rattle.mapper.specs.Chains.{slotEnd, namesSlot, Chained, Filled, Walkable, Walked, Stale, FewSinks, Net, Hung, Hooked, onParent, onLine, lineRecord, Noded, Writable, Wrote}
 use Rattle.mapper.proofs.Area.{written-none, written-more, written-length}
 use Rattle.facts.proofs.Blocks.{block-before}
 use Rattle.mapper.proofs.Nodes.{pos, nodes-none}
-use Rattle.mapper.proofs.Chains.{next-none, chained-from}
-use Rattle.mapper.proofs.Filling.{chain-first}
+use Rattle.mapper.proofs.Hanging.{away, named-sink}
+use Rattle.mapper.proofs.Lines.{line-size, line-written, line-hooked}
+use Rattle.mapper.proofs.Threading.{hung-next}
 use Rattle.mapper.proofs.Measuring.{walkable, net-nodes, measured-none}
 
 module _ (n : Netlist) (s d : ℕ) (first next : List ℕ) (end : ℕ) (r : Ready n s) (h : Chained n first next d end) (top : ℕ)
@@ -31,7 +32,7 @@ module _ (n : Netlist) (s d : ℕ) (first next : List ℕ) (end : ℕ) (r : Read
   net-walkable = walkable n first next end s d top counts h (r .low, r .high) f
 
   -- after the walk the row holds the tree's buffers
-  rowed : (after : List ℕ) (t : Tree) (w : Walked s counts after t) → d < n .size →
+  rowed : (after : List ℕ) (t : Tree) (w : Walked s counts true after t) → d < n .size →
       (k : ℕ) → 1 ≤ k → k ≤ topLevel → getD after k 0 ≡ buffersOf n s d k
   unfolding buffersOf
   rowed after t w ld zero a b = absurd (omega arith)
@@ -40,7 +41,7 @@ module _ (n : Netlist) (s d : ℕ) (first next : List ℕ) (end : ℕ) (r : Read
       ∙ ap (λ (r : List ℕ). buffersAt s r (suc k)) (f .counted)
       ∙ ap (up s) (sym (net-nodes n s d (suc (suc k)) (h .source) (pos n s r) ld))
 
-  pub net-grown : (after : List ℕ) (t : Tree) → Walked s counts after t → d < n .size → Net n s d after top
+  pub net-grown : (after : List ℕ) (t : Tree) → Walked s counts true after t → d < n .size → Net n s d after top
   net-grown after t w ld =
       record {
         ready = r;
@@ -73,36 +74,76 @@ sum-last : (f : ℕ → ℕ) (n : ℕ) → sum f n + f n ≡ sum f (n + 1)
 unfolding sum
 sum-last f n = rw (add-one n) refl
 
--- a driver without sinks has no buffers, and no slot names it
+-- the net of d, by its sinks
 module _ (n : Netlist) (s d at : ℕ) (first next : List ℕ) (end : ℕ) (counts base area : List ℕ)
     (w : Writable n s d at first next end counts base area) where
-  pub net-none : (p : ℕ) → p ≡ getD first d 0 → end ≤ p → Wrote n s d at first next end counts base area area at
-  net-none p e l =
+  wrote : (after : ℕ) (next′ counts′ base′ area′ : List ℕ) → after ≡ at + treeSize n s d → counts′ ≡ replicate (suc topLevel) 0 →
+      length base′ ≡ suc topLevel → Hooked n d (onParent n s) next next′ → area′ ≡ written (mapped n s) at (treeSize n s d) area →
+      Wrote n s d at first next′ end counts′ base′ area area′ after
+  wrote after next′ counts′ base′ area′ e c b k a =
       record {
-        start = omega (arith, w .start, none, sum-last (treeSize n s) d);
-        clear = w .clear;
-        room = w .room;
-        hung =
-            record {
-              chained = chained-from n first next end d (d + 1) (w .hung .chained) (omega arith);
-              at = λ y a u b. hangs y a u b (decLt (faninSlot n y) d);
-            };
-        bytes = sym (ap (λ (c : ℕ). written (mapped n s) at c area) (sym none) ∙ written-none (mapped n s) at 0 area);
+        start = omega (arith, w .start, sum-last (treeSize n s) d);
+        clear = c;
+        room = b;
+        hung = hung-next n s d first next next′ end (w .hung) k;
+        bytes = a;
       }
+
+  -- without sinks it has no buffers, and no slot names d
+  pub net-none : ((k : ℕ) → sinks n d k ≡ 0) → Wrote n s d at first next end counts base area area at
+  net-none z =
+      wrote at next counts base area (omega (arith, none)) (w .clear) (w .room)
+      record { size = refl; at = λ y l c. absurd (unnamed y l c); others = λ y c. refl }
+      (sym (ap (λ (c : ℕ). written (mapped n s) at c area) (sym none) ∙ written-none (mapped n s) at 0 area))
     where
       none : 0 ≡ treeSize n s d
-      none = measured-none n first next end d p (w .hung .chained) e (w .driver) s (w .ready .low, w .ready .high) l .buffers
+      none = measured-none n s d (w .ready .source) (w .ready .low, w .ready .high) (w .driver) z .buffers
 
-      first-is : p ≡ nextSink n d 0
-      first-is = chain-first n first next end d (w .hung .chained) p (w .driver) e
+      unnamed : (y : ℕ) → y < slotEnd n → namesSlot n d y ≡ true → ⊥
+      unnamed y l c = omega (arith, z (away n y d), named-sink n s (w .ready) d y l c)
 
-      hangs : (y : ℕ) → y < slotEnd n → usedSlot n y ≡ true → faninSlot n y < d + 1 → Dec (faninSlot n y < d) →
-          getD next y 0 ≡ sinkParent n s (y / slots) (y % slots)
-      hangs y a u b (yes m) = w .hung .at y a u m
-      hangs y a u b (no m) =
-          absurd
-          (next-none n d 0 y (omega arith) (omega (arith, first-is, w .hung .chained .stop))
-          (and-i (usedSlot n y) _ u (eq-eqb (faninSlot n y) d (omega arith))))
+  pub line-start : at ≤ mappedLimit
+  line-start = omega (arith, w .start, w .ready .fits, block-before (treeSize n s) d (n .size) (w .driver))
+
+  -- of one or two it is a line
+  module _ (top near : ℕ) (f : FewSinks n d top near) where
+    inside : at + (top - 1) ≤ mappedSize n s
+    inside =
+        omega (
+          arith,
+          w .start,
+          line-size n s d top near (w .ready .source) (w .ready .low) (w .driver) f,
+          block-before (treeSize n s) d (n .size) (w .driver),
+        )
+
+    pub line-room : width * (at + (top - 1)) ≤ length area
+    line-room = omega (arith, inside, w .long)
+
+    pub line-fits : at + (top - 1) < 65536
+    line-fits = omega (arith, inside, w .ready .fits)
+
+    pub line-levels : (low : ℕ) → low ≡ n .at d .level → low + (top - 1) < 65536
+    line-levels low e = omega (arith, f .within, w .ready .source .levels d (w .driver))
+
+    pub line-next : Fits w64 (at + (top - 1))
+    line-next = omega (arith, inside, w .ready .fits)
+
+    pub net-line : (low : ℕ) (next′ area′ : List ℕ) → low ≡ n .at d .level → Hooked n d (onLine n d at) next next′ →
+        area′ ≡ put area (width * at) (encoded (lineRecord d at low) (top - 1)) →
+        Wrote n s d at first next′ end counts base area area′ (at + (top - 1))
+    net-line low next′ area′ e k a =
+        wrote (at + (top - 1)) next′ counts base area′
+        (omega (arith, line-size n s d top near (w .ready .source) (w .ready .low) (w .driver) f))
+        (w .clear) (w .room)
+        (line-hooked n s d top near (w .ready) (w .driver) f next next′ (subst (λ (x : ℕ). Hooked n d (onLine n d x) next next′) (w .start) k))
+        (a ∙ rw (e, w .start) (line-written n s d top near (w .ready) (w .driver) f area))
+
+  -- of more it is a tree
+  pub net-tree : (after : ℕ) (next′ counts′ base′ area′ : List ℕ) → after ≡ blockStart n s (d + 1) → counts′ ≡ replicate (suc topLevel) 0 →
+      length base′ ≡ suc topLevel → Hooked n d (onParent n s) next next′ → area′ ≡ written (mapped n s) at (treeSize n s d) area →
+      Wrote n s d at first next′ end counts′ base′ area area′ after
+  net-tree after next′ counts′ base′ area′ e c b k a =
+      wrote after next′ counts′ base′ area′ (omega (arith, w .start, sum-last (treeSize n s) d)) c b k a
 
 -- the nets of the drivers below d are written
 pub record Netting (n : Netlist) (s : ℕ) (first : List ℕ) (end : ℕ) (area₀ : List ℕ) (d at : ℕ) (next counts base area : List ℕ) : Type 0 where

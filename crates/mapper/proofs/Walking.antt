@@ -1,6 +1,7 @@
 -- Laws of walking a row down in place: from distance k on the row holds the buffers, or nothing where it is drained.
 use Prim.Native.Nat.{ℕ, suc, _+_, _-_, _*_, _≤_, _<_, _/_}
 use mathlib.Core.Path.{_≡_, refl, sym, _∙_, ap}
+use mathlib.Core.Bool.{Bool, true, false, cond}
 use mathlib.Core.List.{List, [], _∷_}
 use native.Mathlib.Omega.{arith}
 use native.Mathlib.Nat.{mul-le-mul-right, mul-suc}
@@ -12,7 +13,8 @@ use lib.Seq.{getD-set-same, getD-set-other, getD-drop, ext-getD}
 use Rattle.netlist.specs.Kinds.{slots, topLevel, sourceLimit}
 use Rattle.fanout.specs.Nets.{up, nodes, buffers, nodesAt, buffersAt, fewest}
 use Rattle.fanout.proofs.Nets.{up-le, up-zero, nodes-at, buffers-from}
-use Rattle.mapper.specs.Chains.{Walkable, Walked, Drained}
+use Rattle.mapper.specs.declared.Tree.{Tree}
+use Rattle.mapper.specs.Chains.{Walkable, Walked}
 use Rattle.mapper.proofs.Lists.{getD-replicated}
 use Rattle.mapper.proofs.Nodes.{nodes-none, buffers-none}
 
@@ -39,15 +41,15 @@ buffers-small s c (here ∷ further) l h =
       mul-suc (2 * c) (length further),
     )
 
--- at distance k: its nodes, the buffers from there on, and the row, whose entries are sinks below k and what is left from k on
-pub record Walking (s : ℕ) (counts : List ℕ) (left : ℕ → ℕ) (row : List ℕ) (k nodes buffers : ℕ) : Type 0 where
+-- at distance k: its nodes, the buffers from there on, and the row, whose entries are sinks below k, and buffers or nothing from k on
+pub record Walking (s : ℕ) (counts : List ℕ) (keep : Bool) (row : List ℕ) (k nodes buffers : ℕ) : Type 0 where
   pub from : 1 ≤ k
   pub to : k ≤ suc topLevel
   pub here : nodes ≡ nodesAt s counts k
   pub further : buffers ≡ Rattle.fanout.specs.Nets.buffers s (drop k counts)
   pub size : length row ≡ suc topLevel
   pub below : (x : ℕ) → x < k → getD row x 0 ≡ getD counts x 0
-  pub above : (x : ℕ) → k ≤ x → getD row x 0 ≡ left x
+  pub above : (x : ℕ) → k ≤ x → getD row x 0 ≡ cond keep (buffersAt s counts x) 0
 
 module _ (s : ℕ) (counts : List ℕ) (top : ℕ) (w : Walkable s counts top) where
   pos : 0 < s
@@ -56,8 +58,13 @@ module _ (s : ℕ) (counts : List ℕ) (top : ℕ) (w : Walkable s counts top) w
   none : (k x : ℕ) → top < k → getD (drop k counts) x 0 ≡ 0
   none k x l = getD-drop k counts x 0 ∙ w .beyond (k + x) (omega arith)
 
-  start : (left : ℕ → ℕ) → ((x : ℕ) → top < x → left x ≡ 0) → Walking s counts left counts (top + 1) 0 0
-  start left z =
+  -- beyond top nothing is left
+  left-none : (keep : Bool) (x : ℕ) → top < x → cond keep (buffersAt s counts x) 0 ≡ 0
+  left-none true x l = ap (up s) (nodes-none s (drop (suc x) counts) pos (λ y. none (suc x) y (omega arith))) ∙ up-zero s pos
+  left-none false x l = refl
+
+  pub walk-start : (keep : Bool) → Walking s counts keep counts (top + 1) 0 0
+  walk-start keep =
       record {
         from = omega arith;
         to = omega (arith, w .near);
@@ -65,21 +72,13 @@ module _ (s : ℕ) (counts : List ℕ) (top : ℕ) (w : Walkable s counts top) w
         further = sym (buffers-none s (drop (top + 1) counts) pos (λ x. none (top + 1) x (omega arith)));
         size = w .size;
         below = λ x l. refl;
-        above = λ x l. w .beyond x (omega arith) ∙ sym (z x (omega arith));
+        above = λ x l. w .beyond x (omega arith) ∙ sym (left-none keep x (omega arith));
       }
-
-  pub walk-start : Walking s counts (buffersAt s counts) counts (top + 1) 0 0
-  walk-start =
-      start (buffersAt s counts)
-      (λ x l. ap (up s) (nodes-none s (drop (suc x) counts) pos (λ y. none (suc x) y (omega arith))) ∙ up-zero s pos)
-
-  pub drain-start : Walking s counts (λ x. 0) counts (top + 1) 0 0
-  drain-start = start (λ x. 0) (λ x l. refl)
 
   small-from : (k x : ℕ) → getD (drop k counts) x 0 ≤ slots * sourceLimit
   small-from k x = omega (arith, getD-drop k counts x 0, w .small (k + x))
 
-  module _ (left : ℕ → ℕ) (row : List ℕ) (k nodes buffers : ℕ) (h : Walking s counts left row k nodes buffers) where
+  module _ (keep : Bool) (row : List ℕ) (k nodes buffers : ℕ) (h : Walking s counts keep row k nodes buffers) where
     pub walk-few : nodes ≤ 65535
     walk-few = omega (arith, h .here, nodes-small s (slots * sourceLimit) (drop k counts) (w .low) (small-from k))
 
@@ -120,8 +119,9 @@ module _ (s : ℕ) (counts : List ℕ) (top : ℕ) (w : Walkable s counts top) w
             w .size,
           )
 
-      more : (v : ℕ) → v ≡ left (k - 1) → Walking s counts left (set row (k - 1) v) (k - 1) (b + getD row (k - 1) 0) (buffers + b)
-      more v q =
+      pub walk-more : (v : ℕ) → v ≡ cond keep b 0 →
+          Walking s counts keep (set row (k - 1) v) (k - 1) (b + getD row (k - 1) 0) (buffers + b)
+      walk-more v q =
           record {
             from = omega arith;
             to = omega (arith, h .to);
@@ -132,50 +132,30 @@ module _ (s : ℕ) (counts : List ℕ) (top : ℕ) (w : Walkable s counts top) w
             above = λ x m. at x m (ℕ-discrete x (k - 1));
           }
         where
-          at : (x : ℕ) → k - 1 ≤ x → Dec (x ≡ k - 1) → getD (set row (k - 1) v) x 0 ≡ left x
-          at x m (yes g) = rw g (getD-set-same row (k - 1) v 0 (omega (arith, h .to, h .size)) ∙ q)
+          at : (x : ℕ) → k - 1 ≤ x → Dec (x ≡ k - 1) → getD (set row (k - 1) v) x 0 ≡ cond keep (buffersAt s counts x) 0
+          at x m (yes g) =
+              rw g (getD-set-same row (k - 1) v 0 (omega (arith, h .to, h .size)) ∙ q ∙ ap (λ (c : ℕ). cond keep c 0) carried)
           at x m (no g) = getD-set-other row (k - 1) x v 0 g ∙ h .above x (omega arith)
 
-    last : k ≤ 1 → k ≡ 1
-    last l = omega (arith, h .from)
-
-    nodes-last : k ≤ 1 → nodes ≡ nodesAt s counts 1
-    nodes-last l = h .here ∙ ap (nodesAt s counts) (last l)
-
-    buffers-last : k ≤ 1 → buffers ≡ fewest s counts
-    buffers-last l = h .further ∙ ap (λ (k : ℕ). Rattle.fanout.specs.Nets.buffers s (drop k counts)) (last l)
-
-  module _ (row : List ℕ) (k nodes buffers : ℕ) (h : Walking s counts (buffersAt s counts) row k nodes buffers) where
-    pub walk-more : (b : ℕ) → 1 < k → b ≡ up s nodes →
-        Walking s counts (buffersAt s counts) (set row (k - 1) b) (k - 1) (b + getD row (k - 1) 0) (buffers + b)
-    walk-more b l e = more (buffersAt s counts) row k nodes buffers h l b e b (carried (buffersAt s counts) row k nodes buffers h l b e)
-
-    pub walk-end : k ≤ 1 → Walked s counts row (record { nodes = nodes; buffers = buffers })
+    pub walk-end : k ≤ 1 → Walked s counts keep row (record { nodes = nodes; buffers = buffers })
     walk-end l =
         record {
-          nodes = nodes-last (buffersAt s counts) row k nodes buffers h l;
-          buffers = buffers-last (buffersAt s counts) row k nodes buffers h l;
+          nodes = h .here ∙ ap (nodesAt s counts) last;
+          buffers = h .further ∙ ap (λ (k : ℕ). Rattle.fanout.specs.Nets.buffers s (drop k counts)) last;
           size = h .size;
+          apart = h .below 0 (omega (arith, h .from)) ∙ w .apart;
           at = λ x m. h .above x (omega arith);
         }
-
-  module _ (row : List ℕ) (k nodes buffers : ℕ) (h : Walking s counts (λ x. 0) row k nodes buffers) where
-    pub drain-more : (b : ℕ) → 1 < k → b ≡ up s nodes →
-        Walking s counts (λ x. 0) (set row (k - 1) 0) (k - 1) (b + getD row (k - 1) 0) (buffers + b)
-    drain-more b l e = more (λ x. 0) row k nodes buffers h l b e 0 refl
-
-    pub drain-end : k ≤ 1 → Drained s counts row (record { nodes = nodes; buffers = buffers })
-    drain-end l =
-        record {
-          nodes = nodes-last (λ x. 0) row k nodes buffers h l;
-          buffers = buffers-last (λ x. 0) row k nodes buffers h l;
-          clear =
-              ext-getD 0 row (replicate (suc topLevel) 0) (h .size ∙ sym (length-replicate {A = ℕ} (suc topLevel) 0))
-              (λ x m. at x (decLt 0 x) ∙ sym (getD-replicated (suc topLevel) x 0));
-        }
       where
-        at : (x : ℕ) → Dec (0 < x) → getD row x 0 ≡ 0
-        at x (yes m) = h .above x (omega arith)
-        at x (no m) =
-            let e : x ≡ 0 = omega arith in
-            rw e (h .below 0 (omega (arith, h .from)) ∙ w .apart)
+        last : k ≡ 1
+        last = omega (arith, h .from)
+
+-- a row whose buffers are not kept is all zero after the walk
+pub drained : (s : ℕ) (counts after : List ℕ) (t : Tree) → Walked s counts false after t → after ≡ replicate (suc topLevel) 0
+drained s counts after t w =
+    ext-getD 0 after (replicate (suc topLevel) 0) (w .size ∙ sym (length-replicate {A = ℕ} (suc topLevel) 0))
+    (λ x m. at x (decLt 0 x) ∙ sym (getD-replicated (suc topLevel) x 0))
+  where
+    at : (x : ℕ) → Dec (0 < x) → getD after x 0 ≡ 0
+    at x (yes m) = w .at x (omega arith)
+    at x (no m) = let e : x ≡ 0 = omega arith in rw e (w .apart)

@@ -54,14 +54,13 @@ module _ (bytes : List ℕ) (s : ℕ) (first parents : List ℕ) (end : ℕ) (r 
       ∙ sym (at-source (netlist bytes) s (pos (netlist bytes) s r) i l)
 
   -- buffers, then the source's records: all of the mapped netlist
-  pub whole-area : (N : ℕ) (area₀ area₁ area : List ℕ) → N ≡ netlist bytes .size → width * mappedSize (netlist bytes) s ≤ length area₀ →
+  pub whole-area : (area₀ area₁ area : List ℕ) → width * mappedSize (netlist bytes) s ≤ length area₀ →
       area₁ ≡ written (mapped (netlist bytes) s) (netlist bytes .size) (bufferTotal (netlist bytes) s) area₀ →
-      area ≡ put area₁ 0 (encoded (relinkedAt bytes parents) N) → area ≡ onto (bytesOf (mapped (netlist bytes) s)) area₀
-  whole-area N area₀ area₁ area e room f g =
+      area ≡ put area₁ 0 (encoded (relinkedAt bytes parents) (netlist bytes .size)) → area ≡ onto (bytesOf (mapped (netlist bytes) s)) area₀
+  whole-area area₀ area₁ area room f g =
       g
       ∙ ap (put area₁ 0)
-      (ap (encoded (relinkedAt bytes parents)) e
-      ∙ encoded-cong _ _ (netlist bytes .size) (λ i l. new-record i l ∙ ap (mappedAt (netlist bytes) s) (from-zero i)))
+      (encoded-cong _ _ (netlist bytes .size) (λ i l. new-record i l ∙ ap (mappedAt (netlist bytes) s) (from-zero i)))
       ∙ ap (written (mapped (netlist bytes) s) 0 (netlist bytes .size)) f
       ∙ written-all (mapped (netlist bytes) s) (netlist bytes .size) (bufferTotal (netlist bytes) s) area₀ (omega arith) refl
     where

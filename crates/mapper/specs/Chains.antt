@@ -1,7 +1,7 @@
 -- What the mapper's local arrays hold. Slots go by number: slot y is slot y % 3 of record y / 3.
 use Prim.Native.Nat.{ℕ, zero, suc, _+_, _-_, _*_, _≤_, _<_, _/_, _%_}
 use mathlib.Core.Path.{_≡_}
-use mathlib.Core.Bool.{Bool, true, cond}
+use mathlib.Core.Bool.{Bool, true, false, cond}
 use mathlib.Core.List.{List}
 use lib.ListN.{length, getD, replicate}
 use lib.Dec.{ltb}
@@ -13,8 +13,10 @@ use Rattle.netlist.specs.Kinds.{width, slots, topLevel, sourceLimit, arity}
 use Rattle.netlist.specs.Records.{Netlist, netlist, tabulate, slot, recordCount, recordAt, used, fanin, names}
 use Rattle.netlist.specs.Checks.{inputChecks}
 use Rattle.netlist.specs.Source.{IsSource}
-use Rattle.fanout.specs.Nets.{row, sinkAt, nodesAt, buffersAt, fewest}
+use Rattle.fanout.specs.Nets.{row, sinks, sinkAt, nodesAt, buffersAt, fewest}
 use Rattle.mapper.specs.declared.Tree.{Tree}
+use Rattle.mapper.specs.declared.Fanout.{Fanout}
+use Rattle.mapper.specs.declared.Fanout.the-variants.{None, Few, Many}
 use Rattle.mapper.specs.declared.Sizing.{Sizing}
 use Rattle.mapper.specs.declared.Sizing.the-variants.{Total, Refuses}
 use Rattle.mapper.specs.Bytes.{written}
@@ -38,6 +40,13 @@ namesSlot n d y = names n d (y / slots) (y % slots)
 -- the first slot from y on that names d, or the end
 unfoldable pub nextSink : Netlist → ℕ → ℕ → ℕ
 nextSink n d y = seek (namesSlot n d) y (slotEnd n - y)
+
+-- slot y's record stands above record d; and how far
+pub record Above (n : Netlist) (d y : ℕ) : Type 0 where
+  pub higher : n .at d .level < n .at (y / slots) .level
+
+unfoldable pub slotDistance : Netlist → ℕ → ℕ → ℕ
+slotDistance n d y = n .at (y / slots) .level - n .at d .level
 
 -- how many sinks of d at distance k stand below slot y
 unfoldable pub sinksBelow : Netlist → ℕ → ℕ → ℕ → ℕ
@@ -76,24 +85,35 @@ pub record Walkable (s : ℕ) (counts : List ℕ) (top : ℕ) : Type 0 where
   pub small : (k : ℕ) → getD counts k 0 ≤ slots * sourceLimit
   pub beyond : (k : ℕ) → top < k → getD counts k 0 ≡ 0
 
--- a row after the walk: the nodes at distance 1, the tree's buffers, and at each distance from 1 on the buffers there
-pub record Walked (s : ℕ) (counts after : List ℕ) (t : Tree) : Type 0 where
+-- a row after the walk: the nodes at distance 1, the tree's buffers, and at each distance from 1 on the buffers there, or nothing where they are not kept
+pub record Walked (s : ℕ) (counts : List ℕ) (keep : Bool) (after : List ℕ) (t : Tree) : Type 0 where
   pub nodes : t .nodes ≡ nodesAt s counts 1
   pub buffers : t .buffers ≡ fewest s counts
   pub size : length after ≡ suc topLevel
-  pub at : (k : ℕ) → 1 ≤ k → getD after k 0 ≡ buffersAt s counts k
-
--- a row that the walk leaves all zero
-pub record Drained (s : ℕ) (counts after : List ℕ) (t : Tree) : Type 0 where
-  pub nodes : t .nodes ≡ nodesAt s counts 1
-  pub buffers : t .buffers ≡ fewest s counts
-  pub clear : after ≡ replicate (suc topLevel) 0
+  pub apart : getD after 0 0 ≡ 0
+  pub at : (k : ℕ) → 1 ≤ k → getD after k 0 ≡ cond keep (buffersAt s counts k) 0
 
 -- a row to be cleared up to distance top
 pub record Stale (counts : List ℕ) (top : ℕ) : Type 0 where
   pub size : length counts ≡ suc topLevel
   pub near : top ≤ topLevel
   pub beyond : (k : ℕ) → top < k → getD counts k 0 ≡ 0
+
+-- one or two sinks of d: the farthest stands at distance top, and `near` of them at distance 1
+pub record FewSinks (n : Netlist) (d top near : ℕ) : Type 0 where
+  pub above : 1 ≤ top
+  pub within : top ≤ topLevel
+  pub close : near ≡ sinks n d 1
+  pub farthest : 0 < sinks n d top
+  pub few : sinks n d top ≤ 2
+  pub nearer : (k : ℕ) → k < top → sinks n d k ≤ 1
+  pub beyond : (k : ℕ) → top < k → sinks n d k ≡ 0
+
+-- what is found of d's sinks
+unfoldable pub Fans : Netlist → ℕ → Fanout → Type 0
+Fans n d None = (k : ℕ) → sinks n d k ≡ 0
+Fans n d (Few top near) = FewSinks n d top near
+Fans n d Many = Unit {0}
 
 -- d's net: the nodes left at distance 1, and its buffers
 pub record Measured (n : Netlist) (s d : ℕ) (t : Tree) : Type 0 where
@@ -128,6 +148,30 @@ pub record Hung (n : Netlist) (s : ℕ) (first next : List ℕ) (d end : ℕ) : 
   pub chained : Chained n first next d end
   pub at : (y : ℕ) → y < slotEnd n → usedSlot n y ≡ true → faninSlot n y < d →
       getD next y 0 ≡ sinkParent n s (y / slots) (y % slots)
+
+-- the sinks of d hang where f says, and the slots of other drivers hold what they held
+pub record Hooked (n : Netlist) (d : ℕ) (f : ℕ → ℕ) (before after : List ℕ) : Type 0 where
+  pub size : length after ≡ length before
+  pub at : (y : ℕ) → y < slotEnd n → namesSlot n d y ≡ true → getD after y 0 ≡ f y
+  pub others : (y : ℕ) → namesSlot n d y ≡ false → getD after y 0 ≡ getD before y 0
+
+-- what slot y hangs on
+abbrev pub onParent : Netlist → ℕ → ℕ → ℕ
+onParent n s y = sinkParent n s (y / slots) (y % slots)
+
+-- what a node at distance k of d's line hangs on: d, or the buffer one level nearer; the line begins at record start
+unfoldable pub lineParent : ℕ → ℕ → ℕ → ℕ
+lineParent d start zero = d
+lineParent d start (suc zero) = d
+lineParent d start (suc (suc k)) = start + k
+
+-- what slot y hangs on, if it is a sink of d and d's tree is a line
+unfoldable pub onLine : Netlist → ℕ → ℕ → ℕ → ℕ
+onLine n d start y = lineParent d start (slotDistance n d y)
+
+-- buffer j of a line above d, whose level is low
+unfoldable pub lineRecord : ℕ → ℕ → ℕ → ℕ → Record
+lineRecord d start low j = bufferOf (low + suc j) (lineParent d start (suc j))
 
 -- d's sinks to be hung
 pub record Hangable (n : Netlist) (s d : ℕ) (first next : List ℕ) (end : ℕ) (counts base : List ℕ) : Type 0 where

@@ -14,7 +14,7 @@ ghost use Rattle.mapper.specs.Bytes.{encode, encoded, put, written, byte
 ghost use Rattle.mapper.specs.Mapped.{treeSize, blockStart, bufferTotal, mappedSize, bufferOf, mapped, Ready};
 ghost use Rattle.mapper.specs.Answer.{treesBelow, treeChecks, gates, share, refusal, figures, mapAnswer, mapArea};
 ghost use Rattle.mapper.specs.View.{noEnds, blockEnds, blockView};
-ghost use Rattle.mapper.specs.Chains.{Linked, Chained, Filled, Walkable, Walked, Drained, Stale, Measured, sizingOf, behind, levelRecord, Net, Based, Hung, Hangable, Noded, Writable, Wrote, relinked, relinkedAt, Counted, Maps};
+ghost use Rattle.mapper.specs.Chains.{Above, slotDistance, Linked, Chained, Filled, Walkable, Walked, Stale, Fans, Measured, sizingOf, behind, levelRecord, lineParent, lineRecord, Net, Based, Hung, Hooked, onParent, onLine, Hangable, Noded, Writable, Wrote, relinked, relinkedAt, Counted, Maps};
 use facts::Checked;
 use fanout::DISTANCES;
 use fanout::DRIVER_CAPACITY;
@@ -56,6 +56,13 @@ struct Tree {
 enum Sizing {
     Total(usize),
     Refuses(u32, u32),
+}
+
+// The sinks of a driver: none; one or two, with the largest distance and how many stand at distance 1; or more.
+enum Fanout {
+    None,
+    Few(usize, u32),
+    Many,
 }
 
 // The first record of a block, and the first behind it.
@@ -148,9 +155,9 @@ fn fill_row(
     let mut p = index(first[d]);
     while p < end {
         let k = (netlist::level_at(source, p / SLOTS) - low) as usize;
+        p = index(next[p]);
         row[k] += 1;
         top = larger(top, k);
-        p = index(next[p]);
     }
     top
 }
@@ -178,10 +185,17 @@ fn carriers(s: u32, n: u32) -> u32
     divide(n + (s - 1), s)
 }
 
-// From distance top down to 1 each count of sinks becomes the count of buffers there.
-fn walk_down(s: u32, top: usize, row: &mut [u32; DISTANCES]) -> Tree
+// b where it is kept, else 0.
+fn kept(keep: bool, b: u32) -> u32
+    ensures { λ r. ⌜ r ≡ cond keep b 0 ⌝ }
+{
+    if keep { b } else { 0 }
+}
+
+// From distance top down to 1: the nodes and buffers; each count of sinks becomes the count of buffers there, or 0 where they are not kept.
+fn walk_down(s: u32, top: usize, keep: bool, row: &mut [u32; DISTANCES]) -> Tree
     requires { ⌜ Walkable s (now row) top ⌝ }
-    ensures { λ r. ⌜ Walked s (now (row .entry)) (now (row .exit)) r ⌝ }
+    ensures { λ r. ⌜ Walked s (now (row .entry)) keep (now (row .exit)) r ⌝ }
 {
     let mut nodes: u32 = 0;
     let mut buffers: u32 = 0;
@@ -190,26 +204,8 @@ fn walk_down(s: u32, top: usize, row: &mut [u32; DISTANCES]) -> Tree
         k -= 1;
         let b = carriers(s, nodes);
         nodes = b + row[k];
-        row[k] = b;
+        row[k] = kept(keep, b);
         buffers += b;
-    }
-    Tree { nodes, buffers }
-}
-
-// The same walk, which leaves the row all zero.
-fn drain(s: u32, top: usize, row: &mut [u32; DISTANCES]) -> Tree
-    requires { ⌜ Walkable s (now row) top ⌝ }
-    ensures { λ r. ⌜ Drained s (now (row .entry)) (now (row .exit)) r ⌝ }
-{
-    let mut nodes: u32 = 0;
-    let mut buffers: u32 = 0;
-    let mut k = top + 1;
-    while 1 < k {
-        k -= 1;
-        let carried = carriers(s, nodes);
-        nodes = carried + row[k];
-        row[k] = 0;
-        buffers += carried;
     }
     Tree { nodes, buffers }
 }
@@ -226,7 +222,50 @@ fn clear_row(top: usize, row: &mut [u32; DISTANCES])
     }
 }
 
-// d's net: the nodes left at distance 1 and its buffers; one sink has a buffer at each distance before it. The row is all zero before and after.
+// 1 for true, 0 for false.
+fn one_if(b: bool) -> u32
+    ensures { λ r. ⌜ r ≡ bit b ⌝ }
+{
+    if b { 1 } else { 0 }
+}
+
+// How far the record of slot p stands above record d.
+fn distance(source: &[u8], d: usize, p: usize) -> usize
+    requires { ⌜ Above (netlist (now source)) d p ⌝ }
+    ensures { λ r. ⌜ r ≡ slotDistance (netlist (now (source .entry))) d p ⌝ }
+{
+    (netlist::level_at(source, p / SLOTS) - netlist::level_at(source, d)) as usize
+}
+
+// The sinks of d, along its chain.
+fn fanout_of(
+    source: &[u8],
+    end: usize,
+    first: &[u16; RECORDS],
+    next: &[u16; SINKS],
+    d: usize,
+) -> Fanout
+    requires { ⌜ Chained (netlist (now source)) (now first) (now next) d end ⌝ }
+    requires { ⌜ d < netlist (now source) .size ⌝ }
+    ensures { λ r. ⌜ Fans (netlist (now (source .entry))) d r ⌝ }
+{
+    let p = index(first[d]);
+    if end <= p {
+        return Fanout::None;
+    }
+    let a = distance(source, d, p);
+    let q = index(next[p]);
+    if end <= q {
+        return Fanout::Few(a, one_if(a == 1));
+    }
+    if end <= index(next[q]) {
+        let b = distance(source, d, q);
+        return Fanout::Few(larger(a, b), one_if(a == 1) + one_if(b == 1));
+    }
+    Fanout::Many
+}
+
+// d's net: the nodes left at distance 1 and its buffers; one or two sinks have a line of buffers, one at each distance below the largest. The row is all zero before and after.
 fn measure(
     source: &[u8],
     s: u32,
@@ -243,22 +282,21 @@ fn measure(
     ensures { λ r. ⌜ Measured (netlist (now (source .entry))) s d r ⌝ }
     ensures { λ _. ⌜ now (row .exit) ≡ replicate (suc topLevel) 0 ⌝ }
 {
-    let p = index(first[d]);
-    if end <= p {
-        return Tree {
+    let fanout = fanout_of(source, end, first, next, d);
+    match fanout {
+        Fanout::None => Tree {
             nodes: 0,
             buffers: 0,
-        };
+        },
+        Fanout::Few(top, near) => Tree {
+            nodes: one_if(1 < top) + near,
+            buffers: top as u32 - 1,
+        },
+        Fanout::Many => {
+            let top = fill_row(source, end, first, next, d, row);
+            walk_down(s, top, false, row)
+        }
     }
-    if end <= index(next[p]) {
-        let k = netlist::level_at(source, p / SLOTS) - netlist::level_at(source, d);
-        return Tree {
-            nodes: 1,
-            buffers: k as u32 - 1,
-        };
-    }
-    let top = fill_row(source, end, first, next, d, row);
-    drain(s, top, row)
 }
 
 // Check 8 of the first m records, rising: the buffers of their trees, or the first driver without one. The row is all zero before and after.
@@ -444,7 +482,7 @@ fn hang_sinks(
     row: &mut [u32; DISTANCES],
 )
     requires { ⌜ Hangable (netlist (now source)) s d (now first) (now next) end (now row) (now base) ⌝ }
-    ensures { λ _. ⌜ Hung (netlist (now (source .entry))) s (now (first .entry)) (now (next .exit)) (d + 1) end ⌝ }
+    ensures { λ _. ⌜ Hooked (netlist (now (source .entry))) d (onParent (netlist (now (source .entry))) s) (now (next .entry)) (now (next .exit)) ⌝ }
     ensures { λ _. ⌜ Noded (netlist (now (source .entry))) s d (now (row .exit)) ⌝ }
 {
     let low = netlist::level_at(source, d);
@@ -476,8 +514,82 @@ fn grow(
     ensures { λ r. ⌜ Net (netlist (now (source .entry))) s d (now (row .exit)) r ⌝ }
 {
     let top = fill_row(source, end, first, next, d, row);
-    walk_down(s, top, row);
+    walk_down(s, top, true, row);
     top
+}
+
+// The tree of d: its buffers go to the area from record at on, its sinks' parents to their slots. The next record is handed back.
+fn write_tree(
+    source: &[u8],
+    s: u32,
+    end: usize,
+    first: &[u16; RECORDS],
+    next: &mut [u16; SINKS],
+    d: usize,
+    at: usize,
+    row: &mut [u32; DISTANCES],
+    base: &mut [u16; DISTANCES],
+    area: &mut [u8],
+) -> usize
+    requires { ⌜ Writable (netlist (now source)) s d at (now first) (now next) end (now row) (now base) (now area) ⌝ }
+    ensures { λ r. ⌜ Wrote (netlist (now (source .entry))) s d at (now (first .entry)) (now (next .exit)) end (now (row .exit)) (now (base .exit)) (now (area .entry)) (now (area .exit)) r ⌝ }
+{
+    let top = grow(source, s, end, first, next, d, row);
+    let after = write_buffers(source, s, d, at, top, row, base, area);
+    hang_sinks(source, s, end, first, next, d, base, row);
+    clear_row(top, row);
+    after
+}
+
+// What a node at distance k of d's line hangs on: d, or the buffer one level nearer; the first one is record start.
+fn line_parent(d: usize, start: usize, k: usize) -> u16
+    requires { ⌜ (d < 65536) × (start + k < 65536) ⌝ }
+    ensures { λ r. ⌜ r ≡ lineParent d start k ⌝ }
+{
+    if k < 2 {
+        return d as u16;
+    }
+    (start + (k - 2)) as u16
+}
+
+// A line of n buffers above d, whose level is low, from record start on.
+fn write_line(area: &mut [u8], d: usize, start: usize, low: u16, n: usize)
+    requires { ⌜ width * (start + n) ≤ length (now area) ⌝ }
+    requires { ⌜ (d < 65536) × (start + n < 65536) × (low + n < 65536) ⌝ }
+    ensures { λ _. ⌜ now (area .exit) ≡ put (now (area .entry)) (width * start) (encoded (lineRecord d start low) n) ⌝ }
+{
+    let mut j: usize = 0;
+    while j < n {
+        let k = j + 1;
+        write_record(
+            area,
+            start + j,
+            buffer_of(low + k as u16, line_parent(d, start, k)),
+        );
+        j = k;
+    }
+}
+
+// The sinks of d, each behind the buffer of d's line that stands one level nearer: its parent takes the place of its next sink.
+fn hang_line(
+    source: &[u8],
+    end: usize,
+    first: &[u16; RECORDS],
+    next: &mut [u16; SINKS],
+    d: usize,
+    start: usize,
+)
+    requires { ⌜ Chained (netlist (now source)) (now first) (now next) d end ⌝ }
+    requires { ⌜ d < netlist (now source) .size ⌝ }
+    requires { ⌜ start ≤ mappedLimit ⌝ }
+    ensures { λ _. ⌜ Hooked (netlist (now (source .entry))) d (onLine (netlist (now (source .entry))) d start) (now (next .entry)) (now (next .exit)) ⌝ }
+{
+    let mut p = index(first[d]);
+    while p < end {
+        let after = index(next[p]);
+        next[p] = line_parent(d, start, distance(source, d, p));
+        p = after;
+    }
 }
 
 // The net of d: its buffers go to the area from record at on, its sinks' parents to their slots. The next record is handed back.
@@ -496,14 +608,17 @@ fn write_net(
     requires { ⌜ Writable (netlist (now source)) s d at (now first) (now next) end (now row) (now base) (now area) ⌝ }
     ensures { λ r. ⌜ Wrote (netlist (now (source .entry))) s d at (now (first .entry)) (now (next .exit)) end (now (row .exit)) (now (base .exit)) (now (area .entry)) (now (area .exit)) r ⌝ }
 {
-    if end <= index(first[d]) {
-        return at;
+    let fanout = fanout_of(source, end, first, next, d);
+    match fanout {
+        Fanout::None => at,
+        Fanout::Few(top, _) => {
+            let n = top - 1;
+            hang_line(source, end, first, next, d, at);
+            write_line(area, d, at, netlist::level_at(source, d), n);
+            at + n
+        }
+        Fanout::Many => write_tree(source, s, end, first, next, d, at, row, base, area),
     }
-    let top = grow(source, s, end, first, next, d, row);
-    let after = write_buffers(source, s, d, at, top, row, base, area);
-    hang_sinks(source, s, end, first, next, d, base, row);
-    clear_row(top, row);
-    after
 }
 
 // The nets of all drivers, rising: their buffers behind the source's records, and what each sink hangs on. The row is all zero before each.
@@ -563,13 +678,13 @@ fn rewire(r: Record, i: usize, parents: &[u16; SINKS]) -> Record
 }
 
 // The source's records at their old indices.
-fn write_source(source: &[u8], n: usize, parents: &[u16; SINKS], area: &mut [u8])
-    requires { ⌜ n ≤ sourceLimit ⌝ }
-    requires { ⌜ width * n ≤ length (now area) ⌝ }
-    ensures { λ _. ⌜ now (area .exit) ≡ put (now (area .entry)) 0 (encoded (relinkedAt (now (source .entry)) (now (parents .entry))) n) ⌝ }
+fn write_source(source: &[u8], parents: &[u16; SINKS], area: &mut [u8])
+    requires { ⌜ recordCount (now source) ≤ sourceLimit ⌝ }
+    requires { ⌜ width * recordCount (now source) ≤ length (now area) ⌝ }
+    ensures { λ _. ⌜ now (area .exit) ≡ put (now (area .entry)) 0 (encoded (relinkedAt (now (source .entry)) (now (parents .entry))) (recordCount (now (source .entry)))) ⌝ }
 {
     let mut i: usize = 0;
-    while i < n {
+    while i < netlist::record_count(source) {
         write_record(area, i, rewire(netlist::record_at(source, i), i, parents));
         i += 1;
     }
@@ -594,25 +709,17 @@ fn write_mapped(
     ensures { λ _. ⌜ now (area .exit) ≡ onto (bytesOf (mapped (netlist (now (source .entry))) s)) (now (area .entry)) ⌝ }
 {
     write_nets(source, s, n, end, first, next, row, area);
-    write_source(source, n, next, area);
-}
-
-// 1 for true, 0 for false.
-fn one_if(b: bool) -> u32
-    ensures { λ r. ⌜ r ≡ bit b ⌝ }
-{
-    if b { 1 } else { 0 }
+    write_source(source, next, area);
 }
 
 // A source's gates.
-fn count_gates(source: &[u8], n: usize) -> u32
-    requires { ⌜ n ≡ recordCount (now source) ⌝ }
-    requires { ⌜ n ≤ sourceLimit ⌝ }
+fn count_gates(source: &[u8]) -> u32
+    requires { ⌜ recordCount (now source) ≤ sourceLimit ⌝ }
     ensures { λ r. ⌜ r ≡ gates (netlist (now (source .entry))) ⌝ }
 {
     let mut found: u32 = 0;
     let mut i: usize = 0;
-    while i < n {
+    while i < netlist::record_count(source) {
         found += one_if(netlist::is_gate(netlist::kind_at(source, i)));
         i += 1;
     }
@@ -652,7 +759,7 @@ fn accept(source: &[u8], n: usize, buffers: u32) -> Mapping
     requires { ⌜ buffers ≤ mappedLimit ⌝ }
     ensures { λ r. ⌜ r ≡ figures (netlist (now (source .entry))) buffers ⌝ }
 {
-    let junctions = GATE_PRICE * count_gates(source, n) + BUFFER_PRICE * buffers;
+    let junctions = GATE_PRICE * count_gates(source) + BUFFER_PRICE * buffers;
     Mapping {
         number: 0,
         place: 0,

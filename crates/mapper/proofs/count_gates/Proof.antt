@@ -1,19 +1,22 @@
 -- `count_gates` meets its contract: the gates below record i are found.
 use Prim.Native.Nat.{_-_}
-use Rattle.netlist.specs.Records.{netlist}
+use Rattle.netlist.specs.Records.{netlist, recordCount}
 use Rattle.mapper.proofs.Answering.{Gating, gates-start, gates-fit, gates-more, gates-end}
 use borrow.Author.Needs.{needs}
 use Rattle.mapper.proofs.count_gates.Statement.{statement}
 use Rattle.mapper.proofs.count_gates.Tie as tie
 
 abbrev Inv-loop : tie.InvT-loop
-Inv-loop source n found₀ i₀ found i = Gating (netlist source) found i
+Inv-loop source found₀ i₀ found i = Gating (netlist source) found i
 
 abbrev μ-loop : tie.MeasureT-loop
-μ-loop source n found₀ i₀ found i = n - i
+μ-loop source found₀ i₀ found i = recordCount source - i
 
 loop-holds : tie.Need-loop-holds Inv-loop μ-loop
 loop-holds c = search gates-start
+
+record-count-requires : tie.Need-record-count-requires Inv-loop μ-loop
+record-count-requires c κs = search needs
 
 kind-at-requires : tie.Need-kind-at-requires Inv-loop μ-loop
 kind-at-requires c κs = search needs
@@ -46,6 +49,7 @@ count-gates-spec =
     Inv-loop
     μ-loop
     loop-holds
+    record-count-requires
     kind-at-requires
     is-gate-requires
     one-if-requires

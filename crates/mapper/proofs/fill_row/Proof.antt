@@ -37,6 +37,15 @@ sub-k c = search (needs, fill-above)
 cast-k : tie.Need-cast-k Inv-loop μ-loop
 cast-k c = search needs
 
+mul-index-2 : tie.Need-mul-index-2 Inv-loop μ-loop
+mul-index-2 c = search needs
+
+element-copy-out-index-2 : tie.Need-element-copy-out-index-2 Inv-loop μ-loop
+element-copy-out-index-2 c = search needs
+
+index-requires-2 : tie.Need-index-requires-2 Inv-loop μ-loop
+index-requires-2 c κs = search needs
+
 mul-row : tie.Need-mul-row Inv-loop μ-loop
 mul-row c = search (needs, fill-near)
 
@@ -51,15 +60,6 @@ element-write-row c = search fill-near
 
 larger-requires : tie.Need-larger-requires Inv-loop μ-loop
 larger-requires c κs = search needs
-
-mul-index-2 : tie.Need-mul-index-2 Inv-loop μ-loop
-mul-index-2 c = search needs
-
-element-copy-out-index-2 : tie.Need-element-copy-out-index-2 Inv-loop μ-loop
-element-copy-out-index-2 c = search needs
-
-index-requires-2 : tie.Need-index-requires-2 Inv-loop μ-loop
-index-requires-2 c κs = search needs
 
 loop-less : tie.Need-loop-less Inv-loop μ-loop
 loop-less c = search fill-less
@@ -84,14 +84,14 @@ fill-row-spec =
     level-at-requires-2
     sub-k
     cast-k
+    mul-index-2
+    element-copy-out-index-2
+    index-requires-2
     mul-row
     element-copy-out-row
     add-row
     element-write-row
     larger-requires
-    mul-index-2
-    element-copy-out-index-2
-    index-requires-2
     loop-less
     loop-again
     returns)

@@ -2,13 +2,13 @@
 use Prim.Native.Nat.{_-_}
 use mathlib.Core.Path.{_≡_}
 use Rattle.netlist.specs.Records.{netlist, recordAt}
-use Rattle.mapper.proofs.Hanging.{Hanging, hang-start, hang-above, hang-near, hang-parent, hang-fits, hang-less, hang-more, hang-hung, hang-noded}
+use Rattle.mapper.proofs.Hanging.{Hanging, hang-start, hang-above, hang-near, hang-parent, hang-fits, hang-less, hang-more, hang-hooked, hang-noded}
 use borrow.Author.Needs.{needs}
 use Rattle.mapper.proofs.hang_sinks.Statement.{statement}
 use Rattle.mapper.proofs.hang_sinks.Tie as tie
 
 abbrev Inv-loop : tie.InvT-loop
-Inv-loop source s end first next₀ d base row₀ low p₀ next row p = (low ≡ recordAt source d .level) × Hanging (netlist source) s first end d p next row
+Inv-loop source s end first next₀ d base row₀ low p₀ next row p = (low ≡ recordAt source d .level) × Hanging (netlist source) s d next₀ p next row
 
 abbrev μ-loop : tie.MeasureT-loop
 μ-loop source s end first next₀ d base row₀ low p₀ next row p = end - p
@@ -83,7 +83,7 @@ loop-again : tie.Need-loop-again Inv-loop μ-loop
 loop-again c = (search needs, search hang-more)
 
 returns : tie.Need-returns Inv-loop μ-loop
-returns c = (search hang-hung, search hang-noded)
+returns c = (search hang-hooked, search hang-noded)
 
 pub hang-sinks-spec : {M : Type 1} → statement M
 hang-sinks-spec =

@@ -1,15 +1,14 @@
--- `walk_down` meets its contract: from distance k on the row holds the buffers.
-use Rattle.fanout.specs.Nets.{buffersAt}
+-- `walk_down` meets its contract: from distance k on the row holds the buffers, or nothing.
 use Rattle.mapper.proofs.Walking.{Walking, walk-start, walk-few, walk-room, walk-nodes, walk-buffers, walk-more, walk-end}
 use borrow.Author.Needs.{needs}
 use Rattle.mapper.proofs.walk_down.Statement.{statement}
 use Rattle.mapper.proofs.walk_down.Tie as tie
 
 abbrev Inv-loop : tie.InvT-loop
-Inv-loop s top row₀ nodes₀ buffers₀ k₀ row nodes buffers k = Walking s row₀ (buffersAt s row₀) row k nodes buffers
+Inv-loop s top keep row₀ nodes₀ buffers₀ k₀ row nodes buffers k = Walking s row₀ keep row k nodes buffers
 
 abbrev μ-loop : tie.MeasureT-loop
-μ-loop s top row₀ nodes₀ buffers₀ k₀ row nodes buffers k = k
+μ-loop s top keep row₀ nodes₀ buffers₀ k₀ row nodes buffers k = k
 
 add-k : tie.Need-add-k Inv-loop μ-loop
 add-k c = search needs
@@ -31,6 +30,9 @@ element-copy-out-nodes c = search (needs, walk-room)
 
 add-nodes : tie.Need-add-nodes Inv-loop μ-loop
 add-nodes c = search (needs, walk-nodes)
+
+kept-requires : tie.Need-kept-requires Inv-loop μ-loop
+kept-requires c κs = search needs
 
 mul-row : tie.Need-mul-row Inv-loop μ-loop
 mul-row c = search needs
@@ -63,6 +65,7 @@ walk-down-spec =
     mul-nodes
     element-copy-out-nodes
     add-nodes
+    kept-requires
     mul-row
     element-write-row
     add-buffers

@@ -1,0 +1,125 @@
+-- Laws of going along the chain of one driver and giving each of its sinks a number: those below slot p have theirs.
+use Prim.Native.Nat.{ℕ, suc, _+_, _-_, _*_, _≤_, _<_, _/_, _%_}
+use mathlib.Core.Path.{_≡_, refl, sym, _∙_, ap, subst}
+use mathlib.Core.Bool.{Bool, true, false}
+use mathlib.Core.List.{List}
+use native.Mathlib.Omega.{arith}
+use native.Mathlib.Decide.{decLt, ℕ-discrete}
+use lib.ListN.{length, getD, set, length-set}
+use lib.Seq.{getD-set-same, getD-set-other}
+use borrow.Author.Tests.{eq-eqb, ne-eqb}
+use Rattle.facts.proofs.Bools.{and-i, true-false}
+use Rattle.netlist.specs.Kinds.{slots, mappedLimit}
+use Rattle.netlist.specs.Records.{Netlist}
+use Rattle.mapper.specs.Chains.{slotEnd, usedSlot, faninSlot, namesSlot, nextSink, Above, slotDistance, Chained, Hung, Hooked, onParent, lineParent, onLine}
+use Rattle.mapper.proofs.Chains.{next-within, next-none, chained-from}
+use Rattle.mapper.proofs.Filling.{OnChain, on-chain, chain-first, chain-next, chain-level}
+
+-- d's sinks below slot p hold what f says; from p on d's chain stands
+pub record Threading (n : Netlist) (d : ℕ) (f : ℕ → ℕ) (before : List ℕ) (p : ℕ) (after : List ℕ) : Type 0 where
+  pub chain : OnChain n d p
+  pub size : length after ≡ length before
+  pub below : (y : ℕ) → y < p → y < slotEnd n → namesSlot n d y ≡ true → getD after y 0 ≡ f y
+  pub above : (y : ℕ) → p ≤ y → y < slotEnd n → namesSlot n d y ≡ true → getD after y 0 ≡ nextSink n d (suc y)
+  pub others : (y : ℕ) → namesSlot n d y ≡ false → getD after y 0 ≡ getD before y 0
+
+module _ (n : Netlist) (first before : List ℕ) (end d : ℕ) (h : Chained n first before d end) (ld : d < n .size) (f : ℕ → ℕ) where
+  pub thread-start : (p : ℕ) → p ≡ getD first d 0 → Threading n d f before p before
+  thread-start p e =
+      record {
+        chain = subst (OnChain n d) (sym g) (on-chain n d 0 (omega arith));
+        size = refl;
+        below = λ y a b c. absurd (next-none n d 0 y (omega arith) (omega (arith, g)) c);
+        above = λ y a b c. chain-next n first before end d h y (getD before y 0) c b refl;
+        others = λ y c. refl;
+      }
+    where
+      g : p ≡ nextSink n d 0
+      g = chain-first n first before end d h p ld e
+
+  module _ (p : ℕ) (after : List ℕ) (t : Threading n d f before p after) where
+    module _ (l : p < end) where
+      pub thread-inside : p < slotEnd n
+      thread-inside = omega (arith, h .stop)
+
+      pub thread-names : namesSlot n d p ≡ true
+      thread-names = t .chain .sink thread-inside
+
+      pub thread-above : Above n d p
+      thread-above = record { higher = chain-level n d p (h .source) (t .chain) thread-inside }
+
+      -- a parent on a line fits its slot
+      pub thread-reach : (start k : ℕ) → start ≤ mappedLimit → k ≡ slotDistance n d p → start + k < 65536
+      unfolding slotDistance
+      thread-reach start k a b = omega (arith, h .source .levels (p / slots) (omega (arith, thread-inside)))
+
+      module _ (q : ℕ) (e : q ≡ getD after p 0) where
+        pub thread-next : q ≡ nextSink n d (suc p)
+        thread-next = e ∙ t .above p (omega arith) thread-inside thread-names
+
+        further : p < q
+        further = omega (arith, thread-next, next-within n d (suc p) thread-inside)
+
+        pub thread-less : end - q < end - p
+        thread-less = omega (arith, further, thread-next, next-within n d (suc p) thread-inside, h .stop)
+
+        pub thread-more : (v : ℕ) → v ≡ f p → Threading n d f before q (set after p v)
+        thread-more v g =
+            record {
+              chain = subst (OnChain n d) (sym thread-next) (on-chain n d (suc p) thread-inside);
+              size = length-set after p v ∙ t .size;
+              below = λ y a b c. at y a b c (ℕ-discrete y p);
+              above = λ y a b c.
+                  getD-set-other after p y v 0 (λ x. omega (arith, further)) ∙ t .above y (omega (arith, further)) b c;
+              others = λ y c.
+                  getD-set-other after p y v 0 (λ x. true-false (namesSlot n d p) thread-names (ap (namesSlot n d) (sym x) ∙ c))
+                  ∙ t .others y c;
+            }
+          where
+            at : (y : ℕ) → y < q → y < slotEnd n → namesSlot n d y ≡ true → Dec (y ≡ p) → getD (set after p v) y 0 ≡ f y
+            at y a b c (yes x) =
+                rw x (getD-set-same after p v 0 (omega (arith, t .size, h .sinks, thread-inside, h .source .few)) ∙ g)
+            at y a b c (no x) =
+                getD-set-other after p y v 0 x
+                ∙ elim (decLt y p) [
+                  | yes m ↦ t .below y m b c
+                  | no m ↦ absurd (next-none n d (suc p) y (omega arith) (omega (arith, thread-next)) c)
+                ]
+
+    pub thread-end : end ≤ p → Hooked n d f before after
+    thread-end l =
+        record {
+          size = t .size;
+          at = λ y a c. t .below y (omega (arith, t .chain .within, h .stop)) a c;
+          others = t .others;
+        }
+
+pub driver-fits : (n : Netlist) (first next : List ℕ) (d end : ℕ) → Chained n first next d end → d < n .size → d < 65536
+driver-fits n first next d end h l = omega (arith, h .source .few)
+
+pub line-hung : (n : Netlist) (d start p k v : ℕ) → k ≡ slotDistance n d p → v ≡ lineParent d start k → v ≡ onLine n d start p
+unfolding onLine
+line-hung n d start p k v e f = f ∙ ap (lineParent d start) e
+
+-- once d's sinks hang on their parents, those of all drivers up to d do
+pub hung-next : (n : Netlist) (s d : ℕ) (first before after : List ℕ) (end : ℕ) →
+    Hung n s first before d end → Hooked n d (onParent n s) before after → Hung n s first after (d + 1) end
+hung-next n s d first before after end h k =
+    record {
+      chained =
+          record {
+            source = h .chained .source;
+            firsts = h .chained .firsts;
+            nexts = λ y a u b. k .others y (apart y u (λ e. omega arith)) ∙ h .chained .nexts y a u (omega arith);
+            sinks = k .size ∙ h .chained .sinks;
+            stop = h .chained .stop;
+          };
+      at = λ y a u b.
+          elim (decLt (faninSlot n y) d) [
+            | yes m ↦ k .others y (apart y u (λ e. omega arith)) ∙ h .at y a u m
+            | no m ↦ k .at y a (and-i (usedSlot n y) _ u (eq-eqb (faninSlot n y) d (omega arith)))
+          ];
+    }
+  where
+    apart : (y : ℕ) → usedSlot n y ≡ true → (faninSlot n y ≡ d → ⊥) → namesSlot n d y ≡ false
+    apart y u b = rw u (ne-eqb (faninSlot n y) d b)
