@@ -1,5 +1,5 @@
 -- Laws of the first sinks of a driver's chain: none, one, two.
-use Prim.Native.Nat.{ℕ, zero, suc, _+_, _-_, _≤_, _<_, _/_, max}
+use Prim.Native.Nat.{ℕ, suc, _+_, _-_, _≤_, _<_, _/_, max}
 use mathlib.Core.Path.{_≡_, refl, sym, _∙_, ap, ap₂, subst}
 use mathlib.Core.Bool.{true}
 use mathlib.Core.List.{List}
@@ -18,7 +18,6 @@ use Rattle.fanout.specs.Nets.{sinks}
 use Rattle.mapper.specs.declared.Fanout.{Fanout}
 use Rattle.mapper.specs.declared.Fanout.the-variants.{None, Few, Many}
 use Rattle.mapper.specs.Chains.{slotEnd, namesSlot, nextSink, Above, slotDistance, sinksBelow, Chained, FewSinks, Fans}
-use Rattle.mapper.proofs.Chains.{next-within}
 use Rattle.mapper.proofs.Filling.{sinks-all, sinks-skip, sinks-none, sinks-here, sinks-other, OnChain, on-chain, chain-first, chain-next, chain-level}
 
 bit-same : (a k : ℕ) → a ≡ k → bit (eqb a k) ≡ 1
@@ -26,9 +25,6 @@ bit-same a k e = ap bit (eq-eqb a k e)
 
 bit-other : (a k : ℕ) → (a ≡ k → ⊥) → bit (eqb a k) ≡ 0
 bit-other a k e = ap bit (ne-eqb a k e)
-
-bit-most : (a k : ℕ) → bit (eqb a k) ≤ 1
-bit-most a k = bit-le (eqb a k)
 
 -- one sink, at distance a
 one-sink : (n : Netlist) (d a : ℕ) → 1 ≤ a → a ≤ topLevel → ((k : ℕ) → sinks n d k ≡ bit (eqb a k)) → FewSinks n d a (bit (eqb a 1))
@@ -38,8 +34,8 @@ one-sink n d a l m h =
       within = m;
       close = sym (h 1);
       farthest = omega (arith, h a, bit-same a a refl);
-      few = omega (arith, h a, bit-most a a);
-      nearer = λ k b. omega (arith, h k, bit-most a k);
+      few = omega (arith, h a, bit-le (eqb a a));
+      nearer = λ k b. omega (arith, h k, bit-le (eqb a k));
       beyond = λ k b. h k ∙ bit-other a k (λ e. omega arith);
     }
 
@@ -52,7 +48,7 @@ two-sinks n d a b top l m m′ e h =
       within = omega arith;
       close = sym (h 1);
       farthest = far (decLt a b);
-      few = omega (arith, h top, bit-most a top, bit-most b top);
+      few = omega (arith, h top, bit-le (eqb a top), bit-le (eqb b top));
       nearer = λ k c. nearer k c (ℕ-discrete a k);
       beyond = λ k c. h k ∙ omega (arith, bit-other a k (λ x. omega arith), bit-other b k (λ x. omega arith));
     }
@@ -63,7 +59,7 @@ two-sinks n d a b top l m m′ e h =
 
     nearer : (k : ℕ) → k < top → Dec (a ≡ k) → sinks n d k ≤ 1
     nearer k c (yes x) = omega (arith, h k, bit-same a k x, bit-other b k (λ y. omega arith))
-    nearer k c (no x) = omega (arith, h k, bit-other a k x, bit-most b k)
+    nearer k c (no x) = omega (arith, h k, bit-other a k x, bit-le (eqb b k))
 
 -- one more sink, at slot p
 sinks-more : (n : Netlist) (d p a k : ℕ) → namesSlot n d p ≡ true → n .at d .level < n .at (p / slots) .level →
@@ -155,7 +151,7 @@ fans-many n d = tt
 
 -- how many of two sinks stand at distance 1
 pub fans-fit : (a b x y : ℕ) → x ≡ bit (eqb a 1) → y ≡ bit (eqb b 1) → Fits w32 (x + y)
-fans-fit a b x y e f = omega (arith, bit-most a 1, bit-most b 1)
+fans-fit a b x y e f = omega (arith, bit-le (eqb a 1), bit-le (eqb b 1))
 
 -- what is known of d's sinks, by case
 pub no-sink : (n : Netlist) (d : ℕ) (f : Fanout) → Fans n d f → f ≡ None → (k : ℕ) → sinks n d k ≡ 0

@@ -1,29 +1,27 @@
 -- Laws of nets of one or two sinks: their tree is a line, with one buffer at each distance below the largest.
 use Prim.Native.Nat.{ℕ, zero, suc, _+_, _-_, _*_, _≤_, _<_, _/_}
-use mathlib.Core.Path.{_≡_, refl, sym, _∙_, ap, ap₂}
-use mathlib.Core.Bool.{Bool, true}
+use mathlib.Core.Path.{_≡_, refl, sym, _∙_, ap}
 use mathlib.Core.List.{List, [], _∷_}
 use native.Mathlib.Omega.{arith}
-use native.Mathlib.Nat.{zero-div}
 use native.Mathlib.Decide.{decLt}
-use lib.ListN.{length, getD, drop, List·getD-eq-default}
+use lib.ListN.{getD, drop, List·getD-eq-default}
 use lib.Seq.{getD-drop}
 use lib.Dec.{ltb}
 use borrow.Author.Tests.{lt-ltb, le-ltb, ltb-true}
 use Rattle.facts.specs.Sums.{bit, sum, count}
 use Rattle.facts.proofs.Sums.{sum-cong, sum-first, count-all, count-stop}
-use Rattle.netlist.specs.Kinds.{width, slots, topLevel}
+use Rattle.netlist.specs.Kinds.{width, topLevel}
 use Rattle.netlist.specs.Records.{Netlist}
 use Rattle.netlist.specs.Source.{IsSource}
 use Rattle.fanout.specs.Nets.{row, sinks, up, nodes, nodesAt, buffersAt}
-use Rattle.fanout.proofs.Nets.{div-up, nodes-at, row-length, row-at, minimal}
+use Rattle.fanout.proofs.Nets.{div-up, nodes-at, row-at, minimal}
 use Rattle.mapper.specs.Bytes.{encoded, put, written}
-use Rattle.mapper.specs.Mapped.{netRow, buffersOf, treeSize, blockStart, mappedSize, place, parent, bufferOf, bufferRecord, mappedAt, mapped, Ready}
+use Rattle.mapper.specs.Mapped.{buffersOf, treeSize, blockStart, place, parent, bufferOf, bufferRecord, mappedAt, mapped, Ready}
 use Rattle.mapper.specs.Chains.{slotDistance, FewSinks, Measured, lineParent, lineRecord, Hooked, onParent, onLine}
 use Rattle.mapper.proofs.Area.{encoded-cong}
 use Rattle.mapper.proofs.Mapped.{tree-sum, at-place}
 use Rattle.mapper.proofs.Nodes.{pos, IsNode, hangs, buffer-node}
-use Rattle.mapper.proofs.Measuring.{row-none, net-nodes, net-measured}
+use Rattle.mapper.proofs.Measuring.{row-none, net-nodes}
 use Rattle.mapper.proofs.Hanging.{sink-node, sink-parent, away, flatNumbered}
 
 -- a row with a sink has a node

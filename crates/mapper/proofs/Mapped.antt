@@ -5,7 +5,6 @@ use mathlib.Core.Bool.{Bool, true, false, cond}
 use mathlib.Core.List.{[]}
 use native.Mathlib.Omega.{arith}
 use native.Mathlib.Nat.{add-sub-cancel-left}
-use native.Mathlib.Decide.{decLt}
 use lib.ListN.{length}
 use borrow.Author.Tests.{lt-ltb, le-ltb}
 use Rattle.facts.specs.Sums.{sum}
@@ -13,7 +12,7 @@ use Rattle.facts.specs.Blocks.{block}
 use Rattle.netlist.specs.Kinds.{topLevel, isDriver}
 use Rattle.netlist.specs.Records.{Netlist, blank}
 use Rattle.fanout.proofs.Nets.{fewest-sum, row-length}
-use Rattle.mapper.specs.Mapped.{netRow, buffersOf, treeSize, blockStart, mappedSize, place, bufferRecord, rewired, bufferAt, mappedAt}
+use Rattle.mapper.specs.Mapped.{netRow, buffersOf, treeSize, mappedSize, place, bufferRecord, rewired, bufferAt, mappedAt}
 use Rattle.facts.proofs.Blocks.{InBlock, block-at, in-block, block-before}
 use Rattle.facts.proofs.Sums.{sum-first}
 
@@ -125,20 +124,3 @@ module _ (n : Netlist) (s : ℕ) (pos : 0 < s) where
 
       k : ℕ
       k = block (buffersOf n s d) z (suc topLevel)
-
-  -- a buffer stands in the block of its own driver and in no other
-  pub in-own-block : (x : ℕ) (p : Placed x) → (blockStart n s (p .d) ≤ x) × (x < blockStart n s (suc (p .d)))
-  unfolding sum
-  in-own-block x p = omega (arith, p .index, within-tree (p .d) (p .k) (p .j) (p .near) (p .number))
-
-  pub block-driver : (x d : ℕ) (p : Placed x) → blockStart n s d ≤ x → x < blockStart n s (suc d) → p .d ≡ d
-  unfolding sum
-  block-driver x d p a b =
-      elim (decLt (p .d) d) [
-        | yes l ↦ absurd (omega (arith, in-own-block x p, block-before (treeSize n s) (p .d) d l))
-        | no g ↦
-            elim (decLt d (p .d)) [
-              | yes l ↦ absurd (omega (arith, in-own-block x p, block-before (treeSize n s) d (p .d) l))
-              | no h ↦ omega arith
-            ]
-      ]

@@ -16,7 +16,7 @@ use Rattle.netlist.specs.Records.{Netlist}
 use Rattle.fanout.specs.Nets.{row, sinks, up, buffersAt}
 use Rattle.mapper.specs.declared.Tree.{Tree}
 use Rattle.mapper.specs.Bytes.{encoded, put, written}
-use Rattle.mapper.specs.Mapped.{buffersOf, treeSize, blockStart, mappedSize, sinkParent, mapped, Ready}
+use Rattle.mapper.specs.Mapped.{buffersOf, treeSize, blockStart, mappedSize, mapped, Ready}
 use Rattle.mapper.specs.Chains.{slotEnd, namesSlot, Chained, Filled, Walkable, Walked, Stale, FewSinks, Net, Hung, Hooked, onParent, onLine, lineRecord, Noded, Writable, Wrote}
 use Rattle.mapper.proofs.Area.{written-none, written-more, written-length}
 use Rattle.facts.proofs.Blocks.{block-before}

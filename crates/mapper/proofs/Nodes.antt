@@ -339,12 +339,3 @@ module _ (n : Netlist) (s : ℕ) (r : Ready n s) where
   unfolding bufferRecord
   buffer-empty i zero a l b = absurd (omega arith)
   buffer-empty i (suc j) a l b = rw (at-placed i (placed n s pos i a l)) (getD-replicated (slots - 1) j unused)
-
-  -- a buffer, traced back through buffers, ends at its tree's driver
-  pub buffer-traced : (P : ℕ → Type 0) (i : ℕ) → n .size ≤ i → i < mappedSize n s → (p : Placed n s pos i) → P (p .d) →
-      ((x : ℕ) → mappedAt n s x .kind ≡ buffer → P (slot (mappedAt n s x) 0) → P x) → P i
-  unfolding bufferRecord
-  buffer-traced P i a l p base back =
-      back i (buffer-kind i a l)
-      (subst⁻¹ P (ap (λ (x : Record). slot x 0) (at-placed i p))
-      (parent-traced P (p .d) (p .k) (p .j) (buffer-node (p .d) (p .k) (p .j) (p .driver) (p .near) (p .number)) base back))

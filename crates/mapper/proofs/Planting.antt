@@ -112,9 +112,6 @@ module _ (n : Netlist) (s d start top : ℕ) (counts area₀ : List ℕ) (h : Ne
       unfolding sum
       next-sum = refl
 
-      pub plant-near : k < suc topLevel
-      plant-near = omega (arith, h .near)
-
       ends : at + getD counts k 0 ≤ mappedSize n s
       ends = omega (arith, p .here, counted, next-sum, up-to (suc k) (omega (arith, h .near)))
 

@@ -1,7 +1,7 @@
 -- Laws of going along the chain of one driver and giving each of its sinks a number: those below slot p have theirs.
-use Prim.Native.Nat.{ℕ, suc, _+_, _-_, _*_, _≤_, _<_, _/_, _%_}
+use Prim.Native.Nat.{ℕ, suc, _+_, _-_, _≤_, _<_, _/_}
 use mathlib.Core.Path.{_≡_, refl, sym, _∙_, ap, subst}
-use mathlib.Core.Bool.{Bool, true, false}
+use mathlib.Core.Bool.{true, false}
 use mathlib.Core.List.{List}
 use native.Mathlib.Omega.{arith}
 use native.Mathlib.Decide.{decLt, ℕ-discrete}
@@ -12,7 +12,7 @@ use Rattle.facts.proofs.Bools.{and-i, true-false}
 use Rattle.netlist.specs.Kinds.{slots, mappedLimit}
 use Rattle.netlist.specs.Records.{Netlist}
 use Rattle.mapper.specs.Chains.{slotEnd, usedSlot, faninSlot, namesSlot, nextSink, Above, slotDistance, Chained, Hung, Hooked, onParent, lineParent, onLine}
-use Rattle.mapper.proofs.Chains.{next-within, next-none, chained-from}
+use Rattle.mapper.proofs.Chains.{next-within, next-none}
 use Rattle.mapper.proofs.Filling.{OnChain, on-chain, chain-first, chain-next, chain-level}
 
 -- d's sinks below slot p hold what f says; from p on d's chain stands

@@ -11,7 +11,7 @@ use mir.Syntax.{w32}
 use lib.ListN.{length, getD, drop, set, replicate, length-set, length-drop, length-replicate}
 use lib.Seq.{getD-set-same, getD-set-other, getD-drop, ext-getD}
 use Rattle.netlist.specs.Kinds.{slots, topLevel, sourceLimit}
-use Rattle.fanout.specs.Nets.{up, nodes, buffers, nodesAt, buffersAt, fewest}
+use Rattle.fanout.specs.Nets.{up, nodes, buffers, nodesAt, buffersAt}
 use Rattle.fanout.proofs.Nets.{up-le, up-zero, nodes-at, buffers-from}
 use Rattle.mapper.specs.declared.Tree.{Tree}
 use Rattle.mapper.specs.Chains.{Walkable, Walked}

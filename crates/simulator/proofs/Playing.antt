@@ -12,7 +12,7 @@ use lib.Dec.{eqb}
 use borrow.Author.Fill.{fill-more}
 use borrow.Author.Tests.{ne-eqb}
 use Rattle.facts.specs.Sums.{bit, sum, count}
-use Rattle.facts.proofs.Sums.{rank-lt, count-le}
+use Rattle.facts.proofs.Sums.{bit-le, rank-lt, count-le}
 use Rattle.netlist.specs.Kinds.{sourceLimit, output}
 use Rattle.netlist.specs.Records.{netlist, recordAt, recordCount, isOutput}
 use Rattle.netlist.specs.Records
@@ -25,7 +25,6 @@ use Rattle.simulator.specs.declared.Shape.{Shape}
 use Rattle.simulator.specs.Shape.{Steppable, ShapeOf, Playable}
 use Rattle.simulator.specs.Waves.{IsRun}
 use Rattle.simulator.proofs.Rows.{length-after, length-outputRows}
-use Rattle.simulator.proofs.Values.{bit-le}
 use Rattle.simulator.proofs.Writes.{Written, length-written, take-written, drop-written, written-more, written-none, written-all}
 
 -- the first i bytes of an area are zeros

@@ -1,7 +1,7 @@
 -- Laws of a record's value, with premises as the code has them.
 use Prim.Native.Nat.{ℕ, zero, suc, _+_, _/_, _%_, _^_, _<_, _≤_}
 use mathlib.Core.Path.{_≡_, refl, sym, _∙_, ap}
-use mathlib.Core.Bool.{Bool, true, false, not}
+use mathlib.Core.Bool.{Bool, false, not}
 use mathlib.Core.List.{List}
 use native.Mathlib.Omega.{arith}
 use native.Mathlib.Nat.{div-one, div-div-eq-div-mul, pow-suc}
@@ -10,6 +10,7 @@ use lib.ListN.{length, getD, List·getD-eq-default}
 use lib.Dec.{leb, eqb}
 use borrow.Author.Tests.{eq-eqb, ne-eqb}
 use Rattle.facts.specs.Sums.{bit, sum, count}
+use Rattle.facts.proofs.Sums.{bit-le}
 use Rattle.netlist.specs.declared.Record.{Record}
 use Rattle.netlist.specs.Kinds.{arity, input, and, majority}
 use Rattle.netlist.specs.Records.{Netlist, slot}
@@ -35,10 +36,6 @@ turned-odd bits value e = rw (eq-eqb (bits % 2) 1 e)
 
 pub turned-even : (bits : ℕ) (value : Bool) → (bits % 2 ≡ 1 → ⊥) → value ≡ turned bits value
 turned-even bits value e = rw (ne-eqb (bits % 2) 1 e)
-
-pub bit-le : (b : Bool) → bit b ≤ 1
-bit-le true = omega arith
-bit-le false = omega arith
 
 -- the records of a kind below i are counted
 pub record KindCounting (m : Netlist) (kind n total i : ℕ) : Type 0 where

@@ -11,6 +11,7 @@ use lib.ListN.{length, getD, take, drop, set, length-append, length-set, length-
 use lib.Seq.{take-all, drop-cons, set-at, append-snoc, take-at, drop-at, drop-drop, drop-append-add, getD-take, length-take-le}
 use lib.Dec.{eqb}
 use Rattle.facts.specs.Sums.{bit, sum, count}
+use Rattle.facts.proofs.Sums.{bit-le}
 use Rattle.netlist.specs.Kinds.{input}
 use Rattle.netlist.specs.Records.{Netlist, netlist, recordAt, recordCount, slot, fanin, tabulate}
 use Rattle.simulator.specs.Logic.{on, isInput, valueIn, next, values}
@@ -22,7 +23,6 @@ use Rattle.netlist.proofs.Lists.{getD-tabulate}
 use Rattle.simulator.proofs.Areas.{on-bit, tabulate-cong}
 use Rattle.simulator.proofs.Logic.{next-cong}
 use Rattle.simulator.proofs.Steps.{length-below, length-older}
-use Rattle.simulator.proofs.Values.{bit-le}
 use Rattle.simulator.proofs.Waves.{next-buffer}
 
 -- the first bytes are new, the rest is as it was
