@@ -24,8 +24,8 @@ use Rattle.mapper.specs.declared.Mapping.{Mapping}
 use Rattle.mapper.specs.Bytes.{bytesOf, onto}
 use Rattle.mapper.specs.Mapped.{treeSize, bufferTotal, mappedSize, mapped, Ready}
 use Rattle.mapper.specs.Answer.{gatePrice, bufferPrice, gates, share, junctions, figures, answerOf, areaOf, refusal, noTree, treeCheck, treesBelow, treeChecks, tooLarge, tooShort, sourceMaps, mapChecks, mapAnswer, mapArea}
-use Rattle.mapper.specs.declared.Sizing.{Sizing}
-use Rattle.mapper.specs.declared.Sizing.the-variants.{Total, Refuses}
+use Rattle.mapper.specs.declared.trees.Sizing.{Sizing}
+use Rattle.mapper.specs.declared.trees.Sizing.the-variants.{Total, Refuses}
 use Rattle.mapper.specs.Chains.{Linked, Chained, Hung, sizingOf, slotEnd, Counted}
 use Rattle.mapper.proofs.Chains.{link-start, chained-all}
 use Rattle.mapper.proofs.Counting.{total-small, refusing, counting}

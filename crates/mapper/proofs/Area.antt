@@ -9,7 +9,7 @@ use lib.Seq.{sets, sets-eq, take-at, drop-at, drop-append-add, drop-drop, length
 use Rattle.netlist.specs.declared.Record.{Record}
 use Rattle.netlist.specs.Kinds.{width}
 use Rattle.netlist.specs.Records.{Netlist, slot}
-use Rattle.mapper.specs.Bytes.{joined, encode, encoded, recs, bytesOf, put, written, onto}
+use Rattle.mapper.specs.Bytes.{joined, encode, encoded, recs, bytesOf, put, withRecords, onto}
 use Rattle.mapper.proofs.Bytes.{length-joined, length-encode}
 
 module _ (xs : List ℕ) (a : ℕ) (bs : List ℕ) where
@@ -79,16 +79,16 @@ unfolding encoded
 length-recs m i c = length-joined (λ k. encode (m .at (i + k))) width (λ k. length-encode (m .at (i + k))) c
 
 module _ (m : Netlist) (i c : ℕ) (area : List ℕ) where
-  pub written-length : width * (i + c) ≤ length area → length (written m i c area) ≡ length area
+  pub written-length : width * (i + c) ≤ length area → length (withRecords m i c area) ≡ length area
   written-length l = length-put area (width * i) (recs m i c) (omega (arith, length-recs m i c))
 
-  pub written-none : written m i 0 area ≡ area
+  pub written-none : withRecords m i 0 area ≡ area
   unfolding encoded joined
   written-none = ap (λ (k : ℕ). take (width * i) area ++ drop k area) (add-zero (width * i)) ∙ take-append-drop (width * i) area
 
-  pub written-more : (k : ℕ) → width * (i + c) ≤ length area → written m (i + c) k (written m i c area) ≡ written m i (c + k) area
+  pub written-more : (k : ℕ) → width * (i + c) ≤ length area → withRecords m (i + c) k (withRecords m i c area) ≡ withRecords m i (c + k) area
   written-more k l =
-      ap (λ (x : ℕ). put (written m i c area) x (recs m (i + c) k)) place
+      ap (λ (x : ℕ). put (withRecords m i c area) x (recs m (i + c) k)) place
       ∙ put-behind area (width * i) (recs m i c) (recs m (i + c) k) (omega (arith, length-recs m i c))
       ∙ ap (put area (width * i)) (sym (recs-append m i c k))
     where
@@ -97,7 +97,7 @@ module _ (m : Netlist) (i c : ℕ) (area : List ℕ) where
 
 -- all records, the last ones first
 pub written-all : (m : Netlist) (i c : ℕ) (area : List ℕ) → width * i ≤ length area → i + c ≡ m .size →
-    written m 0 i (written m i c area) ≡ onto (bytesOf m) area
+    withRecords m 0 i (withRecords m i c area) ≡ onto (bytesOf m) area
 written-all m i c area l e =
     put-before area 0 (recs m 0 i) (width * i) (recs m i c) (omega (arith, length-recs m 0 i)) l
     ∙ ap (put area 0) (ap (λ (k : ℕ). recs m 0 i ++ recs m k c) (sym (zero-add i)) ∙ sym (recs-append m 0 i c) ∙ ap (recs m 0) e)

@@ -21,9 +21,9 @@ use Rattle.netlist.specs.Records.{Netlist}
 use Rattle.netlist.specs.Source.{IsSource}
 use Rattle.fanout.specs.Nets.{row, nodesAt, buffers}
 use Rattle.fanout.proofs.Nets.{row-length}
-use Rattle.mapper.specs.declared.Tree.{Tree}
-use Rattle.mapper.specs.declared.Sizing.{Sizing}
-use Rattle.mapper.specs.declared.Sizing.the-variants.{Total, Refuses}
+use Rattle.mapper.specs.declared.trees.TreeTotals.{TreeTotals}
+use Rattle.mapper.specs.declared.trees.Sizing.{Sizing}
+use Rattle.mapper.specs.declared.trees.Sizing.the-variants.{Total, Refuses}
 use Rattle.fanout.specs.Answer.{driverCapacity}
 use Rattle.mapper.specs.Mapped.{netRow, treeSize, bufferTotal}
 use Rattle.mapper.specs.Answer.{treeCheck, treesBelow, treeChecks}
@@ -67,7 +67,7 @@ module _ (n : Netlist) (s : ℕ) where
         sum-const most (n .size),
       )
 
-  pub count-stop : (row : List ℕ) (total d m : ℕ) (t : Tree) → Counting n s m row total d → d < m → Measured n s d t → driverCapacity < t .nodes →
+  pub count-stop : (row : List ℕ) (total d m : ℕ) (t : TreeTotals) → Counting n s m row total d → d < m → Measured n s d t → driverCapacity < t .nodes →
       Refuses 8 d ≡ sizingOf (treesBelow n s m) (sum (treeSize n s) m)
   count-stop row total d m t h l g f =
       ap (λ (a : Checked). sizingOf a (sum (treeSize n s) m))
@@ -81,7 +81,7 @@ module _ (n : Netlist) (s : ℕ) where
         ap Total (h .before ∙ ap (sum (treeSize n s)) e)
         ∙ ap (λ (a : Checked). sizingOf a (sum (treeSize n s) m)) (scan-end (treeCheck n s) m d (h .checks) (omega arith))
 
-    module _ (first next : List ℕ) (end : ℕ) (t : Tree) (chained : Chained n first next 0 end) (c : (2 ≤ s) × (s ≤ 4)) (l : d < m)
+    module _ (first next : List ℕ) (end : ℕ) (t : TreeTotals) (chained : Chained n first next 0 end) (c : (2 ≤ s) × (s ≤ 4)) (l : d < m)
         (g : Measured n s d t) where
       -- a net's buffers are few enough to add
       pub count-fits : Fits w64 (total + t .buffers)

@@ -15,8 +15,8 @@ use Rattle.facts.proofs.Sums.{bit-le}
 use Rattle.netlist.specs.Kinds.{slots, topLevel}
 use Rattle.netlist.specs.Records.{Netlist}
 use Rattle.fanout.specs.Nets.{sinks}
-use Rattle.mapper.specs.declared.Fanout.{Fanout}
-use Rattle.mapper.specs.declared.Fanout.the-variants.{None, Few, Many}
+use Rattle.mapper.specs.declared.sinks.Fanout.{Fanout}
+use Rattle.mapper.specs.declared.sinks.Fanout.the-variants.{None, Few, Many}
 use Rattle.mapper.specs.Chains.{slotEnd, namesSlot, nextSink, Above, slotDistance, sinksBelow, Chained, FewSinks, Fans}
 use Rattle.mapper.proofs.Filling.{sinks-all, sinks-skip, sinks-none, sinks-here, sinks-other, OnChain, on-chain, chain-first, chain-next, chain-level}
 

@@ -15,7 +15,7 @@ use Rattle.netlist.specs.Records.{Netlist}
 use Rattle.netlist.specs.Source.{IsSource}
 use Rattle.fanout.specs.Nets.{row, sinks, up, nodes, nodesAt, buffersAt}
 use Rattle.fanout.proofs.Nets.{div-up, nodes-at, row-at, minimal}
-use Rattle.mapper.specs.Bytes.{encoded, put, written}
+use Rattle.mapper.specs.Bytes.{encoded, put, withRecords}
 use Rattle.mapper.specs.Mapped.{buffersOf, treeSize, blockStart, place, parent, bufferOf, bufferRecord, mappedAt, mapped, Ready}
 use Rattle.mapper.specs.Chains.{slotDistance, FewSinks, Measured, lineParent, lineRecord, Hooked, onParent, onLine}
 use Rattle.mapper.proofs.Area.{encoded-cong}
@@ -66,8 +66,8 @@ module _ (s : ℕ) (r : List ℕ) (top : ℕ) (two : 2 ≤ s) (farthest : 0 < ge
             arith,
             rw (lt-ltb k top l) at most,
             div-up s 0 (nodesAt s r (suc k)) some
-            (nodes-some s (drop (suc k) r) (top - suc k) some
-            (omega (arith, getD-drop (suc k) r (top - suc k) 0, ap (λ (x : ℕ). getD r x 0) (back l)))),
+                (nodes-some s (drop (suc k) r) (top - suc k) some
+                (omega (arith, getD-drop (suc k) r (top - suc k) 0, ap (λ (x : ℕ). getD r x 0) (back l)))),
           ))
 
       none : (k < top → ⊥) → buffersAt s r k ≡ bit (ltb k top)
@@ -162,7 +162,7 @@ module _ (n : Netlist) (s d top near : ℕ) (r : Ready n s) (ld : d < n .size) (
       place-is = omega (arith, below j (omega arith))
 
   pub line-written : (area : List ℕ) → put area (width * blockStart n s d) (encoded (lineRecord d (blockStart n s d) (n .at d .level)) (top - 1))
-      ≡ written (mapped n s) (blockStart n s d) (treeSize n s d) area
+      ≡ withRecords (mapped n s) (blockStart n s d) (treeSize n s d) area
   line-written area =
       ap (put area (width * blockStart n s d))
       (encoded-cong _ _ (top - 1) line-record

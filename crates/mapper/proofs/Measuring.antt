@@ -14,7 +14,7 @@ use Rattle.netlist.specs.Source.{IsSource}
 use Rattle.netlist.proofs.Source.{is-output}
 use Rattle.fanout.specs.Nets.{row, sinks, sinkAt, nodes, buffers, nodesAt, fewest}
 use Rattle.fanout.proofs.Nets.{row-length, row-at}
-use Rattle.mapper.specs.declared.Tree.{Tree}
+use Rattle.mapper.specs.declared.trees.TreeTotals.{TreeTotals}
 use Rattle.mapper.specs.Mapped.{netRow}
 use Rattle.mapper.specs.Chains.{Chained, Filled, Walkable, Walked, Stale, Measured}
 use Rattle.mapper.proofs.Lists.{getD-replicated}
@@ -108,7 +108,7 @@ module _ (n : Netlist) (s d k : ℕ) (i : IsSource n) (p : 0 < s) (l : d < n .si
       go false e = ap (buffers s) (drop-nil k) ∙ sym (buffers-none s (drop k (row n d)) p (no-driver e))
 
 -- the measure of d's net is that of its row
-pub net-measured : (n : Netlist) (s d : ℕ) → IsSource n → 2 ≤ s → d < n .size → (t : Tree) →
+pub net-measured : (n : Netlist) (s d : ℕ) → IsSource n → 2 ≤ s → d < n .size → (t : TreeTotals) →
     t .nodes ≡ nodesAt s (row n d) 1 → t .buffers ≡ fewest s (row n d) → Measured n s d t
 net-measured n s d i p l t e f =
     record {
@@ -141,7 +141,7 @@ module _ (n : Netlist) (first next : List ℕ) (end s d top : ℕ) (counts : Lis
         beyond = f .beyond;
       }
 
-  pub measured : (after : List ℕ) (t : Tree) → Walked s counts false after t → d < n .size → Measured n s d t
+  pub measured : (after : List ℕ) (t : TreeTotals) → Walked s counts false after t → d < n .size → Measured n s d t
   measured after t w l =
       net-measured n s d (h .source) (c .0) l t
       (w .nodes ∙ ap (λ (r : List ℕ). nodesAt s r 1) (f .counted))

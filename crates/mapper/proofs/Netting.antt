@@ -14,10 +14,10 @@ use Rattle.facts.specs.Sums.{sum}
 use Rattle.netlist.specs.Kinds.{width, topLevel, mappedLimit}
 use Rattle.netlist.specs.Records.{Netlist}
 use Rattle.fanout.specs.Nets.{row, sinks, up, buffersAt}
-use Rattle.mapper.specs.declared.Tree.{Tree}
-use Rattle.mapper.specs.Bytes.{encoded, put, written}
+use Rattle.mapper.specs.declared.trees.TreeTotals.{TreeTotals}
+use Rattle.mapper.specs.Bytes.{encoded, put, withRecords}
 use Rattle.mapper.specs.Mapped.{buffersOf, treeSize, blockStart, mappedSize, mapped, Ready}
-use Rattle.mapper.specs.Chains.{slotEnd, namesSlot, Chained, Filled, Walkable, Walked, Stale, FewSinks, Net, Hung, Hooked, onParent, onLine, lineRecord, Noded, Writable, Wrote}
+use Rattle.mapper.specs.Chains.{slotEnd, namesSlot, Chained, Filled, Walkable, Walked, Stale, FewSinks, GrownNet, Hung, Hooked, onParent, onLine, lineRecord, Noded, Writable, Wrote}
 use Rattle.mapper.proofs.Area.{written-none, written-more, written-length}
 use Rattle.facts.proofs.Blocks.{block-before}
 use Rattle.mapper.proofs.Nodes.{pos, nodes-none}
@@ -32,7 +32,7 @@ module _ (n : Netlist) (s d : ℕ) (first next : List ℕ) (end : ℕ) (r : Read
   net-walkable = walkable n first next end s d top counts h (r .low, r .high) f
 
   -- after the walk the row holds the tree's buffers
-  rowed : (after : List ℕ) (t : Tree) (w : Walked s counts true after t) → d < n .size →
+  rowed : (after : List ℕ) (t : TreeTotals) (w : Walked s counts true after t) → d < n .size →
       (k : ℕ) → 1 ≤ k → k ≤ topLevel → getD after k 0 ≡ buffersOf n s d k
   unfolding buffersOf
   rowed after t w ld zero a b = absurd (omega arith)
@@ -41,7 +41,7 @@ module _ (n : Netlist) (s d : ℕ) (first next : List ℕ) (end : ℕ) (r : Read
       ∙ ap (λ (r : List ℕ). buffersAt s r (suc k)) (f .counted)
       ∙ ap (up s) (sym (net-nodes n s d (suc (suc k)) (h .source) (pos n s r) ld))
 
-  pub net-grown : (after : List ℕ) (t : Tree) → Walked s counts true after t → d < n .size → Net n s d after top
+  pub net-grown : (after : List ℕ) (t : TreeTotals) → Walked s counts true after t → d < n .size → GrownNet n s d after top
   net-grown after t w ld =
       record {
         ready = r;
@@ -57,7 +57,7 @@ module _ (n : Netlist) (s d : ℕ) (first next : List ℕ) (end : ℕ) (r : Read
             ∙ f .beyond (k + x) (omega arith));
       }
 
-module _ (n : Netlist) (s d top : ℕ) (counts : List ℕ) (g : Net n s d counts top) where
+module _ (n : Netlist) (s d top : ℕ) (counts : List ℕ) (g : GrownNet n s d counts top) where
   pub net-stale : (left : List ℕ) → Noded n s d left → Stale left top
   net-stale left e =
       record {
@@ -78,7 +78,7 @@ sum-last f n = rw (add-one n) refl
 module _ (n : Netlist) (s d at : ℕ) (first next : List ℕ) (end : ℕ) (counts base area : List ℕ)
     (w : Writable n s d at first next end counts base area) where
   wrote : (after : ℕ) (next′ counts′ base′ area′ : List ℕ) → after ≡ at + treeSize n s d → counts′ ≡ replicate (suc topLevel) 0 →
-      length base′ ≡ suc topLevel → Hooked n d (onParent n s) next next′ → area′ ≡ written (mapped n s) at (treeSize n s d) area →
+      length base′ ≡ suc topLevel → Hooked n d (onParent n s) next next′ → area′ ≡ withRecords (mapped n s) at (treeSize n s d) area →
       Wrote n s d at first next′ end counts′ base′ area area′ after
   wrote after next′ counts′ base′ area′ e c b k a =
       record {
@@ -94,7 +94,7 @@ module _ (n : Netlist) (s d at : ℕ) (first next : List ℕ) (end : ℕ) (count
   net-none z =
       wrote at next counts base area (omega (arith, none)) (w .clear) (w .room)
       record { size = refl; at = λ y l c. absurd (unnamed y l c); others = λ y c. refl }
-      (sym (ap (λ (c : ℕ). written (mapped n s) at c area) (sym none) ∙ written-none (mapped n s) at 0 area))
+      (sym (ap (λ (c : ℕ). withRecords (mapped n s) at c area) (sym none) ∙ written-none (mapped n s) at 0 area))
     where
       none : 0 ≡ treeSize n s d
       none = measured-none n s d (w .ready .source) (w .ready .low, w .ready .high) (w .driver) z .buffers
@@ -140,7 +140,7 @@ module _ (n : Netlist) (s d at : ℕ) (first next : List ℕ) (end : ℕ) (count
 
   -- of more it is a tree
   pub net-tree : (after : ℕ) (next′ counts′ base′ area′ : List ℕ) → after ≡ blockStart n s (d + 1) → counts′ ≡ replicate (suc topLevel) 0 →
-      length base′ ≡ suc topLevel → Hooked n d (onParent n s) next next′ → area′ ≡ written (mapped n s) at (treeSize n s d) area →
+      length base′ ≡ suc topLevel → Hooked n d (onParent n s) next next′ → area′ ≡ withRecords (mapped n s) at (treeSize n s d) area →
       Wrote n s d at first next′ end counts′ base′ area area′ after
   net-tree after next′ counts′ base′ area′ e c b k a =
       wrote after next′ counts′ base′ area′ (omega (arith, w .start, sum-last (treeSize n s) d)) c b k a
@@ -153,7 +153,7 @@ pub record Netting (n : Netlist) (s : ℕ) (first : List ℕ) (end : ℕ) (area�
   pub room : length base ≡ suc topLevel
   pub hung : Hung n s first next d end
   pub long : length area ≡ length area₀
-  pub bytes : area ≡ written (mapped n s) (n .size) (sum (treeSize n s) d) area₀
+  pub bytes : area ≡ withRecords (mapped n s) (n .size) (sum (treeSize n s) d) area₀
 
 module _ (n : Netlist) (s : ℕ) (first : List ℕ) (end : ℕ) (area₀ : List ℕ) (r : Ready n s) (fits : width * mappedSize n s ≤ length area₀) where
   pub nets-start : (N : ℕ) (next counts base : List ℕ) → N ≡ n .size → counts ≡ replicate (suc topLevel) 0 → length base ≡ suc topLevel →
@@ -195,9 +195,9 @@ module _ (n : Netlist) (s : ℕ) (first : List ℕ) (end : ℕ) (area₀ : List 
           long = ap length (w .bytes) ∙ written-length (mapped n s) at (treeSize n s d) area (omega (arith, inside, h .long)) ∙ h .long;
           bytes =
               w .bytes
-              ∙ ap₂ (λ (xs : List ℕ) (i : ℕ). written (mapped n s) i (treeSize n s d) xs) (h .bytes) (h .start)
+              ∙ ap₂ (λ (xs : List ℕ) (i : ℕ). withRecords (mapped n s) i (treeSize n s d) xs) (h .bytes) (h .start)
               ∙ written-more (mapped n s) (n .size) (sum (treeSize n s) d) area₀ (treeSize n s d) (omega (arith, inside, h .start))
-              ∙ ap (λ (c : ℕ). written (mapped n s) (n .size) c area₀) so-far;
+              ∙ ap (λ (c : ℕ). withRecords (mapped n s) (n .size) c area₀) so-far;
         }
       where
         inside : at + treeSize n s d ≤ mappedSize n s
@@ -209,7 +209,7 @@ module _ (n : Netlist) (s : ℕ) (first : List ℕ) (end : ℕ) (area₀ : List 
     pub nets-hung : N ≤ d → Hung n s first next (n .size) end
     nets-hung l = let e : d ≡ n .size = omega (arith, h .within) in subst (λ (x : ℕ). Hung n s first next x end) e (h .hung)
 
-    pub nets-bytes : N ≤ d → area ≡ written (mapped n s) (n .size) (sum (treeSize n s) (n .size)) area₀
+    pub nets-bytes : N ≤ d → area ≡ withRecords (mapped n s) (n .size) (sum (treeSize n s) (n .size)) area₀
     nets-bytes l =
         let e : d ≡ n .size = omega (arith, h .within) in
-        h .bytes ∙ ap (λ (d : ℕ). written (mapped n s) (n .size) (sum (treeSize n s) d) area₀) e
+        h .bytes ∙ ap (λ (d : ℕ). withRecords (mapped n s) (n .size) (sum (treeSize n s) d) area₀) e

@@ -16,9 +16,9 @@ use Rattle.netlist.specs.Kinds.{width, topLevel}
 use Rattle.netlist.specs.Records.{Netlist}
 use Rattle.fanout.specs.Nets.{up}
 use Rattle.fanout.proofs.Nets.{up-zero}
-use Rattle.mapper.specs.Bytes.{encoded, recs, put, written}
+use Rattle.mapper.specs.Bytes.{encoded, recs, put, withRecords}
 use Rattle.mapper.specs.Mapped.{buffersOf, treeSize, blockStart, mappedSize, place, parent, bufferOf, bufferRecord, mappedAt, mapped, Ready}
-use Rattle.mapper.specs.Chains.{behind, levelRecord, Net, Based}
+use Rattle.mapper.specs.Chains.{behind, levelRecord, GrownNet, Based}
 use Rattle.facts.proofs.Blocks.{block-before}
 use Rattle.mapper.proofs.Mapped.{tree-sum, at-place}
 use Rattle.mapper.proofs.Nodes.{pos}
@@ -68,9 +68,9 @@ pub record Planting (n : Netlist) (s d start top : ℕ) (area₀ base area : Lis
   pub size : length base ≡ suc topLevel
   pub based : (x : ℕ) → 1 ≤ x → x < k → getD base x 0 ≡ parent n s d x 0
   pub long : length area ≡ length area₀
-  pub bytes : area ≡ written (mapped n s) start (sum (buffersOf n s d) k) area₀
+  pub bytes : area ≡ withRecords (mapped n s) start (sum (buffersOf n s d) k) area₀
 
-module _ (n : Netlist) (s d start top : ℕ) (counts area₀ : List ℕ) (h : Net n s d counts top) (e : start ≡ blockStart n s d)
+module _ (n : Netlist) (s d start top : ℕ) (counts area₀ : List ℕ) (h : GrownNet n s d counts top) (e : start ≡ blockStart n s d)
     (room : width * mappedSize n s ≤ length area₀) where
   at-one : sum (buffersOf n s d) 1 ≡ 0
   unfolding sum buffersOf
@@ -87,7 +87,7 @@ module _ (n : Netlist) (s d start top : ℕ) (counts area₀ : List ℕ) (h : Ne
         size = b;
         based = λ x l m. absurd (omega arith);
         long = refl;
-        bytes = sym (ap (λ (c : ℕ). written (mapped n s) start c area₀) at-one ∙ written-none (mapped n s) start 0 area₀);
+        bytes = sym (ap (λ (c : ℕ). withRecords (mapped n s) start c area₀) at-one ∙ written-none (mapped n s) start 0 area₀);
       }
 
   pub plant-driver : Fits w16 d
@@ -151,9 +151,9 @@ module _ (n : Netlist) (s d start top : ℕ) (counts area₀ : List ℕ) (h : Ne
             bytes =
                 g
                 ∙ ap (put area (width * at)) level-bytes
-                ∙ ap₂ (λ (xs : List ℕ) (i : ℕ). written (mapped n s) i (getD counts k 0) xs) (p .bytes) (p .here)
+                ∙ ap₂ (λ (xs : List ℕ) (i : ℕ). withRecords (mapped n s) i (getD counts k 0) xs) (p .bytes) (p .here)
                 ∙ written-more (mapped n s) start (sum (buffersOf n s d) k) area₀ (getD counts k 0) (omega (arith, ends, p .here))
-                ∙ ap (λ (c : ℕ). written (mapped n s) start c area₀) so-far;
+                ∙ ap (λ (c : ℕ). withRecords (mapped n s) start c area₀) so-far;
           }
         where
           at-place-k : at ≡ place n s d k 0
@@ -203,5 +203,5 @@ module _ (n : Netlist) (s d start top : ℕ) (counts area₀ : List ℕ) (h : Ne
               ];
         }
 
-    pub plant-bytes : top < k → area ≡ written (mapped n s) start (treeSize n s d) area₀
-    plant-bytes l = p .bytes ∙ ap (λ (c : ℕ). written (mapped n s) start c area₀) (whole l)
+    pub plant-bytes : top < k → area ≡ withRecords (mapped n s) start (treeSize n s d) area₀
+    plant-bytes l = p .bytes ∙ ap (λ (c : ℕ). withRecords (mapped n s) start c area₀) (whole l)

@@ -20,12 +20,12 @@ use Rattle.netlist.specs.Kinds.{width, mappedLimit, isDriver}
 use Rattle.netlist.specs.Records.{netlist, recordCount, recordAt}
 use Rattle.netlist.specs.Checks.{inputChecks}
 use Rattle.netlist.proofs.Records.{record-past}
-use Rattle.mapper.specs.declared.Sizing.{Sizing}
-use Rattle.mapper.specs.declared.Sizing.the-variants.{Total, Refuses}
-use Rattle.mapper.specs.declared.Ends.{Ends}
+use Rattle.mapper.specs.declared.trees.Sizing.{Sizing}
+use Rattle.mapper.specs.declared.trees.Sizing.the-variants.{Total, Refuses}
+use Rattle.mapper.specs.declared.block.Ends.{Ends}
 use Rattle.mapper.specs.Mapped.{treeSize, blockStart, mappedSize}
 use Rattle.mapper.specs.Answer.{treeCheck, treesBelow, treeChecks, tooLarge, sourceMaps}
-use Rattle.mapper.specs.Chains.{sizingOf, Counted, Maps}
+use Rattle.mapper.specs.Chains.{sizingOf, Counted, Mappable}
 use Rattle.mapper.specs.View.{noEnds, ownEnds, endsOf, blockEnds, between}
 use Rattle.mapper.proofs.Answering.{input-capacity}
 use Rattle.mapper.proofs.Counting.{total-small, refusing, counting}
@@ -67,7 +67,7 @@ module _ (bytes : List ℕ) (s N : ℕ) (first next : List ℕ) (end total : ℕ
       ∙ ends-are bytes s d (Refused 9 0)
       (late ∙ ap (check 9 0) (lt-ltb mappedLimit (mappedSize (netlist bytes) s) (omega (arith, h .records, h .buffers))))
 
-  pub ends-maps : N + total ≤ mappedLimit → Maps bytes s N first next end
+  pub ends-maps : N + total ≤ mappedLimit → Mappable bytes s N first next end
   ends-maps l =
       record {
         maps = late ∙ ap (check 9 0) (le-ltb mappedLimit (mappedSize (netlist bytes) s) (omega (arith, h .records, h .buffers)));
@@ -77,7 +77,7 @@ module _ (bytes : List ℕ) (s N : ℕ) (first next : List ℕ) (end total : ℕ
         records = h .records;
       }
 
-module _ (bytes : List ℕ) (s N : ℕ) (first next : List ℕ) (end : ℕ) (h : Maps bytes s N first next end) where
+module _ (bytes : List ℕ) (s N : ℕ) (first next : List ℕ) (end : ℕ) (h : Mappable bytes s N first next end) where
   module _ (m : ℕ) (l : m ≤ N) (z : Sizing) (e : z ≡ sizingOf (treesBelow (netlist bytes) s m) (sum (treeSize (netlist bytes) s) m)) where
     -- where a block begins
     pub start-is : (total : ℕ) → z ≡ Total total → N + total ≡ blockStart (netlist bytes) s m

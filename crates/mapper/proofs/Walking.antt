@@ -13,7 +13,7 @@ use lib.Seq.{getD-set-same, getD-set-other, getD-drop, ext-getD}
 use Rattle.netlist.specs.Kinds.{slots, topLevel, sourceLimit}
 use Rattle.fanout.specs.Nets.{up, nodes, buffers, nodesAt, buffersAt}
 use Rattle.fanout.proofs.Nets.{up-le, up-zero, nodes-at, buffers-from}
-use Rattle.mapper.specs.declared.Tree.{Tree}
+use Rattle.mapper.specs.declared.trees.TreeTotals.{TreeTotals}
 use Rattle.mapper.specs.Chains.{Walkable, Walked}
 use Rattle.mapper.proofs.Lists.{getD-replicated}
 use Rattle.mapper.proofs.Nodes.{nodes-none, buffers-none}
@@ -151,7 +151,7 @@ module _ (s : ℕ) (counts : List ℕ) (top : ℕ) (w : Walkable s counts top) w
         last = omega (arith, h .from)
 
 -- a row whose buffers are not kept is all zero after the walk
-pub drained : (s : ℕ) (counts after : List ℕ) (t : Tree) → Walked s counts false after t → after ≡ replicate (suc topLevel) 0
+pub drained : (s : ℕ) (counts after : List ℕ) (t : TreeTotals) → Walked s counts false after t → after ≡ replicate (suc topLevel) 0
 drained s counts after t w =
     ext-getD 0 after (replicate (suc topLevel) 0) (w .size ∙ sym (length-replicate {A = ℕ} (suc topLevel) 0))
     (λ x m. at x (decLt 0 x) ∙ sym (getD-replicated (suc topLevel) x 0))

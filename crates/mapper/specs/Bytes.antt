@@ -37,8 +37,8 @@ abbrev pub put : List ℕ → ℕ → List ℕ → List ℕ
 put area at bytes = take at area ++ (bytes ++ drop (at + length bytes) area)
 
 -- an area in which n records from record i on are written at their places
-abbrev pub written : Netlist → ℕ → ℕ → List ℕ → List ℕ
-written m i n area = put area (width * i) (recs m i n)
+abbrev pub withRecords : Netlist → ℕ → ℕ → List ℕ → List ℕ
+withRecords m i n area = put area (width * i) (recs m i n)
 
 -- an area in which bytes are put from its start on: what lies beyond them stays
 abbrev pub onto : List ℕ → List ℕ → List ℕ

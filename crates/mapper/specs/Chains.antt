@@ -14,12 +14,12 @@ use Rattle.netlist.specs.Records.{Netlist, netlist, tabulate, slot, recordCount
 use Rattle.netlist.specs.Checks.{inputChecks}
 use Rattle.netlist.specs.Source.{IsSource}
 use Rattle.fanout.specs.Nets.{row, sinks, sinkAt, nodesAt, buffersAt, fewest}
-use Rattle.mapper.specs.declared.Tree.{Tree}
-use Rattle.mapper.specs.declared.Fanout.{Fanout}
-use Rattle.mapper.specs.declared.Fanout.the-variants.{None, Few, Many}
-use Rattle.mapper.specs.declared.Sizing.{Sizing}
-use Rattle.mapper.specs.declared.Sizing.the-variants.{Total, Refuses}
-use Rattle.mapper.specs.Bytes.{written}
+use Rattle.mapper.specs.declared.trees.TreeTotals.{TreeTotals}
+use Rattle.mapper.specs.declared.sinks.Fanout.{Fanout}
+use Rattle.mapper.specs.declared.sinks.Fanout.the-variants.{None, Few, Many}
+use Rattle.mapper.specs.declared.trees.Sizing.{Sizing}
+use Rattle.mapper.specs.declared.trees.Sizing.the-variants.{Total, Refuses}
+use Rattle.mapper.specs.Bytes.{withRecords}
 use Rattle.mapper.specs.Answer.{treeChecks, sourceMaps}
 use Rattle.mapper.specs.Mapped.{netRow, buffersOf, treeSize, blockStart, bufferTotal, mappedSize, parent, bufferOf, sinkParent, mapped, Ready}
 
@@ -86,7 +86,7 @@ pub record Walkable (s : ℕ) (counts : List ℕ) (top : ℕ) : Type 0 where
   pub beyond : (k : ℕ) → top < k → getD counts k 0 ≡ 0
 
 -- a row after the walk: the nodes at distance 1, the tree's buffers, and at each distance from 1 on the buffers there, or nothing where they are not kept
-pub record Walked (s : ℕ) (counts : List ℕ) (keep : Bool) (after : List ℕ) (t : Tree) : Type 0 where
+pub record Walked (s : ℕ) (counts : List ℕ) (keep : Bool) (after : List ℕ) (t : TreeTotals) : Type 0 where
   pub nodes : t .nodes ≡ nodesAt s counts 1
   pub buffers : t .buffers ≡ fewest s counts
   pub size : length after ≡ suc topLevel
@@ -116,7 +116,7 @@ Fans n d (Few top near) = FewSinks n d top near
 Fans n d Many = Unit {0}
 
 -- d's net: the nodes left at distance 1, and its buffers
-pub record Measured (n : Netlist) (s d : ℕ) (t : Tree) : Type 0 where
+pub record Measured (n : Netlist) (s d : ℕ) (t : TreeTotals) : Type 0 where
   pub nodes : t .nodes ≡ nodesAt s (netRow n d) 1
   pub buffers : t .buffers ≡ treeSize n s d
 
@@ -131,7 +131,7 @@ pub record Rowed (n : Netlist) (s d : ℕ) (counts : List ℕ) : Type 0 where
   pub at : (k : ℕ) → 1 ≤ k → k ≤ topLevel → getD counts k 0 ≡ buffersOf n s d k
 
 -- d's net to be written: no node stands beyond top
-pub record Net (n : Netlist) (s d : ℕ) (counts : List ℕ) (top : ℕ) : Type 0 where
+pub record GrownNet (n : Netlist) (s d : ℕ) (counts : List ℕ) (top : ℕ) : Type 0 where
   pub ready : Ready n s
   pub driver : d < n .size
   pub rowed : Rowed n s d counts
@@ -212,7 +212,7 @@ pub record Wrote (n : Netlist) (s d at : ℕ) (first next : List ℕ) (end : ℕ
   pub clear : counts ≡ replicate (suc topLevel) 0
   pub room : length base ≡ suc topLevel
   pub hung : Hung n s first next (d + 1) end
-  pub bytes : area ≡ written (mapped n s) at (treeSize n s d) area₀
+  pub bytes : area ≡ withRecords (mapped n s) at (treeSize n s d) area₀
 
 -- record r of index i, its used slots as the array of parents has them
 abbrev pub relinked : Record → List ℕ → ℕ → Record
@@ -237,7 +237,7 @@ pub record Counted (bytes : List ℕ) (s size : ℕ) (first next : List ℕ) (en
   pub buffers : total ≡ bufferTotal (netlist bytes) s
 
 -- a source whose trees are counted and that is not too large
-pub record Maps (bytes : List ℕ) (s size : ℕ) (first next : List ℕ) (end : ℕ) : Type 0 where
+pub record Mappable (bytes : List ℕ) (s size : ℕ) (first next : List ℕ) (end : ℕ) : Type 0 where
   pub maps : sourceMaps bytes s ≡ Passed
   pub capacity : (2 ≤ s) × (s ≤ 4)
   pub trees : treeChecks (netlist bytes) s ≡ Passed

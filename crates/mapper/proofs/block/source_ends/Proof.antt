@@ -1,0 +1,51 @@
+-- `source_ends` meets its contract: the chains, the trees, then 8 or what follows it.
+use Rattle.mapper.proofs.Answering.{input-end, input-unlinked, counted-all}
+use Rattle.mapper.proofs.View.{ends-tree}
+use borrow.Author.Needs.{needs}
+use Rattle.mapper.proofs.block.source_ends.Statement.{statement}
+use Rattle.mapper.proofs.block.source_ends.Tie as tie
+
+record-count-requires : tie.Need-record-count-requires
+record-count-requires c κs = search needs
+
+mul-end : tie.Need-mul-end
+mul-end c = search needs
+
+cast-first : tie.Need-cast-first
+cast-first c = search input-end
+
+size-trees-requires : tie.Need-size-trees-requires
+size-trees-requires c κs = (search needs, (search needs, (search needs, (search (needs, input-unlinked), search needs))))
+
+enum-known-sizing : tie.Need-enum-known-sizing
+enum-known-sizing c = search needs
+
+counted-ends-requires : tie.Need-counted-ends-requires
+counted-ends-requires c κs = counted-all _ _ (search needs) _ (search needs) _ _ (search needs) (c .before .before .before .sizing .given .1) _ _ _ (search needs)
+
+enum-told : tie.Need-enum-told
+enum-told c = search needs
+
+no-ends-requires : tie.Need-no-ends-requires
+no-ends-requires c κs = search needs
+
+returns : tie.Need-returns
+returns c = search needs
+
+returns-2 : tie.Need-returns-2
+returns-2 c = search ends-tree
+
+pub source-ends-spec : {M : Type 1} → statement M
+source-ends-spec =
+    tie.close
+    (tie.spec
+    record-count-requires
+    mul-end
+    cast-first
+    size-trees-requires
+    enum-known-sizing
+    counted-ends-requires
+    enum-told
+    no-ends-requires
+    returns
+    returns-2)

@@ -1,0 +1,65 @@
+-- `write_source` meets its contract: the first i records are written.
+use Prim.Native.Nat.{_-_}
+use Rattle.netlist.specs.Records.{recordCount}
+use Rattle.mapper.specs.Chains.{relinkedAt}
+use Rattle.mapper.proofs.Joining.{Joining, join-start, source-room, source-more, source-end}
+use borrow.Author.Needs.{needs}
+use Rattle.mapper.proofs.records.write_source.Statement.{statement}
+use Rattle.mapper.proofs.records.write_source.Tie as tie
+
+abbrev Inv-loop : tie.InvT-loop
+Inv-loop source parents area₀ i₀ area i = Joining area₀ 0 (relinkedAt source parents) (recordCount source) area i
+
+abbrev μ-loop : tie.MeasureT-loop
+μ-loop source parents area₀ i₀ area i = recordCount source - i
+
+loop-holds : tie.Need-loop-holds Inv-loop μ-loop
+loop-holds c = search join-start
+
+record-count-requires : tie.Need-record-count-requires Inv-loop μ-loop
+record-count-requires c κs = search needs
+
+record-at-requires : tie.Need-record-at-requires Inv-loop μ-loop
+record-at-requires c κs = search needs
+
+rewire-requires : tie.Need-rewire-requires Inv-loop μ-loop
+rewire-requires c κs = search needs
+
+write-record-requires : tie.Need-write-record-requires Inv-loop μ-loop
+write-record-requires c κs = search (needs, source-room)
+
+add-i : tie.Need-add-i Inv-loop μ-loop
+add-i c = search needs
+
+loop-less : tie.Need-loop-less Inv-loop μ-loop
+loop-less c = search needs
+
+loop-again : tie.Need-loop-again Inv-loop μ-loop
+loop-again c =
+    let w = c .before .before in
+    let l = w .before .before .before .before .before .before in
+    source-more _ _ _ _ _ _ (l .loop .inv) _ _ _ (l .before .before .before .pre .1) (search needs)
+    (w .before .before .record-at .ensures) (w .before .rewire .ensures) (w .write-record .ensures)
+
+same-length : tie.Need-same-length Inv-loop μ-loop
+same-length c = search needs
+
+returns : tie.Need-returns Inv-loop μ-loop
+returns c = search source-end
+
+pub write-source-spec : {M : Type 1} → statement M
+write-source-spec =
+    tie.close
+    (tie.spec
+    Inv-loop
+    μ-loop
+    loop-holds
+    record-count-requires
+    record-at-requires
+    rewire-requires
+    write-record-requires
+    add-i
+    loop-less
+    loop-again
+    same-length
+    returns)

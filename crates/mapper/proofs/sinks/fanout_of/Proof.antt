@@ -1,0 +1,90 @@
+-- `fanout_of` meets its contract: no sink, one, two, or more.
+use Rattle.mapper.proofs.Fans.{fans-none, first-above, fans-one, second-above, fans-two, fans-many, fans-fit}
+use borrow.Author.Needs.{needs}
+use Rattle.mapper.proofs.sinks.fanout_of.Statement.{statement}
+use Rattle.mapper.proofs.sinks.fanout_of.Tie as tie
+
+mul-index : tie.Need-mul-index
+mul-index c = search needs
+
+element-copy-out-index : tie.Need-element-copy-out-index
+element-copy-out-index c = search needs
+
+index-requires : tie.Need-index-requires
+index-requires c κs = search needs
+
+returns : tie.Need-returns
+returns c = search fans-none
+
+distance-requires : tie.Need-distance-requires
+distance-requires c κs = search first-above
+
+mul-index-2 : tie.Need-mul-index-2
+mul-index-2 c = search needs
+
+element-copy-out-index-2 : tie.Need-element-copy-out-index-2
+element-copy-out-index-2 c = search needs
+
+index-requires-2 : tie.Need-index-requires-2
+index-requires-2 c κs = search needs
+
+one-if-requires : tie.Need-one-if-requires
+one-if-requires c κs = search needs
+
+returns-2 : tie.Need-returns-2
+returns-2 c = search fans-one
+
+mul-index-3 : tie.Need-mul-index-3
+mul-index-3 c = search needs
+
+element-copy-out-index-3 : tie.Need-element-copy-out-index-3
+element-copy-out-index-3 c = search needs
+
+index-requires-3 : tie.Need-index-requires-3
+index-requires-3 c κs = search needs
+
+distance-requires-2 : tie.Need-distance-requires-2
+distance-requires-2 c κs = search second-above
+
+larger-requires : tie.Need-larger-requires
+larger-requires c κs = search needs
+
+one-if-requires-2 : tie.Need-one-if-requires-2
+one-if-requires-2 c κs = search needs
+
+one-if-requires-3 : tie.Need-one-if-requires-3
+one-if-requires-3 c κs = search needs
+
+add-t27 : tie.Need-add-t27
+add-t27 c = search fans-fit
+
+returns-3 : tie.Need-returns-3
+returns-3 c = search fans-two
+
+returns-4 : tie.Need-returns-4
+returns-4 c = search fans-many
+
+pub fanout-of-spec : {M : Type 1} → statement M
+fanout-of-spec =
+    tie.close
+    (tie.spec
+    mul-index
+    element-copy-out-index
+    index-requires
+    returns
+    distance-requires
+    mul-index-2
+    element-copy-out-index-2
+    index-requires-2
+    one-if-requires
+    returns-2
+    mul-index-3
+    element-copy-out-index-3
+    index-requires-3
+    distance-requires-2
+    larger-requires
+    one-if-requires-2
+    one-if-requires-3
+    add-t27
+    returns-3
+    returns-4)

@@ -1,0 +1,97 @@
+-- `fill_row` meets its contract: every sink of d below slot p is counted.
+use Prim.Native.Nat.{_-_}
+use mathlib.Core.Path.{_≡_}
+use Rattle.netlist.specs.Records.{netlist, recordAt}
+use Rattle.mapper.proofs.Filling.{Filling, fill-start, fill-above, fill-near, fill-fits, fill-less, fill-more, fill-end}
+use borrow.Author.Needs.{needs}
+use Rattle.mapper.proofs.sinks.fill_row.Statement.{statement}
+use Rattle.mapper.proofs.sinks.fill_row.Tie as tie
+
+abbrev Inv-loop : tie.InvT-loop
+Inv-loop source end first next d row₀ low top₀ p₀ row top p = (low ≡ recordAt source d .level) × Filling (netlist source) d p row top
+
+abbrev μ-loop : tie.MeasureT-loop
+μ-loop source end first next d row₀ low top₀ p₀ row top p = end - p
+
+level-at-requires : tie.Need-level-at-requires Inv-loop μ-loop
+level-at-requires c κs = search needs
+
+mul-index : tie.Need-mul-index Inv-loop μ-loop
+mul-index c = search needs
+
+element-copy-out-index : tie.Need-element-copy-out-index Inv-loop μ-loop
+element-copy-out-index c = search needs
+
+index-requires : tie.Need-index-requires Inv-loop μ-loop
+index-requires c κs = search needs
+
+loop-holds : tie.Need-loop-holds Inv-loop μ-loop
+loop-holds c = search (needs, fill-start)
+
+level-at-requires-2 : tie.Need-level-at-requires-2 Inv-loop μ-loop
+level-at-requires-2 c κs = search needs
+
+sub-k : tie.Need-sub-k Inv-loop μ-loop
+sub-k c = search (needs, fill-above)
+
+cast-k : tie.Need-cast-k Inv-loop μ-loop
+cast-k c = search needs
+
+mul-index-2 : tie.Need-mul-index-2 Inv-loop μ-loop
+mul-index-2 c = search needs
+
+element-copy-out-index-2 : tie.Need-element-copy-out-index-2 Inv-loop μ-loop
+element-copy-out-index-2 c = search needs
+
+index-requires-2 : tie.Need-index-requires-2 Inv-loop μ-loop
+index-requires-2 c κs = search needs
+
+mul-row : tie.Need-mul-row Inv-loop μ-loop
+mul-row c = search (needs, fill-near)
+
+element-copy-out-row : tie.Need-element-copy-out-row Inv-loop μ-loop
+element-copy-out-row c = search fill-near
+
+add-row : tie.Need-add-row Inv-loop μ-loop
+add-row c = search (needs, fill-fits)
+
+element-write-row : tie.Need-element-write-row Inv-loop μ-loop
+element-write-row c = search fill-near
+
+larger-requires : tie.Need-larger-requires Inv-loop μ-loop
+larger-requires c κs = search needs
+
+loop-less : tie.Need-loop-less Inv-loop μ-loop
+loop-less c = search fill-less
+
+loop-again : tie.Need-loop-again Inv-loop μ-loop
+loop-again c = search (needs, fill-more)
+
+returns : tie.Need-returns Inv-loop μ-loop
+returns c = search fill-end
+
+pub fill-row-spec : {M : Type 1} → statement M
+fill-row-spec =
+    tie.close
+    (tie.spec
+    Inv-loop
+    μ-loop
+    level-at-requires
+    mul-index
+    element-copy-out-index
+    index-requires
+    loop-holds
+    level-at-requires-2
+    sub-k
+    cast-k
+    mul-index-2
+    element-copy-out-index-2
+    index-requires-2
+    mul-row
+    element-copy-out-row
+    add-row
+    element-write-row
+    larger-requires
+    loop-less
+    loop-again
+    returns)

@@ -1,0 +1,65 @@
+-- `measure` meets its contract: no sink, a line, or a row that is filled and walked.
+use Rattle.mapper.proofs.Fans.{no-sink, few-sinks, few-above, few-cast, few-fit}
+use Rattle.mapper.proofs.Lines.{measured-few}
+use Rattle.mapper.proofs.Measuring.{measured-none, walkable, measured}
+use Rattle.mapper.proofs.Walking.{drained}
+use borrow.Author.Needs.{needs}
+use Rattle.mapper.proofs.trees.measure.Statement.{statement}
+use Rattle.mapper.proofs.trees.measure.Tie as tie
+
+fanout-of-requires : tie.Need-fanout-of-requires
+fanout-of-requires c κs = search needs
+
+enum-told : tie.Need-enum-told
+enum-told c = search needs
+
+enum-known-fanout : tie.Need-enum-known-fanout
+enum-known-fanout c = search needs
+
+one-if-requires : tie.Need-one-if-requires
+one-if-requires c κs = search needs
+
+add-t15 : tie.Need-add-t15
+add-t15 c = search (few-fit _ _ _ _ (few-sinks _ _ _ _ _ (c .before .before .before .before .fanout-of .ensures) (c .before .before .fanout .given .1)))
+
+cast-t16 : tie.Need-cast-t16
+cast-t16 c = search (few-cast, few-sinks _ _ _ _ _ (c .before .before .before .before .fanout-of .ensures) (c .before .before .fanout .given .1))
+
+sub-t17 : tie.Need-sub-t17
+sub-t17 c = few-above _ _ _ _ (few-sinks _ _ _ _ _ (c .before .before .before .before .fanout-of .ensures) (c .before .before .fanout .given .1))
+
+enum-told-2 : tie.Need-enum-told-2
+enum-told-2 c = search needs
+
+fill-row-requires : tie.Need-fill-row-requires
+fill-row-requires c κs = search needs
+
+walk-down-requires : tie.Need-walk-down-requires
+walk-down-requires c κs = search walkable
+
+returns : tie.Need-returns
+returns c = (search (measured-none, no-sink), search needs)
+
+returns-2 : tie.Need-returns-2
+returns-2 c = (search (measured-few, few-sinks), search needs)
+
+returns-3 : tie.Need-returns-3
+returns-3 c = (search measured, search drained)
+
+pub measure-spec : {M : Type 1} → statement M
+measure-spec =
+    tie.close
+    (tie.spec
+    fanout-of-requires
+    enum-told
+    enum-known-fanout
+    one-if-requires
+    add-t15
+    cast-t16
+    sub-t17
+    enum-told-2
+    fill-row-requires
+    walk-down-requires
+    returns
+    returns-2
+    returns-3)

@@ -1,0 +1,74 @@
+-- `walk_down` meets its contract: from distance k on the row holds the buffers, or nothing.
+use Rattle.mapper.proofs.Walking.{Walking, walk-start, walk-few, walk-room, walk-nodes, walk-buffers, walk-more, walk-end}
+use borrow.Author.Needs.{needs}
+use Rattle.mapper.proofs.trees.walk_down.Statement.{statement}
+use Rattle.mapper.proofs.trees.walk_down.Tie as tie
+
+abbrev Inv-loop : tie.InvT-loop
+Inv-loop s top keep row₀ nodes₀ buffers₀ k₀ row nodes buffers k = Walking s row₀ keep row k nodes buffers
+
+abbrev μ-loop : tie.MeasureT-loop
+μ-loop s top keep row₀ nodes₀ buffers₀ k₀ row nodes buffers k = k
+
+add-k : tie.Need-add-k Inv-loop μ-loop
+add-k c = search needs
+
+loop-holds : tie.Need-loop-holds Inv-loop μ-loop
+loop-holds c = search (needs, walk-start)
+
+sub-k : tie.Need-sub-k Inv-loop μ-loop
+sub-k c = search needs
+
+carriers-requires : tie.Need-carriers-requires Inv-loop μ-loop
+carriers-requires c κs = search (needs, walk-few)
+
+mul-nodes : tie.Need-mul-nodes Inv-loop μ-loop
+mul-nodes c = search (needs, walk-room)
+
+element-copy-out-nodes : tie.Need-element-copy-out-nodes Inv-loop μ-loop
+element-copy-out-nodes c = search (needs, walk-room)
+
+add-nodes : tie.Need-add-nodes Inv-loop μ-loop
+add-nodes c = search (needs, walk-nodes)
+
+kept-requires : tie.Need-kept-requires Inv-loop μ-loop
+kept-requires c κs = search needs
+
+mul-row : tie.Need-mul-row Inv-loop μ-loop
+mul-row c = search needs
+
+element-write-row : tie.Need-element-write-row Inv-loop μ-loop
+element-write-row c = search (needs, walk-room)
+
+add-buffers : tie.Need-add-buffers Inv-loop μ-loop
+add-buffers c = search (needs, walk-buffers)
+
+loop-less : tie.Need-loop-less Inv-loop μ-loop
+loop-less c = search needs
+
+loop-again : tie.Need-loop-again Inv-loop μ-loop
+loop-again c = search walk-more
+
+returns : tie.Need-returns Inv-loop μ-loop
+returns c = search walk-end
+
+pub walk-down-spec : {M : Type 1} → statement M
+walk-down-spec =
+    tie.close
+    (tie.spec
+    Inv-loop
+    μ-loop
+    add-k
+    loop-holds
+    sub-k
+    carriers-requires
+    mul-nodes
+    element-copy-out-nodes
+    add-nodes
+    kept-requires
+    mul-row
+    element-write-row
+    add-buffers
+    loop-less
+    loop-again
+    returns)

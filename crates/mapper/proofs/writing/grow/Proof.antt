@@ -1,0 +1,17 @@
+-- `grow` meets its contract: the row is filled and walked.
+use Rattle.mapper.proofs.Netting.{net-walkable, net-grown}
+use borrow.Author.Needs.{needs}
+use Rattle.mapper.proofs.writing.grow.Statement.{statement}
+use Rattle.mapper.proofs.writing.grow.Tie as tie
+
+fill-row-requires : tie.Need-fill-row-requires
+fill-row-requires c κs = search needs
+
+walk-down-requires : tie.Need-walk-down-requires
+walk-down-requires c κs = search net-walkable
+
+returns : tie.Need-returns
+returns c = search net-grown
+
+pub grow-spec : {M : Type 1} → statement M
+grow-spec = tie.close (tie.spec fill-row-requires walk-down-requires returns)

@@ -1,0 +1,77 @@
+-- `hang_line` meets its contract: the sinks of d below slot p hang on the line.
+use Prim.Native.Nat.{_-_}
+use Rattle.netlist.specs.Records.{netlist}
+use Rattle.mapper.specs.Chains.{onLine}
+use Rattle.mapper.proofs.Threading.{Threading, thread-start, thread-above, thread-reach, thread-less, thread-more, thread-end, driver-fits, line-hung}
+use borrow.Author.Needs.{needs}
+use Rattle.mapper.proofs.writing.hang_line.Statement.{statement}
+use Rattle.mapper.proofs.writing.hang_line.Tie as tie
+
+abbrev Inv-loop : tie.InvT-loop
+Inv-loop source end first next₀ d start p₀ next p = Threading (netlist source) d (onLine (netlist source) d start) next₀ p next
+
+abbrev μ-loop : tie.MeasureT-loop
+μ-loop source end first next₀ d start p₀ next p = end - p
+
+mul-index : tie.Need-mul-index Inv-loop μ-loop
+mul-index c = search needs
+
+element-copy-out-index : tie.Need-element-copy-out-index Inv-loop μ-loop
+element-copy-out-index c = search needs
+
+index-requires : tie.Need-index-requires Inv-loop μ-loop
+index-requires c κs = search needs
+
+loop-holds : tie.Need-loop-holds Inv-loop μ-loop
+loop-holds c = search thread-start
+
+mul-index-2 : tie.Need-mul-index-2 Inv-loop μ-loop
+mul-index-2 c = search needs
+
+element-copy-out-index-2 : tie.Need-element-copy-out-index-2 Inv-loop μ-loop
+element-copy-out-index-2 c = search needs
+
+index-requires-2 : tie.Need-index-requires-2 Inv-loop μ-loop
+index-requires-2 c κs = search needs
+
+distance-requires : tie.Need-distance-requires Inv-loop μ-loop
+distance-requires c κs = search thread-above
+
+line-parent-requires : tie.Need-line-parent-requires Inv-loop μ-loop
+line-parent-requires c κs = search (driver-fits, thread-reach)
+
+mul-next : tie.Need-mul-next Inv-loop μ-loop
+mul-next c = search needs
+
+element-write-next : tie.Need-element-write-next Inv-loop μ-loop
+element-write-next c = search needs
+
+loop-less : tie.Need-loop-less Inv-loop μ-loop
+loop-less c = search thread-less
+
+loop-again : tie.Need-loop-again Inv-loop μ-loop
+loop-again c = search (thread-more, line-hung)
+
+returns : tie.Need-returns Inv-loop μ-loop
+returns c = search thread-end
+
+pub hang-line-spec : {M : Type 1} → statement M
+hang-line-spec =
+    tie.close
+    (tie.spec
+    Inv-loop
+    μ-loop
+    mul-index
+    element-copy-out-index
+    index-requires
+    loop-holds
+    mul-index-2
+    element-copy-out-index-2
+    index-requires-2
+    distance-requires
+    line-parent-requires
+    mul-next
+    element-write-next
+    loop-less
+    loop-again
+    returns)

@@ -1,0 +1,117 @@
+-- `hang_sinks` meets its contract: the sinks of d below slot p hang on their parents.
+use Prim.Native.Nat.{_-_}
+use mathlib.Core.Path.{_≡_}
+use Rattle.netlist.specs.Records.{netlist, recordAt}
+use Rattle.mapper.proofs.Hanging.{Hanging, hang-start, hang-above, hang-near, hang-parent, hang-fits, hang-less, hang-more, hang-hooked, hang-noded}
+use borrow.Author.Needs.{needs}
+use Rattle.mapper.proofs.writing.hang_sinks.Statement.{statement}
+use Rattle.mapper.proofs.writing.hang_sinks.Tie as tie
+
+abbrev Inv-loop : tie.InvT-loop
+Inv-loop source s end first next₀ d base row₀ low p₀ next row p = (low ≡ recordAt source d .level) × Hanging (netlist source) s d next₀ p next row
+
+abbrev μ-loop : tie.MeasureT-loop
+μ-loop source s end first next₀ d base row₀ low p₀ next row p = end - p
+
+level-at-requires : tie.Need-level-at-requires Inv-loop μ-loop
+level-at-requires c κs = search needs
+
+mul-index : tie.Need-mul-index Inv-loop μ-loop
+mul-index c = search needs
+
+element-copy-out-index : tie.Need-element-copy-out-index Inv-loop μ-loop
+element-copy-out-index c = search needs
+
+index-requires : tie.Need-index-requires Inv-loop μ-loop
+index-requires c κs = search needs
+
+loop-holds : tie.Need-loop-holds Inv-loop μ-loop
+loop-holds c = (search needs, search hang-start)
+
+mul-index-2 : tie.Need-mul-index-2 Inv-loop μ-loop
+mul-index-2 c = search needs
+
+element-copy-out-index-2 : tie.Need-element-copy-out-index-2 Inv-loop μ-loop
+element-copy-out-index-2 c = search needs
+
+index-requires-2 : tie.Need-index-requires-2 Inv-loop μ-loop
+index-requires-2 c κs = search needs
+
+level-at-requires-2 : tie.Need-level-at-requires-2 Inv-loop μ-loop
+level-at-requires-2 c κs = search needs
+
+sub-k : tie.Need-sub-k Inv-loop μ-loop
+sub-k c = search hang-above
+
+cast-k : tie.Need-cast-k Inv-loop μ-loop
+cast-k c = search needs
+
+mul-q : tie.Need-mul-q Inv-loop μ-loop
+mul-q c = search (needs, hang-near)
+
+element-copy-out-q : tie.Need-element-copy-out-q Inv-loop μ-loop
+element-copy-out-q c = search hang-near
+
+add-row : tie.Need-add-row Inv-loop μ-loop
+add-row c = search hang-fits
+
+mul-row : tie.Need-mul-row Inv-loop μ-loop
+mul-row c = search (needs, hang-near)
+
+element-write-row : tie.Need-element-write-row Inv-loop μ-loop
+element-write-row c = search hang-near
+
+mul-parent-of : tie.Need-mul-parent-of Inv-loop μ-loop
+mul-parent-of c = search (needs, hang-near)
+
+element-copy-out-parent-of : tie.Need-element-copy-out-parent-of Inv-loop μ-loop
+element-copy-out-parent-of c = search hang-near
+
+parent-of-requires : tie.Need-parent-of-requires Inv-loop μ-loop
+parent-of-requires c κs = (search needs, search hang-parent)
+
+mul-next : tie.Need-mul-next Inv-loop μ-loop
+mul-next c = search needs
+
+element-write-next : tie.Need-element-write-next Inv-loop μ-loop
+element-write-next c = search needs
+
+loop-less : tie.Need-loop-less Inv-loop μ-loop
+loop-less c = search hang-less
+
+loop-again : tie.Need-loop-again Inv-loop μ-loop
+loop-again c = (search needs, search hang-more)
+
+returns : tie.Need-returns Inv-loop μ-loop
+returns c = (search hang-hooked, search hang-noded)
+
+pub hang-sinks-spec : {M : Type 1} → statement M
+hang-sinks-spec =
+    tie.close
+    (tie.spec
+    Inv-loop
+    μ-loop
+    level-at-requires
+    mul-index
+    element-copy-out-index
+    index-requires
+    loop-holds
+    mul-index-2
+    element-copy-out-index-2
+    index-requires-2
+    level-at-requires-2
+    sub-k
+    cast-k
+    mul-q
+    element-copy-out-q
+    add-row
+    mul-row
+    element-write-row
+    mul-parent-of
+    element-copy-out-parent-of
+    parent-of-requires
+    mul-next
+    element-write-next
+    loop-less
+    loop-again
+    returns)

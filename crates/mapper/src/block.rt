@@ -1,0 +1,123 @@
+// Where one driver's block stands.
+ghost use mathlib.Core.Path.{_≡_};
+ghost use Prim.Native.Nat.{_≤_};
+ghost use Rattle.netlist.specs.Records.{netlist};
+ghost use Rattle.netlist.specs.Checks.{inputChecks};
+ghost use Rattle.mapper.specs.Mapped.{blockStart};
+ghost use Rattle.mapper.specs.View.{noEnds, blockEnds};
+ghost use Rattle.mapper.specs.Chains.{Counted, Mappable};
+use crate::RECORDS;
+use crate::SINKS;
+use crate::trees;
+use crate::trees::Sizing;
+use facts::Checked;
+use fanout::DISTANCES;
+use netlist::MAPPED_LIMIT;
+use netlist::SLOTS;
+
+// The first record of a block, and the first behind it.
+pub(crate) struct Ends {
+    pub(crate) from: usize,
+    pub(crate) to: usize,
+}
+
+// No block.
+fn no_ends() -> Ends
+    ensures { λ r. ⌜ r ≡ noEnds ⌝ }
+{
+    Ends { from: 0, to: 0 }
+}
+
+// The record at which the block of record m begins: behind the source and the trees before it.
+fn start_of(
+    source: &[u8],
+    s: u32,
+    n: usize,
+    end: usize,
+    first: &[u16; RECORDS],
+    next: &[u16; SINKS],
+    m: usize,
+) -> usize
+    requires { ⌜ Mappable (now source) s n (now first) (now next) end ⌝ }
+    requires { ⌜ m ≤ n ⌝ }
+    ensures { λ r. ⌜ r ≡ blockStart (netlist (now (source .entry))) s m ⌝ }
+{
+    let mut row = [0u32; DISTANCES];
+    let sizing = trees::count_trees(source, s, m, end, first, next, &mut row);
+    match sizing {
+        Sizing::Total(total) => n + total,
+        Sizing::Refuses(_, _) => 0,
+    }
+}
+
+// The block of record d of a source that passes 1 to 9.
+fn ends_of(
+    source: &[u8],
+    s: u32,
+    n: usize,
+    end: usize,
+    first: &[u16; RECORDS],
+    next: &[u16; SINKS],
+    d: usize,
+) -> Ends
+    requires { ⌜ Mappable (now source) s n (now first) (now next) end ⌝ }
+    ensures { λ r. ⌜ r ≡ blockEnds (now (source .entry)) s d ⌝ }
+{
+    if n <= d {
+        return no_ends();
+    }
+    if netlist::is_driver(netlist::kind_at(source, d)) {
+        let from = start_of(source, s, n, end, first, next, d);
+        let to = start_of(source, s, n, end, first, next, d + 1);
+        return Ends { from, to };
+    }
+    no_ends()
+}
+
+// Check 9 of a source whose trees are counted, and the block of record d.
+fn counted_ends(
+    source: &[u8],
+    s: u32,
+    n: usize,
+    end: usize,
+    first: &[u16; RECORDS],
+    next: &[u16; SINKS],
+    total: usize,
+    d: usize,
+) -> Ends
+    requires { ⌜ Counted (now source) s n (now first) (now next) end total ⌝ }
+    ensures { λ r. ⌜ r ≡ blockEnds (now (source .entry)) s d ⌝ }
+{
+    if MAPPED_LIMIT < n + total {
+        return no_ends();
+    }
+    ends_of(source, s, n, end, first, next, d)
+}
+
+// Check 8 of a source that passes 1 to 7, and the block of record d.
+fn source_ends(source: &[u8], s: u32, d: usize) -> Ends
+    requires { ⌜ inputChecks s (now source) ≡ Checked.Passed ⌝ }
+    ensures { λ r. ⌜ r ≡ blockEnds (now (source .entry)) s d ⌝ }
+{
+    let n = netlist::record_count(source);
+    let end = SLOTS * n;
+    let mut first = [end as u16; RECORDS];
+    let mut next = [0u16; SINKS];
+    let mut row = [0u32; DISTANCES];
+    let sizing = trees::size_trees(source, s, n, end, &mut first, &mut next, &mut row);
+    match sizing {
+        Sizing::Total(total) => counted_ends(source, s, n, end, &first, &next, total, d),
+        Sizing::Refuses(_, _) => no_ends(),
+    }
+}
+
+// Where the block of record d stands.
+pub(crate) fn block_ends(source: &[u8], capacity: u32, d: usize) -> Ends
+    ensures { λ r. ⌜ r ≡ blockEnds (now (source .entry)) capacity d ⌝ }
+{
+    let checked = netlist::check_input(capacity, source);
+    match checked {
+        Checked::Passed => source_ends(source, capacity, d),
+        Checked::Refused(_, _) => no_ends(),
+    }
+}

@@ -1,0 +1,147 @@
+// The chains of sinks: each driver's first sink, and after each sink its driver's next.
+ghost use mathlib.Core.Path.{_≡_};
+ghost use Prim.Native.Nat.{suc, _+_, _*_, _<_, max};
+ghost use lib.ListN.{replicate};
+ghost use Rattle.facts.specs.Sums.{bit};
+ghost use Rattle.netlist.specs.Kinds.{slots, topLevel, arity};
+ghost use Rattle.netlist.specs.Records.{netlist, recordCount};
+ghost use Rattle.netlist.specs.Source.{IsSource};
+ghost use Rattle.mapper.specs.Chains.{Above, slotDistance, Linked, Chained, Filled, Fans};
+use crate::RECORDS;
+use crate::SINKS;
+use fanout::DISTANCES;
+use netlist::SLOTS;
+
+// The sinks of a driver: none; one or two, with the largest distance and how many stand at distance 1; or more.
+pub(crate) enum Fanout {
+    None,
+    Few(usize, u32),
+    Many,
+}
+
+// A stored index, as a number to index with.
+pub(crate) fn index(x: u16) -> usize
+    ensures { λ r. ⌜ r ≡ x ⌝ }
+{
+    x as usize
+}
+
+// The used slots of record i, from the last one down: each comes before what its driver had first.
+fn link_slots(
+    source: &[u8],
+    i: usize,
+    used: usize,
+    first: &mut [u16; RECORDS],
+    next: &mut [u16; SINKS],
+)
+    requires { ⌜ IsSource (netlist (now source)) ⌝ }
+    requires { ⌜ i < netlist (now source) .size ⌝ }
+    requires { ⌜ used ≡ arity (netlist (now source) .at i .kind) ⌝ }
+    requires { ⌜ Linked (netlist (now source)) (now first) (now next) (slots * (i + 1)) ⌝ }
+    ensures { λ _. ⌜ Linked (netlist (now (source .entry))) (now (first .exit)) (now (next .exit)) (slots * i) ⌝ }
+{
+    let mut j = used;
+    while 0 < j {
+        j -= 1;
+        let d = netlist::slot_at(source, i, j) as usize;
+        let x = SLOTS * i + j;
+        next[x] = first[d];
+        first[d] = x as u16;
+    }
+}
+
+// The chains of all slots, from the last record down.
+pub(crate) fn link_all(source: &[u8], n: usize, first: &mut [u16; RECORDS], next: &mut [u16; SINKS])
+    requires { ⌜ IsSource (netlist (now source)) ⌝ }
+    requires { ⌜ n ≡ recordCount (now source) ⌝ }
+    requires { ⌜ Linked (netlist (now source)) (now first) (now next) (slots * n) ⌝ }
+    ensures { λ _. ⌜ Linked (netlist (now (source .entry))) (now (first .exit)) (now (next .exit)) 0 ⌝ }
+{
+    let mut i = n;
+    while 0 < i {
+        i -= 1;
+        link_slots(
+            source,
+            i,
+            netlist::arity(netlist::kind_at(source, i)),
+            first,
+            next,
+        );
+    }
+}
+
+// The larger of two numbers.
+fn larger(a: usize, b: usize) -> usize
+    ensures { λ r. ⌜ r ≡ max a b ⌝ }
+{
+    if a < b { b } else { a }
+}
+
+// The row of d's net, filled along the chain of its sinks; the largest distance is handed back.
+pub(crate) fn fill_row(
+    source: &[u8],
+    end: usize,
+    first: &[u16; RECORDS],
+    next: &[u16; SINKS],
+    d: usize,
+    row: &mut [u32; DISTANCES],
+) -> usize
+    requires { ⌜ Chained (netlist (now source)) (now first) (now next) d end ⌝ }
+    requires { ⌜ d < netlist (now source) .size ⌝ }
+    requires { ⌜ now row ≡ replicate (suc topLevel) 0 ⌝ }
+    ensures { λ r. ⌜ Filled (netlist (now (source .entry))) d (now (row .exit)) r ⌝ }
+{
+    let low = netlist::level_at(source, d);
+    let mut top: usize = 0;
+    let mut p = index(first[d]);
+    while p < end {
+        let k = (netlist::level_at(source, p / SLOTS) - low) as usize;
+        p = index(next[p]);
+        row[k] += 1;
+        top = larger(top, k);
+    }
+    top
+}
+
+// 1 for true, 0 for false.
+pub(crate) fn one_if(b: bool) -> u32
+    ensures { λ r. ⌜ r ≡ bit b ⌝ }
+{
+    if b { 1 } else { 0 }
+}
+
+// How far the record of slot p stands above record d.
+pub(crate) fn distance(source: &[u8], d: usize, p: usize) -> usize
+    requires { ⌜ Above (netlist (now source)) d p ⌝ }
+    ensures { λ r. ⌜ r ≡ slotDistance (netlist (now (source .entry))) d p ⌝ }
+{
+    (netlist::level_at(source, p / SLOTS) - netlist::level_at(source, d)) as usize
+}
+
+// The sinks of d, along its chain.
+pub(crate) fn fanout_of(
+    source: &[u8],
+    end: usize,
+    first: &[u16; RECORDS],
+    next: &[u16; SINKS],
+    d: usize,
+) -> Fanout
+    requires { ⌜ Chained (netlist (now source)) (now first) (now next) d end ⌝ }
+    requires { ⌜ d < netlist (now source) .size ⌝ }
+    ensures { λ r. ⌜ Fans (netlist (now (source .entry))) d r ⌝ }
+{
+    let p = index(first[d]);
+    if end <= p {
+        return Fanout::None;
+    }
+    let a = distance(source, d, p);
+    let q = index(next[p]);
+    if end <= q {
+        return Fanout::Few(a, one_if(a == 1));
+    }
+    if end <= index(next[q]) {
+        let b = distance(source, d, q);
+        return Fanout::Few(larger(a, b), one_if(a == 1) + one_if(b == 1));
+    }
+    Fanout::Many
+}

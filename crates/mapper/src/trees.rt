@@ -1,0 +1,167 @@
+// The trees of all nets, counted: check 8.
+ghost use mathlib.Core.Path.{_≡_};
+ghost use Prim.Native.Nat.{suc, _*_, _/_, _<_, _≤_};
+ghost use mathlib.Core.Bool.{cond};
+ghost use lib.ListN.{replicate};
+ghost use Rattle.facts.specs.Sums.{sum};
+ghost use Rattle.netlist.specs.Kinds.{slots, topLevel};
+ghost use Rattle.netlist.specs.Records.{netlist, recordCount};
+ghost use Rattle.netlist.specs.Checks.{inputChecks};
+ghost use Rattle.fanout.specs.Nets.{up};
+ghost use Rattle.mapper.specs.Mapped.{treeSize, bufferTotal};
+ghost use Rattle.mapper.specs.Answer.{treesBelow, treeChecks};
+ghost use Rattle.mapper.specs.Chains.{Linked, Chained, Walkable, Walked, Measured, sizingOf};
+ghost use Rattle.facts.specs.declared.Checked.{Checked};
+use crate::RECORDS;
+use crate::SINKS;
+use crate::sinks;
+use crate::sinks::Fanout;
+use fanout::DISTANCES;
+use fanout::DRIVER_CAPACITY;
+
+// The buffers of all trees, or check 8's refusal: number and place.
+pub(crate) enum Sizing {
+    Total(usize),
+    Refuses(u32, u32),
+}
+
+// What is left at distance 1 of a net, and the buffers of its tree.
+pub(crate) struct TreeTotals {
+    pub(crate) nodes: u32,
+    pub(crate) buffers: u32,
+}
+
+// x / s, by constants: the compiler has a short way for each.
+pub(crate) fn divide(x: u32, s: u32) -> u32
+    requires { ⌜ (2 ≤ s) × (s ≤ 4) ⌝ }
+    ensures { λ r. ⌜ r ≡ x / s ⌝ }
+{
+    if s == 2 {
+        return x / 2;
+    }
+    if s == 3 {
+        return x / 3;
+    }
+    x / 4
+}
+
+// The buffers that carry n nodes.
+fn carriers(s: u32, n: u32) -> u32
+    requires { ⌜ (2 ≤ s) × (s ≤ 4) ⌝ }
+    requires { ⌜ n ≤ 65535 ⌝ }
+    ensures { λ r. ⌜ r ≡ up s n ⌝ }
+{
+    divide(n + (s - 1), s)
+}
+
+// b where it is kept, else 0.
+fn kept(keep: bool, b: u32) -> u32
+    ensures { λ r. ⌜ r ≡ cond keep b 0 ⌝ }
+{
+    if keep { b } else { 0 }
+}
+
+// From distance top down to 1: the nodes and buffers; each count of sinks becomes the count of buffers there, or 0 where they are not kept.
+pub(crate) fn walk_down(s: u32, top: usize, keep: bool, row: &mut [u32; DISTANCES]) -> TreeTotals
+    requires { ⌜ Walkable s (now row) top ⌝ }
+    ensures { λ r. ⌜ Walked s (now (row .entry)) keep (now (row .exit)) r ⌝ }
+{
+    let mut nodes: u32 = 0;
+    let mut buffers: u32 = 0;
+    let mut k = top + 1;
+    while 1 < k {
+        k -= 1;
+        let b = carriers(s, nodes);
+        nodes = b + row[k];
+        row[k] = kept(keep, b);
+        buffers += b;
+    }
+    TreeTotals { nodes, buffers }
+}
+
+// d's net: the nodes left at distance 1 and its buffers; one or two sinks have a line of buffers, one at each distance below the largest. The row is all zero before and after.
+fn measure(
+    source: &[u8],
+    s: u32,
+    end: usize,
+    first: &[u16; RECORDS],
+    next: &[u16; SINKS],
+    d: usize,
+    row: &mut [u32; DISTANCES],
+) -> TreeTotals
+    requires { ⌜ Chained (netlist (now source)) (now first) (now next) d end ⌝ }
+    requires { ⌜ (2 ≤ s) × (s ≤ 4) ⌝ }
+    requires { ⌜ d < netlist (now source) .size ⌝ }
+    requires { ⌜ now row ≡ replicate (suc topLevel) 0 ⌝ }
+    ensures { λ r. ⌜ Measured (netlist (now (source .entry))) s d r ⌝ }
+    ensures { λ _. ⌜ now (row .exit) ≡ replicate (suc topLevel) 0 ⌝ }
+{
+    let fanout = sinks::fanout_of(source, end, first, next, d);
+    match fanout {
+        Fanout::None => TreeTotals {
+            nodes: 0,
+            buffers: 0,
+        },
+        Fanout::Few(top, near) => TreeTotals {
+            nodes: sinks::one_if(1 < top) + near,
+            buffers: top as u32 - 1,
+        },
+        Fanout::Many => {
+            let top = sinks::fill_row(source, end, first, next, d, row);
+            walk_down(s, top, false, row)
+        }
+    }
+}
+
+// Check 8 of the first m records, rising: the buffers of their trees, or the first driver without one. The row is all zero before and after.
+pub(crate) fn count_trees(
+    source: &[u8],
+    s: u32,
+    m: usize,
+    end: usize,
+    first: &[u16; RECORDS],
+    next: &[u16; SINKS],
+    row: &mut [u32; DISTANCES],
+) -> Sizing
+    requires { ⌜ Chained (netlist (now source)) (now first) (now next) 0 end ⌝ }
+    requires { ⌜ (2 ≤ s) × (s ≤ 4) ⌝ }
+    requires { ⌜ m ≤ recordCount (now source) ⌝ }
+    requires { ⌜ now row ≡ replicate (suc topLevel) 0 ⌝ }
+    ensures { λ r. ⌜ r ≡ sizingOf (treesBelow (netlist (now (source .entry))) s m) (sum (treeSize (netlist (now (source .entry))) s) m) ⌝ }
+    ensures { λ _. ⌜ now (row .exit) ≡ replicate (suc topLevel) 0 ⌝ }
+{
+    let mut total: usize = 0;
+    let mut d: usize = 0;
+    while d < m {
+        let tree = measure(source, s, end, first, next, d, row);
+        if DRIVER_CAPACITY < tree.nodes {
+            return Sizing::Refuses(8, d as u32);
+        }
+        total += tree.buffers as usize;
+        d += 1;
+    }
+    Sizing::Total(total)
+}
+
+// All trees of a source that passes 1 to 7: its slots are linked, and the buffers counted. The row is all zero before and after.
+pub(crate) fn size_trees(
+    source: &[u8],
+    s: u32,
+    n: usize,
+    end: usize,
+    first: &mut [u16; RECORDS],
+    next: &mut [u16; SINKS],
+    row: &mut [u32; DISTANCES],
+) -> Sizing
+    requires { ⌜ inputChecks s (now source) ≡ Checked.Passed ⌝ }
+    requires { ⌜ n ≡ recordCount (now source) ⌝ }
+    requires { ⌜ end ≡ slots * n ⌝ }
+    requires { ⌜ Linked (netlist (now source)) (now first) (now next) (slots * n) ⌝ }
+    requires { ⌜ now row ≡ replicate (suc topLevel) 0 ⌝ }
+    ensures { λ r. ⌜ r ≡ sizingOf (treeChecks (netlist (now (source .entry))) s) (bufferTotal (netlist (now (source .entry))) s) ⌝ }
+    ensures { λ _. ⌜ Chained (netlist (now (source .entry))) (now (first .exit)) (now (next .exit)) 0 end ⌝ }
+    ensures { λ _. ⌜ now (row .exit) ≡ replicate (suc topLevel) 0 ⌝ }
+{
+    sinks::link_all(source, n, first, next);
+    count_trees(source, s, n, end, first, next, row)
+}

@@ -1,0 +1,300 @@
+// The nets written: buffers into the area, and what each sink hangs on.
+ghost use mathlib.Core.Path.{_≡_};
+ghost use Prim.Native.Nat.{suc, _+_, _*_, _<_, _≤_};
+ghost use lib.ListN.{length, replicate};
+ghost use Rattle.facts.specs.Sums.{sum};
+ghost use Rattle.netlist.specs.Kinds.{width, topLevel, mappedLimit};
+ghost use Rattle.netlist.specs.Records.{netlist, recordCount};
+ghost use Rattle.mapper.specs.Bytes.{encoded, put, withRecords, bytesOf, onto};
+ghost use Rattle.mapper.specs.Mapped.{treeSize, blockStart, mappedSize, mapped, Ready};
+ghost use Rattle.mapper.specs.Chains.{Chained, Stale, behind, levelRecord, lineParent, lineRecord, GrownNet, Based, Hung, Hooked, onParent, onLine, Hangable, Noded, Writable, Wrote};
+use crate::RECORDS;
+use crate::SINKS;
+use crate::records;
+use crate::sinks;
+use crate::sinks::Fanout;
+use crate::trees;
+use fanout::DISTANCES;
+use netlist::SLOTS;
+
+// A stored count, as a number to add to an index.
+fn amount(x: u32) -> usize
+    ensures { λ r. ⌜ r ≡ x ⌝ }
+{
+    x as usize
+}
+
+// The row, all zero again: only distances up to top were touched.
+fn clear_row(top: usize, row: &mut [u32; DISTANCES])
+    requires { ⌜ Stale (now row) top ⌝ }
+    ensures { λ _. ⌜ now (row .exit) ≡ replicate (suc topLevel) 0 ⌝ }
+{
+    let mut k: usize = 0;
+    while k <= top {
+        row[k] = 0;
+        k += 1;
+    }
+}
+
+// What node q of distance k hangs on, where the first node hangs on base: at distance 1 all hang on the driver.
+fn parent_of(base: u16, s: u32, k: usize, q: u32) -> u16
+    requires { ⌜ (2 ≤ s) × (s ≤ 4) ⌝ }
+    requires { ⌜ base + behind s k q < 65536 ⌝ }
+    ensures { λ r. ⌜ r ≡ base + behind s k q ⌝ }
+{
+    let back = trees::divide(q, s);
+    if k < 2 { base } else { base + back as u16 }
+}
+
+// The buffers of distance k, from record at on.
+fn write_level(area: &mut [u8], s: u32, k: usize, at: usize, level: u16, base: u16, n: u32)
+    requires { ⌜ (2 ≤ s) × (s ≤ 4) ⌝ }
+    requires { ⌜ width * (at + n) ≤ length (now area) ⌝ }
+    requires { ⌜ base + n < 65536 ⌝ }
+    ensures { λ _. ⌜ now (area .exit) ≡ put (now (area .entry)) (width * at) (encoded (levelRecord s k level base) n) ⌝ }
+{
+    let mut j: u32 = 0;
+    while j < n {
+        records::write_record(
+            area,
+            at + j as usize,
+            records::buffer_of(level, parent_of(base, s, k, j)),
+        );
+        j += 1;
+    }
+}
+
+// The buffers of d's tree from record start on, by distance; base keeps what each distance's first node hangs on.
+fn write_buffers(
+    source: &[u8],
+    s: u32,
+    d: usize,
+    start: usize,
+    top: usize,
+    row: &[u32; DISTANCES],
+    base: &mut [u16; DISTANCES],
+    area: &mut [u8],
+) -> usize
+    requires { ⌜ GrownNet (netlist (now source)) s d (now row) top ⌝ }
+    requires { ⌜ start ≡ blockStart (netlist (now source)) s d ⌝ }
+    requires { ⌜ length (now base) ≡ suc topLevel ⌝ }
+    requires { ⌜ width * mappedSize (netlist (now source)) s ≤ length (now area) ⌝ }
+    ensures { λ r. ⌜ r ≡ blockStart (netlist (now (source .entry))) s (d + 1) ⌝ }
+    ensures { λ _. ⌜ Based (netlist (now (source .entry))) s d (now (base .exit)) ⌝ }
+    ensures { λ _. ⌜ now (area .exit) ≡ withRecords (mapped (netlist (now (source .entry))) s) start (treeSize (netlist (now (source .entry))) s d) (now (area .entry)) ⌝ }
+{
+    let low = netlist::level_at(source, d);
+    let mut at = start;
+    let mut from = d as u16;
+    let mut k: usize = 1;
+    while k <= top {
+        let n = row[k];
+        base[k] = from;
+        write_level(area, s, k, at, low + k as u16, from, n);
+        from = at as u16;
+        at += amount(n);
+        k += 1;
+    }
+    at
+}
+
+// The sinks of d, along its chain: each hangs behind the buffers and the earlier sinks of its distance, and its parent takes the place of its next sink.
+fn hang_sinks(
+    source: &[u8],
+    s: u32,
+    end: usize,
+    first: &[u16; RECORDS],
+    next: &mut [u16; SINKS],
+    d: usize,
+    base: &[u16; DISTANCES],
+    row: &mut [u32; DISTANCES],
+)
+    requires { ⌜ Hangable (netlist (now source)) s d (now first) (now next) end (now row) (now base) ⌝ }
+    ensures { λ _. ⌜ Hooked (netlist (now (source .entry))) d (onParent (netlist (now (source .entry))) s) (now (next .entry)) (now (next .exit)) ⌝ }
+    ensures { λ _. ⌜ Noded (netlist (now (source .entry))) s d (now (row .exit)) ⌝ }
+{
+    let low = netlist::level_at(source, d);
+    let mut p = sinks::index(first[d]);
+    while p < end {
+        let after = sinks::index(next[p]);
+        let k = (netlist::level_at(source, p / SLOTS) - low) as usize;
+        let q = row[k];
+        row[k] = q + 1;
+        next[p] = parent_of(base[k], s, k, q);
+        p = after;
+    }
+}
+
+// The row of d's net, walked: the buffers at each distance; the largest distance is handed back.
+fn grow(
+    source: &[u8],
+    s: u32,
+    end: usize,
+    first: &[u16; RECORDS],
+    next: &[u16; SINKS],
+    d: usize,
+    row: &mut [u32; DISTANCES],
+) -> usize
+    requires { ⌜ Ready (netlist (now source)) s ⌝ }
+    requires { ⌜ Chained (netlist (now source)) (now first) (now next) d end ⌝ }
+    requires { ⌜ d < netlist (now source) .size ⌝ }
+    requires { ⌜ now row ≡ replicate (suc topLevel) 0 ⌝ }
+    ensures { λ r. ⌜ GrownNet (netlist (now (source .entry))) s d (now (row .exit)) r ⌝ }
+{
+    let top = sinks::fill_row(source, end, first, next, d, row);
+    trees::walk_down(s, top, true, row);
+    top
+}
+
+// The tree of d: its buffers go to the area from record at on, its sinks' parents to their slots. The next record is handed back.
+fn write_tree(
+    source: &[u8],
+    s: u32,
+    end: usize,
+    first: &[u16; RECORDS],
+    next: &mut [u16; SINKS],
+    d: usize,
+    at: usize,
+    row: &mut [u32; DISTANCES],
+    base: &mut [u16; DISTANCES],
+    area: &mut [u8],
+) -> usize
+    requires { ⌜ Writable (netlist (now source)) s d at (now first) (now next) end (now row) (now base) (now area) ⌝ }
+    ensures { λ r. ⌜ Wrote (netlist (now (source .entry))) s d at (now (first .entry)) (now (next .exit)) end (now (row .exit)) (now (base .exit)) (now (area .entry)) (now (area .exit)) r ⌝ }
+{
+    let top = grow(source, s, end, first, next, d, row);
+    let after = write_buffers(source, s, d, at, top, row, base, area);
+    hang_sinks(source, s, end, first, next, d, base, row);
+    clear_row(top, row);
+    after
+}
+
+// What a node at distance k of d's line hangs on: d, or the buffer one level nearer; the first one is record start.
+fn line_parent(d: usize, start: usize, k: usize) -> u16
+    requires { ⌜ (d < 65536) × (start + k < 65536) ⌝ }
+    ensures { λ r. ⌜ r ≡ lineParent d start k ⌝ }
+{
+    if k < 2 {
+        return d as u16;
+    }
+    (start + (k - 2)) as u16
+}
+
+// A line of n buffers above d, whose level is low, from record start on.
+fn write_line(area: &mut [u8], d: usize, start: usize, low: u16, n: usize)
+    requires { ⌜ width * (start + n) ≤ length (now area) ⌝ }
+    requires { ⌜ (d < 65536) × (start + n < 65536) × (low + n < 65536) ⌝ }
+    ensures { λ _. ⌜ now (area .exit) ≡ put (now (area .entry)) (width * start) (encoded (lineRecord d start low) n) ⌝ }
+{
+    let mut j: usize = 0;
+    while j < n {
+        let k = j + 1;
+        records::write_record(
+            area,
+            start + j,
+            records::buffer_of(low + k as u16, line_parent(d, start, k)),
+        );
+        j = k;
+    }
+}
+
+// The sinks of d, each behind the buffer of d's line that stands one level nearer: its parent takes the place of its next sink.
+fn hang_line(
+    source: &[u8],
+    end: usize,
+    first: &[u16; RECORDS],
+    next: &mut [u16; SINKS],
+    d: usize,
+    start: usize,
+)
+    requires { ⌜ Chained (netlist (now source)) (now first) (now next) d end ⌝ }
+    requires { ⌜ d < netlist (now source) .size ⌝ }
+    requires { ⌜ start ≤ mappedLimit ⌝ }
+    ensures { λ _. ⌜ Hooked (netlist (now (source .entry))) d (onLine (netlist (now (source .entry))) d start) (now (next .entry)) (now (next .exit)) ⌝ }
+{
+    let mut p = sinks::index(first[d]);
+    while p < end {
+        let after = sinks::index(next[p]);
+        next[p] = line_parent(d, start, sinks::distance(source, d, p));
+        p = after;
+    }
+}
+
+// The net of d: its buffers go to the area from record at on, its sinks' parents to their slots. The next record is handed back.
+fn write_net(
+    source: &[u8],
+    s: u32,
+    end: usize,
+    first: &[u16; RECORDS],
+    next: &mut [u16; SINKS],
+    d: usize,
+    at: usize,
+    row: &mut [u32; DISTANCES],
+    base: &mut [u16; DISTANCES],
+    area: &mut [u8],
+) -> usize
+    requires { ⌜ Writable (netlist (now source)) s d at (now first) (now next) end (now row) (now base) (now area) ⌝ }
+    ensures { λ r. ⌜ Wrote (netlist (now (source .entry))) s d at (now (first .entry)) (now (next .exit)) end (now (row .exit)) (now (base .exit)) (now (area .entry)) (now (area .exit)) r ⌝ }
+{
+    let fanout = sinks::fanout_of(source, end, first, next, d);
+    match fanout {
+        Fanout::None => at,
+        Fanout::Few(top, _) => {
+            let n = top - 1;
+            hang_line(source, end, first, next, d, at);
+            write_line(area, d, at, netlist::level_at(source, d), n);
+            at + n
+        }
+        Fanout::Many => write_tree(source, s, end, first, next, d, at, row, base, area),
+    }
+}
+
+// The nets of all drivers, rising: their buffers behind the source's records, and what each sink hangs on. The row is all zero before each.
+fn write_nets(
+    source: &[u8],
+    s: u32,
+    n: usize,
+    end: usize,
+    first: &[u16; RECORDS],
+    next: &mut [u16; SINKS],
+    row: &mut [u32; DISTANCES],
+    area: &mut [u8],
+)
+    requires { ⌜ Ready (netlist (now source)) s ⌝ }
+    requires { ⌜ n ≡ recordCount (now source) ⌝ }
+    requires { ⌜ Hung (netlist (now source)) s (now first) (now next) 0 end ⌝ }
+    requires { ⌜ now row ≡ replicate (suc topLevel) 0 ⌝ }
+    requires { ⌜ width * mappedSize (netlist (now source)) s ≤ length (now area) ⌝ }
+    ensures { λ _. ⌜ Hung (netlist (now (source .entry))) s (now (first .entry)) (now (next .exit)) (netlist (now (source .entry)) .size) end ⌝ }
+    ensures { λ _. ⌜ now (area .exit) ≡ withRecords (mapped (netlist (now (source .entry))) s) (netlist (now (source .entry)) .size) (sum (treeSize (netlist (now (source .entry))) s) (netlist (now (source .entry)) .size)) (now (area .entry)) ⌝ }
+{
+    let mut base = [0u16; DISTANCES];
+    let mut at = n;
+    let mut d: usize = 0;
+    while d < n {
+        at = write_net(source, s, end, first, next, d, at, row, &mut base, area);
+        d += 1;
+    }
+}
+
+// The whole mapped netlist, into an area that it fits.
+pub(crate) fn write_mapped(
+    source: &[u8],
+    s: u32,
+    n: usize,
+    end: usize,
+    first: &[u16; RECORDS],
+    next: &mut [u16; SINKS],
+    row: &mut [u32; DISTANCES],
+    area: &mut [u8],
+)
+    requires { ⌜ Ready (netlist (now source)) s ⌝ }
+    requires { ⌜ Chained (netlist (now source)) (now first) (now next) 0 end ⌝ }
+    requires { ⌜ n ≡ recordCount (now source) ⌝ }
+    requires { ⌜ now row ≡ replicate (suc topLevel) 0 ⌝ }
+    requires { ⌜ width * mappedSize (netlist (now source)) s ≤ length (now area) ⌝ }
+    ensures { λ _. ⌜ now (area .exit) ≡ onto (bytesOf (mapped (netlist (now (source .entry))) s)) (now (area .entry)) ⌝ }
+{
+    write_nets(source, s, n, end, first, next, row, area);
+    records::write_source(source, next, area);
+}
