@@ -25,7 +25,7 @@ use Rattle.mapper.specs.Bytes.{bytesOf, onto}
 use Rattle.mapper.specs.Mapped.{treeSize, bufferTotal, mappedSize, mapped, Ready}
 use Rattle.mapper.specs.Answer.{gatePrice, bufferPrice, gates, share, junctions, figures, answerOf, areaOf, refusal, noTree, treeCheck, treesBelow, treeChecks, tooLarge, tooShort, sourceMaps, mapChecks, mapAnswer, mapArea}
 use Rattle.mapper.specs.declared.trees.Sizing.{Sizing}
-use Rattle.mapper.specs.declared.trees.Sizing.the-variants.{Total, Refuses}
+use Rattle.mapper.specs.declared.trees.Sizing.the-variants.{Total, Stops}
 use Rattle.mapper.specs.Chains.{Linked, Chained, Hung, sizingOf, slotEnd, Counted}
 use Rattle.mapper.proofs.Chains.{link-start, chained-all}
 use Rattle.mapper.proofs.Counting.{total-small, refusing, counting}
@@ -120,12 +120,12 @@ module _ (bytes : List ℕ) (s : ℕ) (area : List ℕ) where
     trees-refuse number place e = rw (i, e) refl
 
     pub refused-tree : (number place total : ℕ) (z : Sizing) (r : Mapping) → z ≡ sizingOf (treeChecks (netlist bytes) s) total →
-        z ≡ Refuses number place → r ≡ refusal number place → r ≡ mapAnswer bytes s area
+        z ≡ Stops number place → r ≡ refusal number place → r ≡ mapAnswer bytes s area
     refused-tree number place total z r e f g =
         g ∙ answer-is (Refused number place) (trees-refuse number place (refusing (netlist bytes) s number place total z e f))
 
     pub kept-tree : (number place total : ℕ) (z : Sizing) → z ≡ sizingOf (treeChecks (netlist bytes) s) total →
-        z ≡ Refuses number place → area ≡ mapArea bytes s area
+        z ≡ Stops number place → area ≡ mapArea bytes s area
     kept-tree number place total z e f =
         area-is (Refused number place) (trees-refuse number place (refusing (netlist bytes) s number place total z e f))
 

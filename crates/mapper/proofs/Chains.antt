@@ -100,8 +100,8 @@ module _ (n : Netlist) (first next : List ℕ) where
       record {
         firsts = λ d ld. rw e (getD-replicate sourceLimit d (slotEnd n) 0 (omega arith) ∙ sym (next-end n d));
         nexts = λ y a b u. absurd (omega arith);
-        drivers = ap length e ∙ length-replicate sourceLimit (slotEnd n);
-        sinks = f;
+        firstLong = ap length e ∙ length-replicate sourceLimit (slotEnd n);
+        nextLong = f;
       }
 
   -- an unused slot links nothing
@@ -110,8 +110,8 @@ module _ (n : Netlist) (first next : List ℕ) where
       record {
         firsts = λ d ld. h .firsts d ld ∙ ap (nextSink n d) (add-one x) ∙ sym (next-skip n d x l (rw u refl));
         nexts = λ y a b v. h .nexts y (further y a v) b v;
-        drivers = h .drivers;
-        sinks = h .sinks;
+        firstLong = h .firstLong;
+        nextLong = h .nextLong;
       }
     where
       further : (y : ℕ) → x ≤ y → usedSlot n y ≡ true → x + 1 ≤ y
@@ -128,14 +128,14 @@ module _ (n : Netlist) (first next : List ℕ) where
       record {
         firsts = λ d m. at-driver d m (ℕ-discrete d t);
         nexts = λ y a b v. at-slot y a b v (ℕ-discrete y x);
-        drivers = length-set first t x ∙ h .drivers;
-        sinks = length-set next x (getD first t 0) ∙ h .sinks;
+        firstLong = length-set first t x ∙ h .firstLong;
+        nextLong = length-set next x (getD first t 0) ∙ h .nextLong;
       }
     where
       at-driver : (d : ℕ) → d < n .size → Dec (d ≡ t) → getD (set first t x) d 0 ≡ nextSink n d x
       at-driver d m (yes f) =
           rw f
-          (getD-set-same first t x 0 (omega (arith, h .drivers))
+          (getD-set-same first t x 0 (omega (arith, h .firstLong))
           ∙ sym (next-here n t x l (and-i (usedSlot n x) _ u (eq-eqb _ t (sym e)))))
       at-driver d m (no f) =
           getD-set-other first t d x 0 f
@@ -147,7 +147,7 @@ module _ (n : Netlist) (first next : List ℕ) where
           getD (set next x (getD first t 0)) y 0 ≡ nextSink n (faninSlot n y) (suc y)
       at-slot y a b v (yes f) =
           rw f
-          (getD-set-same next x (getD first t 0) 0 (omega (arith, h .sinks))
+          (getD-set-same next x (getD first t 0) 0 (omega (arith, h .nextLong))
           ∙ h .firsts t ld
           ∙ ap (nextSink n t) (add-one x)
           ∙ ap (λ (d : ℕ). nextSink n d (suc x)) e)
@@ -230,7 +230,7 @@ module _ (n : Netlist) (first next : List ℕ) (end : ℕ) where
         source = s;
         firsts = h .firsts;
         nexts = λ y l u d. h .nexts y (omega arith) l u;
-        sinks = h .sinks;
+        nextLong = h .nextLong;
         stop = e;
       }
 
@@ -240,6 +240,6 @@ module _ (n : Netlist) (first next : List ℕ) (end : ℕ) where
         source = h .source;
         firsts = h .firsts;
         nexts = λ y a u b. h .nexts y a u (omega arith);
-        sinks = h .sinks;
+        nextLong = h .nextLong;
         stop = h .stop;
       }

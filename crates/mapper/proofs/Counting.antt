@@ -23,7 +23,7 @@ use Rattle.fanout.specs.Nets.{row, nodesAt, buffers}
 use Rattle.fanout.proofs.Nets.{row-length}
 use Rattle.mapper.specs.declared.trees.TreeTotals.{TreeTotals}
 use Rattle.mapper.specs.declared.trees.Sizing.{Sizing}
-use Rattle.mapper.specs.declared.trees.Sizing.the-variants.{Total, Refuses}
+use Rattle.mapper.specs.declared.trees.Sizing.the-variants.{Total, Stops}
 use Rattle.fanout.specs.Answer.{driverCapacity}
 use Rattle.mapper.specs.Mapped.{netRow, treeSize, bufferTotal}
 use Rattle.mapper.specs.Answer.{treeCheck, treesBelow, treeChecks}
@@ -68,7 +68,7 @@ module _ (n : Netlist) (s : ℕ) where
       )
 
   pub count-stop : (row : List ℕ) (total d m : ℕ) (t : TreeTotals) → Counting n s m row total d → d < m → Measured n s d t → driverCapacity < t .nodes →
-      Refuses 8 d ≡ sizingOf (treesBelow n s m) (sum (treeSize n s) m)
+      Stops 8 d ≡ sizingOf (treesBelow n s m) (sum (treeSize n s) m)
   count-stop row total d m t h l g f =
       ap (λ (a : Checked). sizingOf a (sum (treeSize n s) m))
       (scan-stop (treeCheck n s) m d 8 d (treeCheck n s d) (h .checks) (omega arith) refl
@@ -101,11 +101,11 @@ module _ (n : Netlist) (s : ℕ) where
           }
 
 -- what an answer of the count says
-pub refusing : (n : Netlist) (s number place total : ℕ) (z : Sizing) → z ≡ sizingOf (treeChecks n s) total → z ≡ Refuses number place →
+pub refusing : (n : Netlist) (s number place total : ℕ) (z : Sizing) → z ≡ sizingOf (treeChecks n s) total → z ≡ Stops number place →
     treeChecks n s ≡ Refused number place
 refusing n s number place total z e f = go (treeChecks n s) (sym e ∙ f)
   where
-    go : (a : Checked) → sizingOf a total ≡ Refuses number place → a ≡ Refused number place
+    go : (a : Checked) → sizingOf a total ≡ Stops number place → a ≡ Refused number place
     go Passed g = let z : _≡_ {A = ℕ} 0 1 = cc in absurd (omega arith)
     go (Refused n′ p′) g = cc
 

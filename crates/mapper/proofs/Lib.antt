@@ -4,7 +4,6 @@ pub mod Blocks
 pub mod Bytes
 pub mod Chains
 pub mod Counting
-pub mod Fans
 pub mod Feeds
 pub mod Filling
 pub mod Hanging
@@ -17,6 +16,7 @@ pub mod Netting
 pub mod Nodes
 pub mod Planting
 pub mod Promises
+pub mod ShortChains
 pub mod Threading
 pub mod View
 pub mod Walking

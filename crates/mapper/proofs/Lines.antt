@@ -17,7 +17,7 @@ use Rattle.fanout.specs.Nets.{row, sinks, up, nodes, nodesAt, buffersAt}
 use Rattle.fanout.proofs.Nets.{div-up, nodes-at, row-at, minimal}
 use Rattle.mapper.specs.Bytes.{encoded, put, withRecords}
 use Rattle.mapper.specs.Mapped.{buffersOf, treeSize, blockStart, place, parent, bufferOf, bufferRecord, mappedAt, mapped, Ready}
-use Rattle.mapper.specs.Chains.{slotDistance, FewSinks, Measured, lineParent, lineRecord, Hooked, onParent, onLine}
+use Rattle.mapper.specs.Chains.{slotDistance, ShortChain, Measured, lineParent, lineRecord, Hooked, onParent, onLine}
 use Rattle.mapper.proofs.Area.{encoded-cong}
 use Rattle.mapper.proofs.Mapped.{tree-sum, at-place}
 use Rattle.mapper.proofs.Nodes.{pos, IsNode, hangs, buffer-node}
@@ -74,16 +74,16 @@ module _ (s : ℕ) (r : List ℕ) (top : ℕ) (two : 2 ≤ s) (farthest : 0 < ge
       none l = rw (le-ltb k top (omega arith)) (omega (arith, rw (le-ltb k top (omega arith)) at most))
 
 -- d's net of one or two sinks
-module _ (n : Netlist) (s d top near : ℕ) (i : IsSource n) (two : 2 ≤ s) (ld : d < n .size) (h : FewSinks n d top near) where
+module _ (n : Netlist) (s d top near : ℕ) (i : IsSource n) (two : 2 ≤ s) (ld : d < n .size) (h : ShortChain n d top near) where
   low : 0 < s
   low = omega arith
 
   row-line : (k : ℕ) → 1 ≤ k → buffersAt s (row n d) k ≡ bit (ltb k top)
   row-line =
       line-row s (row n d) top two
-      (omega (arith, row-at n d top (h .within), h .farthest))
-      (omega (arith, row-at n d top (h .within), h .few))
-      (λ k l. omega (arith, row-at n d k (omega (arith, h .within)), h .nearer k l))
+      (omega (arith, row-at n d top (h .near), h .farthest))
+      (omega (arith, row-at n d top (h .near), h .few))
+      (λ k l. omega (arith, row-at n d k (omega (arith, h .near)), h .nearer k l))
       (λ k l. row-none n d k (h .beyond k l))
 
   line-at : (k : ℕ) → buffersOf n s d (suc k) ≡ bit (ltb (suc k) top)
@@ -107,7 +107,7 @@ module _ (n : Netlist) (s d top near : ℕ) (i : IsSource n) (two : 2 ≤ s) (ld
   line-size =
       tree-sum n s low d
       ∙ line-sum topLevel
-      ∙ count-stop (λ x. ltb (suc x) top) (top - 1) topLevel (omega (arith, h .within))
+      ∙ count-stop (λ x. ltb (suc x) top) (top - 1) topLevel (omega (arith, h .near))
       (λ x a b. omega (arith, ltb-true (suc x) top b))
       ∙ count-all (λ x. ltb (suc x) top) (top - 1) (λ x b. lt-ltb (suc x) top (omega arith))
 
@@ -117,7 +117,7 @@ module _ (n : Netlist) (s d top near : ℕ) (i : IsSource n) (two : 2 ≤ s) (ld
         nodes =
             omega (
               arith,
-              h .close,
+              h .ones,
               row-line 1 (omega arith),
               nodes-at s (row n d) 1 low,
               row-at n d 1 (omega arith),
@@ -127,7 +127,7 @@ module _ (n : Netlist) (s d top near : ℕ) (i : IsSource n) (two : 2 ≤ s) (ld
       }
 
 -- d's line as it is written
-module _ (n : Netlist) (s d top near : ℕ) (r : Ready n s) (ld : d < n .size) (h : FewSinks n d top near) where
+module _ (n : Netlist) (s d top near : ℕ) (r : Ready n s) (ld : d < n .size) (h : ShortChain n d top near) where
   below : (k : ℕ) → k < top → sum (buffersOf n s d) (suc k) ≡ k
   below = line-below n s d top near (r .source) (r .low) ld h
 
@@ -153,7 +153,7 @@ module _ (n : Netlist) (s d top near : ℕ) (r : Ready n s) (ld : d < n .size) (
       ∙ ap (mappedAt n s) place-is
     where
       near-top : suc j ≤ topLevel
-      near-top = omega (arith, h .within)
+      near-top = omega (arith, h .near)
 
       one : 0 < buffersOf n s d (suc j)
       one = omega (arith, at j, ap bit (lt-ltb (suc j) top (omega arith)))

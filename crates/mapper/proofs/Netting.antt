@@ -17,7 +17,7 @@ use Rattle.fanout.specs.Nets.{row, sinks, up, buffersAt}
 use Rattle.mapper.specs.declared.trees.TreeTotals.{TreeTotals}
 use Rattle.mapper.specs.Bytes.{encoded, put, withRecords}
 use Rattle.mapper.specs.Mapped.{buffersOf, treeSize, blockStart, mappedSize, mapped, Ready}
-use Rattle.mapper.specs.Chains.{slotEnd, namesSlot, Chained, Filled, Walkable, Walked, Stale, FewSinks, GrownNet, Hung, Hooked, onParent, onLine, lineRecord, Noded, Writable, Wrote}
+use Rattle.mapper.specs.Chains.{slotEnd, namesSlot, Chained, Filled, Walkable, Walked, Stale, ShortChain, GrownNet, Hung, Hooked, onParent, onLine, lineRecord, Noded, Writable, Wrote}
 use Rattle.mapper.proofs.Area.{written-none, written-more, written-length}
 use Rattle.facts.proofs.Blocks.{block-before}
 use Rattle.mapper.proofs.Nodes.{pos, nodes-none}
@@ -106,7 +106,7 @@ module _ (n : Netlist) (s d at : ℕ) (first next : List ℕ) (end : ℕ) (count
   line-start = omega (arith, w .start, w .ready .fits, block-before (treeSize n s) d (n .size) (w .driver))
 
   -- of one or two it is a line
-  module _ (top near : ℕ) (f : FewSinks n d top near) where
+  module _ (top near : ℕ) (f : ShortChain n d top near) where
     inside : at + (top - 1) ≤ mappedSize n s
     inside =
         omega (
@@ -123,7 +123,7 @@ module _ (n : Netlist) (s d at : ℕ) (first next : List ℕ) (end : ℕ) (count
     line-fits = omega (arith, inside, w .ready .fits)
 
     pub line-levels : (low : ℕ) → low ≡ n .at d .level → low + (top - 1) < 65536
-    line-levels low e = omega (arith, f .within, w .ready .source .levels d (w .driver))
+    line-levels low e = omega (arith, f .near, w .ready .source .levels d (w .driver))
 
     pub line-next : Fits w64 (at + (top - 1))
     line-next = omega (arith, inside, w .ready .fits)

@@ -78,7 +78,7 @@ module _ (n : Netlist) (first before : List ℕ) (end d : ℕ) (h : Chained n fi
           where
             at : (y : ℕ) → y < q → y < slotEnd n → namesSlot n d y ≡ true → Dec (y ≡ p) → getD (set after p v) y 0 ≡ f y
             at y a b c (yes x) =
-                rw x (getD-set-same after p v 0 (omega (arith, t .size, h .sinks, thread-inside, h .source .few)) ∙ g)
+                rw x (getD-set-same after p v 0 (omega (arith, t .size, h .nextLong, thread-inside, h .source .few)) ∙ g)
             at y a b c (no x) =
                 getD-set-other after p y v 0 x
                 ∙ elim (decLt y p) [
@@ -111,7 +111,7 @@ hung-next n s d first before after end h k =
             source = h .chained .source;
             firsts = h .chained .firsts;
             nexts = λ y a u b. k .others y (apart y u (λ e. omega arith)) ∙ h .chained .nexts y a u (omega arith);
-            sinks = k .size ∙ h .chained .sinks;
+            nextLong = k .size ∙ h .chained .nextLong;
             stop = h .chained .stop;
           };
       at = λ y a u b.

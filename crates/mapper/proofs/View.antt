@@ -21,8 +21,8 @@ use Rattle.netlist.specs.Records.{netlist, recordCount, recordAt}
 use Rattle.netlist.specs.Checks.{inputChecks}
 use Rattle.netlist.proofs.Records.{record-past}
 use Rattle.mapper.specs.declared.trees.Sizing.{Sizing}
-use Rattle.mapper.specs.declared.trees.Sizing.the-variants.{Total, Refuses}
-use Rattle.mapper.specs.declared.block.Ends.{Ends}
+use Rattle.mapper.specs.declared.trees.Sizing.the-variants.{Total, Stops}
+use Rattle.mapper.specs.declared.Ends.{Ends}
 use Rattle.mapper.specs.Mapped.{treeSize, blockStart, mappedSize}
 use Rattle.mapper.specs.Answer.{treeCheck, treesBelow, treeChecks, tooLarge, sourceMaps}
 use Rattle.mapper.specs.Chains.{sizingOf, Counted, Mappable}
@@ -51,7 +51,7 @@ module _ (bytes : List ℕ) (s d : ℕ) where
     trees-refuse number place e = rw (i, e) refl
 
     pub ends-tree : (number place total : ℕ) (z : Sizing) (r : Ends) → z ≡ sizingOf (treeChecks (netlist bytes) s) total →
-        z ≡ Refuses number place → r ≡ noEnds → r ≡ blockEnds bytes s d
+        z ≡ Stops number place → r ≡ noEnds → r ≡ blockEnds bytes s d
     ends-tree number place total z r e f g =
         g ∙ ends-are (Refused number place) (trees-refuse number place (refusing (netlist bytes) s number place total z e f))
 
@@ -95,7 +95,7 @@ module _ (bytes : List ℕ) (s N : ℕ) (first next : List ℕ) (end : ℕ) (h :
         )
 
     -- the trees before m were counted
-    pub start-never : (number place : ℕ) → z ≡ Refuses number place → 0 ≡ blockStart (netlist bytes) s m
+    pub start-never : (number place : ℕ) → z ≡ Stops number place → 0 ≡ blockStart (netlist bytes) s m
     start-never number place f = absurd (go (treesBelow (netlist bytes) s m) passed (sym e ∙ f))
       where
         passed : treesBelow (netlist bytes) s m ≡ Passed
@@ -103,7 +103,7 @@ module _ (bytes : List ℕ) (s N : ℕ) (first next : List ℕ) (end : ℕ) (h :
             scan-passed (treeCheck (netlist bytes) s) m .1
             (λ k b. scan-passed (treeCheck (netlist bytes) s) (recordCount bytes) .0 (h .trees) k (omega (arith, h .records)))
 
-        go : (a : Checked) → a ≡ Passed → sizingOf a (sum (treeSize (netlist bytes) s) m) ≡ Refuses number place → ⊥
+        go : (a : Checked) → a ≡ Passed → sizingOf a (sum (treeSize (netlist bytes) s) m) ≡ Stops number place → ⊥
         go Passed p g = let z : _≡_ {A = ℕ} 0 1 = cc in omega arith
         go (Refused n′ p′) p g = let z : _≡_ {A = ℕ} 0 1 = cc in omega arith
 

@@ -1,4 +1,4 @@
--- What the mapper's local arrays hold. Slots go by number: slot y is slot y % 3 of record y / 3.
+-- What the mapper's local arrays hold. Slots go by number: slot y is slot y % slots of record y / slots.
 use Prim.Native.Nat.{ℕ, zero, suc, _+_, _-_, _*_, _≤_, _<_, _/_, _%_}
 use mathlib.Core.Path.{_≡_}
 use mathlib.Core.Bool.{Bool, true, false, cond}
@@ -15,10 +15,10 @@ use Rattle.netlist.specs.Checks.{inputChecks}
 use Rattle.netlist.specs.Source.{IsSource}
 use Rattle.fanout.specs.Nets.{row, sinks, sinkAt, nodesAt, buffersAt, fewest}
 use Rattle.mapper.specs.declared.trees.TreeTotals.{TreeTotals}
-use Rattle.mapper.specs.declared.sinks.Fanout.{Fanout}
-use Rattle.mapper.specs.declared.sinks.Fanout.the-variants.{None, Few, Many}
+use Rattle.mapper.specs.declared.sinks.Chain.{Chain}
+use Rattle.mapper.specs.declared.sinks.Chain.the-variants.{Empty, Short, Long}
 use Rattle.mapper.specs.declared.trees.Sizing.{Sizing}
-use Rattle.mapper.specs.declared.trees.Sizing.the-variants.{Total, Refuses}
+use Rattle.mapper.specs.declared.trees.Sizing.the-variants.{Total, Stops}
 use Rattle.mapper.specs.Bytes.{withRecords}
 use Rattle.mapper.specs.Answer.{treeChecks, sourceMaps}
 use Rattle.mapper.specs.Mapped.{netRow, buffersOf, treeSize, blockStart, bufferTotal, mappedSize, parent, bufferOf, sinkParent, mapped, Ready}
@@ -57,8 +57,8 @@ pub record Linked (n : Netlist) (first next : List ℕ) (x : ℕ) : Type 0 where
   pub firsts : (d : ℕ) → d < n .size → getD first d 0 ≡ nextSink n d x
   pub nexts : (y : ℕ) → x ≤ y → y < slotEnd n → usedSlot n y ≡ true →
       getD next y 0 ≡ nextSink n (faninSlot n y) (suc y)
-  pub drivers : length first ≡ sourceLimit
-  pub sinks : length next ≡ slots * sourceLimit
+  pub firstLong : length first ≡ sourceLimit
+  pub nextLong : length next ≡ slots * sourceLimit
 
 -- the chains of a source's drivers from d on, with the slot where they end
 pub record Chained (n : Netlist) (first next : List ℕ) (d end : ℕ) : Type 0 where
@@ -66,7 +66,7 @@ pub record Chained (n : Netlist) (first next : List ℕ) (d end : ℕ) : Type 0 
   pub firsts : (x : ℕ) → x < n .size → getD first x 0 ≡ nextSink n x 0
   pub nexts : (y : ℕ) → y < slotEnd n → usedSlot n y ≡ true → d ≤ faninSlot n y →
       getD next y 0 ≡ nextSink n (faninSlot n y) (suc y)
-  pub sinks : length next ≡ slots * sourceLimit
+  pub nextLong : length next ≡ slots * sourceLimit
   pub stop : end ≡ slotEnd n
 
 -- the row of d's net, and a distance beyond which it has no sinks
@@ -99,21 +99,21 @@ pub record Stale (counts : List ℕ) (top : ℕ) : Type 0 where
   pub near : top ≤ topLevel
   pub beyond : (k : ℕ) → top < k → getD counts k 0 ≡ 0
 
--- one or two sinks of d: the farthest stands at distance top, and `near` of them at distance 1
-pub record FewSinks (n : Netlist) (d top near : ℕ) : Type 0 where
+-- one or two sinks of d: the farthest stands at distance top, and `atOne` of them at distance 1
+pub record ShortChain (n : Netlist) (d top atOne : ℕ) : Type 0 where
   pub above : 1 ≤ top
-  pub within : top ≤ topLevel
-  pub close : near ≡ sinks n d 1
+  pub near : top ≤ topLevel
+  pub ones : atOne ≡ sinks n d 1
   pub farthest : 0 < sinks n d top
   pub few : sinks n d top ≤ 2
   pub nearer : (k : ℕ) → k < top → sinks n d k ≤ 1
   pub beyond : (k : ℕ) → top < k → sinks n d k ≡ 0
 
--- what is found of d's sinks
-unfoldable pub Fans : Netlist → ℕ → Fanout → Type 0
-Fans n d None = (k : ℕ) → sinks n d k ≡ 0
-Fans n d (Few top near) = FewSinks n d top near
-Fans n d Many = Unit {0}
+-- what is known of d's sinks; of many, nothing is claimed
+unfoldable pub ChainIs : Netlist → ℕ → Chain → Type 0
+ChainIs n d Empty = (k : ℕ) → sinks n d k ≡ 0
+ChainIs n d (Short top atOne) = ShortChain n d top atOne
+ChainIs n d Long = Unit {0}
 
 -- d's net: the nodes left at distance 1, and its buffers
 pub record Measured (n : Netlist) (s d : ℕ) (t : TreeTotals) : Type 0 where
@@ -123,7 +123,7 @@ pub record Measured (n : Netlist) (s d : ℕ) (t : TreeTotals) : Type 0 where
 -- the buffers of all trees, or check 8's refusal
 abbrev pub sizingOf : Checked → ℕ → Sizing
 sizingOf Passed total = Total total
-sizingOf (Refused number place) total = Refuses number place
+sizingOf (Refused number place) total = Stops number place
 
 -- the row of d's net after the walk: the buffers at each distance
 pub record Rowed (n : Netlist) (s d : ℕ) (counts : List ℕ) : Type 0 where
@@ -143,21 +143,20 @@ pub record Based (n : Netlist) (s d : ℕ) (base : List ℕ) : Type 0 where
   pub size : length base ≡ suc topLevel
   pub at : (k : ℕ) → 1 ≤ k → 0 < nodesAt s (netRow n d) k → getD base k 0 ≡ parent n s d k 0
 
+-- what slot y hangs on
+abbrev pub onParent : Netlist → ℕ → ℕ → ℕ
+onParent n s y = sinkParent n s (y / slots) (y % slots)
+
 -- the chains of the drivers from d on, and in the same array what each sink of those before hangs on
 pub record Hung (n : Netlist) (s : ℕ) (first next : List ℕ) (d end : ℕ) : Type 0 where
   pub chained : Chained n first next d end
-  pub at : (y : ℕ) → y < slotEnd n → usedSlot n y ≡ true → faninSlot n y < d →
-      getD next y 0 ≡ sinkParent n s (y / slots) (y % slots)
+  pub at : (y : ℕ) → y < slotEnd n → usedSlot n y ≡ true → faninSlot n y < d → getD next y 0 ≡ onParent n s y
 
 -- the sinks of d hang where f says, and the slots of other drivers hold what they held
 pub record Hooked (n : Netlist) (d : ℕ) (f : ℕ → ℕ) (before after : List ℕ) : Type 0 where
   pub size : length after ≡ length before
   pub at : (y : ℕ) → y < slotEnd n → namesSlot n d y ≡ true → getD after y 0 ≡ f y
   pub others : (y : ℕ) → namesSlot n d y ≡ false → getD after y 0 ≡ getD before y 0
-
--- what slot y hangs on
-abbrev pub onParent : Netlist → ℕ → ℕ → ℕ
-onParent n s y = sinkParent n s (y / slots) (y % slots)
 
 -- what a node at distance k of d's line hangs on: d, or the buffer one level nearer; the line begins at record start
 unfoldable pub lineParent : ℕ → ℕ → ℕ → ℕ
@@ -236,7 +235,7 @@ pub record Counted (bytes : List ℕ) (s size : ℕ) (first next : List ℕ) (en
   pub records : size ≡ recordCount bytes
   pub buffers : total ≡ bufferTotal (netlist bytes) s
 
--- a source whose trees are counted and that is not too large
+-- a source whose trees are counted and that is not too large; capacity and trees follow from the first, for the search
 pub record Mappable (bytes : List ℕ) (s size : ℕ) (first next : List ℕ) (end : ℕ) : Type 0 where
   pub maps : sourceMaps bytes s ≡ Passed
   pub capacity : (2 ≤ s) × (s ≤ 4)

@@ -8,7 +8,7 @@ use Rattle.facts.specs.declared.Checked.{Checked}
 use Rattle.facts.specs.declared.Checked.the-variants.{Passed, Refused}
 use Rattle.netlist.specs.Kinds.{width, isDriver}
 use Rattle.netlist.specs.Records.{Netlist, netlist, recordCount}
-use Rattle.mapper.specs.declared.block.Ends.{Ends}
+use Rattle.mapper.specs.declared.Ends.{Ends}
 use Rattle.mapper.specs.Mapped.{blockStart}
 use Rattle.mapper.specs.Answer.{sourceMaps}
 

@@ -6,6 +6,7 @@ ghost use Rattle.netlist.specs.Checks.{inputChecks};
 ghost use Rattle.mapper.specs.Mapped.{blockStart};
 ghost use Rattle.mapper.specs.View.{noEnds, blockEnds};
 ghost use Rattle.mapper.specs.Chains.{Counted, Mappable};
+use crate::Ends;
 use crate::RECORDS;
 use crate::SINKS;
 use crate::trees;
@@ -14,12 +15,6 @@ use facts::Checked;
 use fanout::DISTANCES;
 use netlist::MAPPED_LIMIT;
 use netlist::SLOTS;
-
-// The first record of a block, and the first behind it.
-pub(crate) struct Ends {
-    pub(crate) from: usize,
-    pub(crate) to: usize,
-}
 
 // No block.
 fn no_ends() -> Ends
@@ -46,7 +41,7 @@ fn start_of(
     let sizing = trees::count_trees(source, s, m, end, first, next, &mut row);
     match sizing {
         Sizing::Total(total) => n + total,
-        Sizing::Refuses(_, _) => 0,
+        Sizing::Stops(_, _) => 0,
     }
 }
 
@@ -107,7 +102,7 @@ fn source_ends(source: &[u8], s: u32, d: usize) -> Ends
     let sizing = trees::size_trees(source, s, n, end, &mut first, &mut next, &mut row);
     match sizing {
         Sizing::Total(total) => counted_ends(source, s, n, end, &first, &next, total, d),
-        Sizing::Refuses(_, _) => no_ends(),
+        Sizing::Stops(_, _) => no_ends(),
     }
 }
 

@@ -17,6 +17,7 @@ use netlist::WIDTH;
 use trees::Sizing;
 
 mod block;
+mod numbers;
 mod records;
 mod sinks;
 mod trees;
@@ -43,6 +44,12 @@ pub struct Mapping {
     pub share: u32,
 }
 
+// The first record of a block, and the first behind it.
+struct Ends {
+    from: usize,
+    to: usize,
+}
+
 // A source's gates.
 fn count_gates(source: &[u8]) -> u32
     requires { ⌜ recordCount (now source) ≤ sourceLimit ⌝ }
@@ -51,7 +58,7 @@ fn count_gates(source: &[u8]) -> u32
     let mut found: u32 = 0;
     let mut i: usize = 0;
     while i < netlist::record_count(source) {
-        found += sinks::one_if(netlist::is_gate(netlist::kind_at(source, i)));
+        found += numbers::one_if(netlist::is_gate(netlist::kind_at(source, i)));
         i += 1;
     }
     found
@@ -154,7 +161,7 @@ fn map_source(source: &[u8], s: u32, area: &mut [u8]) -> Mapping
             &mut row,
             area,
         ),
-        Sizing::Refuses(number, place) => refuse(number, place),
+        Sizing::Stops(number, place) => refuse(number, place),
     }
 }
 

@@ -106,9 +106,9 @@ pub(crate) fn write_source(source: &[u8], parents: &[u16; SINKS], area: &mut [u8
     requires { ⌜ width * recordCount (now source) ≤ length (now area) ⌝ }
     ensures { λ _. ⌜ now (area .exit) ≡ put (now (area .entry)) 0 (encoded (relinkedAt (now (source .entry)) (now (parents .entry))) (recordCount (now (source .entry)))) ⌝ }
 {
-    let mut k: usize = 0;
-    while k < netlist::record_count(source) {
-        write_record(area, k, rewire(netlist::record_at(source, k), k, parents));
-        k += 1;
+    let mut i: usize = 0;
+    while i < netlist::record_count(source) {
+        write_record(area, i, rewire(netlist::record_at(source, i), i, parents));
+        i += 1;
     }
 }

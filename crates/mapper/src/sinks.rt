@@ -1,29 +1,22 @@
 // The chains of sinks: each driver's first sink, and after each sink its driver's next.
 ghost use mathlib.Core.Path.{_≡_};
-ghost use Prim.Native.Nat.{suc, _+_, _*_, _<_, max};
+ghost use Prim.Native.Nat.{suc, _+_, _*_, _<_};
 ghost use lib.ListN.{replicate};
-ghost use Rattle.facts.specs.Sums.{bit};
 ghost use Rattle.netlist.specs.Kinds.{slots, topLevel, arity};
 ghost use Rattle.netlist.specs.Records.{netlist, recordCount};
 ghost use Rattle.netlist.specs.Source.{IsSource};
-ghost use Rattle.mapper.specs.Chains.{Above, slotDistance, Linked, Chained, Filled, Fans};
+ghost use Rattle.mapper.specs.Chains.{Above, slotDistance, Linked, Chained, Filled, ChainIs};
 use crate::RECORDS;
 use crate::SINKS;
+use crate::numbers;
 use fanout::DISTANCES;
 use netlist::SLOTS;
 
 // The sinks of a driver: none; one or two, with the largest distance and how many stand at distance 1; or more.
-pub(crate) enum Fanout {
-    None,
-    Few(usize, u32),
-    Many,
-}
-
-// A stored index, as a number to index with.
-pub(crate) fn index(x: u16) -> usize
-    ensures { λ r. ⌜ r ≡ x ⌝ }
-{
-    x as usize
+pub(crate) enum Chain {
+    Empty,
+    Short(usize, u32),
+    Long,
 }
 
 // The used slots of record i, from the last one down: each comes before what its driver had first.
@@ -70,13 +63,6 @@ pub(crate) fn link_all(source: &[u8], n: usize, first: &mut [u16; RECORDS], next
     }
 }
 
-// The larger of two numbers.
-fn larger(a: usize, b: usize) -> usize
-    ensures { λ r. ⌜ r ≡ max a b ⌝ }
-{
-    if a < b { b } else { a }
-}
-
 // The row of d's net, filled along the chain of its sinks; the largest distance is handed back.
 pub(crate) fn fill_row(
     source: &[u8],
@@ -93,21 +79,14 @@ pub(crate) fn fill_row(
 {
     let low = netlist::level_at(source, d);
     let mut top: usize = 0;
-    let mut p = index(first[d]);
+    let mut p = numbers::index(first[d]);
     while p < end {
         let k = (netlist::level_at(source, p / SLOTS) - low) as usize;
-        p = index(next[p]);
+        p = numbers::index(next[p]);
         row[k] += 1;
-        top = larger(top, k);
+        top = numbers::larger(top, k);
     }
     top
-}
-
-// 1 for true, 0 for false.
-pub(crate) fn one_if(b: bool) -> u32
-    ensures { λ r. ⌜ r ≡ bit b ⌝ }
-{
-    if b { 1 } else { 0 }
 }
 
 // How far the record of slot p stands above record d.
@@ -119,29 +98,32 @@ pub(crate) fn distance(source: &[u8], d: usize, p: usize) -> usize
 }
 
 // The sinks of d, along its chain.
-pub(crate) fn fanout_of(
+pub(crate) fn chain_of(
     source: &[u8],
     end: usize,
     first: &[u16; RECORDS],
     next: &[u16; SINKS],
     d: usize,
-) -> Fanout
+) -> Chain
     requires { ⌜ Chained (netlist (now source)) (now first) (now next) d end ⌝ }
     requires { ⌜ d < netlist (now source) .size ⌝ }
-    ensures { λ r. ⌜ Fans (netlist (now (source .entry))) d r ⌝ }
+    ensures { λ r. ⌜ ChainIs (netlist (now (source .entry))) d r ⌝ }
 {
-    let p = index(first[d]);
+    let p = numbers::index(first[d]);
     if end <= p {
-        return Fanout::None;
+        return Chain::Empty;
     }
     let a = distance(source, d, p);
-    let q = index(next[p]);
+    let q = numbers::index(next[p]);
     if end <= q {
-        return Fanout::Few(a, one_if(a == 1));
+        return Chain::Short(a, numbers::one_if(a == 1));
     }
-    if end <= index(next[q]) {
+    if end <= numbers::index(next[q]) {
         let b = distance(source, d, q);
-        return Fanout::Few(larger(a, b), one_if(a == 1) + one_if(b == 1));
+        return Chain::Short(
+            numbers::larger(a, b),
+            numbers::one_if(a == 1) + numbers::one_if(b == 1),
+        );
     }
-    Fanout::Many
+    Chain::Long
 }

@@ -14,15 +14,16 @@ ghost use Rattle.mapper.specs.Chains.{Linked, Chained, Walkable, Walked,
 ghost use Rattle.facts.specs.declared.Checked.{Checked};
 use crate::RECORDS;
 use crate::SINKS;
+use crate::numbers;
 use crate::sinks;
-use crate::sinks::Fanout;
+use crate::sinks::Chain;
 use fanout::DISTANCES;
 use fanout::DRIVER_CAPACITY;
 
 // The buffers of all trees, or check 8's refusal: number and place.
 pub(crate) enum Sizing {
     Total(usize),
-    Refuses(u32, u32),
+    Stops(u32, u32),
 }
 
 // What is left at distance 1 of a net, and the buffers of its tree.
@@ -31,27 +32,13 @@ pub(crate) struct TreeTotals {
     pub(crate) buffers: u32,
 }
 
-// x / s, by constants: the compiler has a short way for each.
-pub(crate) fn divide(x: u32, s: u32) -> u32
-    requires { ⌜ (2 ≤ s) × (s ≤ 4) ⌝ }
-    ensures { λ r. ⌜ r ≡ x / s ⌝ }
-{
-    if s == 2 {
-        return x / 2;
-    }
-    if s == 3 {
-        return x / 3;
-    }
-    x / 4
-}
-
 // The buffers that carry n nodes.
 fn carriers(s: u32, n: u32) -> u32
     requires { ⌜ (2 ≤ s) × (s ≤ 4) ⌝ }
     requires { ⌜ n ≤ 65535 ⌝ }
     ensures { λ r. ⌜ r ≡ up s n ⌝ }
 {
-    divide(n + (s - 1), s)
+    numbers::divide(n + (s - 1), s)
 }
 
 // b where it is kept, else 0.
@@ -96,17 +83,17 @@ fn measure(
     ensures { λ r. ⌜ Measured (netlist (now (source .entry))) s d r ⌝ }
     ensures { λ _. ⌜ now (row .exit) ≡ replicate (suc topLevel) 0 ⌝ }
 {
-    let fanout = sinks::fanout_of(source, end, first, next, d);
-    match fanout {
-        Fanout::None => TreeTotals {
+    let chain = sinks::chain_of(source, end, first, next, d);
+    match chain {
+        Chain::Empty => TreeTotals {
             nodes: 0,
             buffers: 0,
         },
-        Fanout::Few(top, near) => TreeTotals {
-            nodes: sinks::one_if(1 < top) + near,
+        Chain::Short(top, at_one) => TreeTotals {
+            nodes: numbers::one_if(1 < top) + at_one,
             buffers: top as u32 - 1,
         },
-        Fanout::Many => {
+        Chain::Long => {
             let top = sinks::fill_row(source, end, first, next, d, row);
             walk_down(s, top, false, row)
         }
@@ -135,7 +122,7 @@ pub(crate) fn count_trees(
     while d < m {
         let tree = measure(source, s, end, first, next, d, row);
         if DRIVER_CAPACITY < tree.nodes {
-            return Sizing::Refuses(8, d as u32);
+            return Sizing::Stops(8, d as u32);
         }
         total += tree.buffers as usize;
         d += 1;

@@ -10,19 +10,13 @@ ghost use Rattle.mapper.specs.Mapped.{treeSize, blockStart, mappedSize, 
 ghost use Rattle.mapper.specs.Chains.{Chained, Stale, behind, levelRecord, lineParent, lineRecord, GrownNet, Based, Hung, Hooked, onParent, onLine, Hangable, Noded, Writable, Wrote};
 use crate::RECORDS;
 use crate::SINKS;
+use crate::numbers;
 use crate::records;
 use crate::sinks;
-use crate::sinks::Fanout;
+use crate::sinks::Chain;
 use crate::trees;
 use fanout::DISTANCES;
 use netlist::SLOTS;
-
-// A stored count, as a number to add to an index.
-fn amount(x: u32) -> usize
-    ensures { λ r. ⌜ r ≡ x ⌝ }
-{
-    x as usize
-}
 
 // The row, all zero again: only distances up to top were touched.
 fn clear_row(top: usize, row: &mut [u32; DISTANCES])
@@ -42,7 +36,7 @@ fn parent_of(base: u16, s: u32, k: usize, q: u32) -> u16
     requires { ⌜ base + behind s k q < 65536 ⌝ }
     ensures { λ r. ⌜ r ≡ base + behind s k q ⌝ }
 {
-    let back = trees::divide(q, s);
+    let back = numbers::divide(q, s);
     if k < 2 { base } else { base + back as u16 }
 }
 
@@ -92,7 +86,7 @@ fn write_buffers(
         base[k] = from;
         write_level(area, s, k, at, low + k as u16, from, n);
         from = at as u16;
-        at += amount(n);
+        at += numbers::amount(n);
         k += 1;
     }
     at
@@ -114,9 +108,9 @@ fn hang_sinks(
     ensures { λ _. ⌜ Noded (netlist (now (source .entry))) s d (now (row .exit)) ⌝ }
 {
     let low = netlist::level_at(source, d);
-    let mut p = sinks::index(first[d]);
+    let mut p = numbers::index(first[d]);
     while p < end {
-        let after = sinks::index(next[p]);
+        let after = numbers::index(next[p]);
         let k = (netlist::level_at(source, p / SLOTS) - low) as usize;
         let q = row[k];
         row[k] = q + 1;
@@ -146,7 +140,7 @@ fn grow(
     top
 }
 
-// The tree of d: its buffers go to the area from record at on, its sinks' parents to their slots. The next record is handed back.
+// The tree of d: its buffers go to the area from record start on, its sinks' parents to their slots. The next record is handed back.
 fn write_tree(
     source: &[u8],
     s: u32,
@@ -154,16 +148,16 @@ fn write_tree(
     first: &[u16; RECORDS],
     next: &mut [u16; SINKS],
     d: usize,
-    at: usize,
+    start: usize,
     row: &mut [u32; DISTANCES],
     base: &mut [u16; DISTANCES],
     area: &mut [u8],
 ) -> usize
-    requires { ⌜ Writable (netlist (now source)) s d at (now first) (now next) end (now row) (now base) (now area) ⌝ }
-    ensures { λ r. ⌜ Wrote (netlist (now (source .entry))) s d at (now (first .entry)) (now (next .exit)) end (now (row .exit)) (now (base .exit)) (now (area .entry)) (now (area .exit)) r ⌝ }
+    requires { ⌜ Writable (netlist (now source)) s d start (now first) (now next) end (now row) (now base) (now area) ⌝ }
+    ensures { λ r. ⌜ Wrote (netlist (now (source .entry))) s d start (now (first .entry)) (now (next .exit)) end (now (row .exit)) (now (base .exit)) (now (area .entry)) (now (area .exit)) r ⌝ }
 {
     let top = grow(source, s, end, first, next, d, row);
-    let after = write_buffers(source, s, d, at, top, row, base, area);
+    let after = write_buffers(source, s, d, start, top, row, base, area);
     hang_sinks(source, s, end, first, next, d, base, row);
     clear_row(top, row);
     after
@@ -180,7 +174,7 @@ fn line_parent(d: usize, start: usize, k: usize) -> u16
     (start + (k - 2)) as u16
 }
 
-// A line of n buffers above d, whose level is low, from record start on.
+// n buffers in a line, from record start on, above d, which stands at level low.
 fn write_line(area: &mut [u8], d: usize, start: usize, low: u16, n: usize)
     requires { ⌜ width * (start + n) ≤ length (now area) ⌝ }
     requires { ⌜ (d < 65536) × (start + n < 65536) × (low + n < 65536) ⌝ }
@@ -198,7 +192,7 @@ fn write_line(area: &mut [u8], d: usize, start: usize, low: u16, n: usize)
     }
 }
 
-// The sinks of d, each behind the buffer of d's line that stands one level nearer: its parent takes the place of its next sink.
+// The sinks of d, each hung on its line one level nearer, at distance 1 on d itself: its parent takes the place of its next sink.
 fn hang_line(
     source: &[u8],
     end: usize,
@@ -212,15 +206,15 @@ fn hang_line(
     requires { ⌜ start ≤ mappedLimit ⌝ }
     ensures { λ _. ⌜ Hooked (netlist (now (source .entry))) d (onLine (netlist (now (source .entry))) d start) (now (next .entry)) (now (next .exit)) ⌝ }
 {
-    let mut p = sinks::index(first[d]);
+    let mut p = numbers::index(first[d]);
     while p < end {
-        let after = sinks::index(next[p]);
+        let after = numbers::index(next[p]);
         next[p] = line_parent(d, start, sinks::distance(source, d, p));
         p = after;
     }
 }
 
-// The net of d: its buffers go to the area from record at on, its sinks' parents to their slots. The next record is handed back.
+// The net of d, by its sinks: nothing, a line or a tree, from record start on. The next record is handed back.
 fn write_net(
     source: &[u8],
     s: u32,
@@ -228,24 +222,24 @@ fn write_net(
     first: &[u16; RECORDS],
     next: &mut [u16; SINKS],
     d: usize,
-    at: usize,
+    start: usize,
     row: &mut [u32; DISTANCES],
     base: &mut [u16; DISTANCES],
     area: &mut [u8],
 ) -> usize
-    requires { ⌜ Writable (netlist (now source)) s d at (now first) (now next) end (now row) (now base) (now area) ⌝ }
-    ensures { λ r. ⌜ Wrote (netlist (now (source .entry))) s d at (now (first .entry)) (now (next .exit)) end (now (row .exit)) (now (base .exit)) (now (area .entry)) (now (area .exit)) r ⌝ }
+    requires { ⌜ Writable (netlist (now source)) s d start (now first) (now next) end (now row) (now base) (now area) ⌝ }
+    ensures { λ r. ⌜ Wrote (netlist (now (source .entry))) s d start (now (first .entry)) (now (next .exit)) end (now (row .exit)) (now (base .exit)) (now (area .entry)) (now (area .exit)) r ⌝ }
 {
-    let fanout = sinks::fanout_of(source, end, first, next, d);
-    match fanout {
-        Fanout::None => at,
-        Fanout::Few(top, _) => {
+    let chain = sinks::chain_of(source, end, first, next, d);
+    match chain {
+        Chain::Empty => start,
+        Chain::Short(top, _) => {
             let n = top - 1;
-            hang_line(source, end, first, next, d, at);
-            write_line(area, d, at, netlist::level_at(source, d), n);
-            at + n
+            hang_line(source, end, first, next, d, start);
+            write_line(area, d, start, netlist::level_at(source, d), n);
+            start + n
         }
-        Fanout::Many => write_tree(source, s, end, first, next, d, at, row, base, area),
+        Chain::Long => write_tree(source, s, end, first, next, d, start, row, base, area),
     }
 }
 

@@ -1,4 +1,4 @@
--- `write_source` meets its contract: the first k records are written.
+-- `write_source` meets its contract: the first i records are written.
 use Prim.Native.Nat.{_-_}
 use Rattle.netlist.specs.Records.{recordCount}
 use Rattle.mapper.specs.Chains.{relinkedAt}
@@ -8,10 +8,10 @@ use Rattle.mapper.proofs.records.write_source.Statement.{statement}
 use Rattle.mapper.proofs.records.write_source.Tie as tie
 
 abbrev Inv-loop : tie.InvT-loop
-Inv-loop source parents area₀ k₀ area k = Joining area₀ 0 (relinkedAt source parents) (recordCount source) area k
+Inv-loop source parents area₀ i₀ area i = Joining area₀ 0 (relinkedAt source parents) (recordCount source) area i
 
 abbrev μ-loop : tie.MeasureT-loop
-μ-loop source parents area₀ k₀ area k = recordCount source - k
+μ-loop source parents area₀ i₀ area i = recordCount source - i
 
 loop-holds : tie.Need-loop-holds Inv-loop μ-loop
 loop-holds c = search join-start
@@ -28,8 +28,8 @@ rewire-requires c κs = search needs
 write-record-requires : tie.Need-write-record-requires Inv-loop μ-loop
 write-record-requires c κs = search (needs, source-room)
 
-add-k : tie.Need-add-k Inv-loop μ-loop
-add-k c = search needs
+add-i : tie.Need-add-i Inv-loop μ-loop
+add-i c = search needs
 
 loop-less : tie.Need-loop-less Inv-loop μ-loop
 loop-less c = search needs
@@ -58,7 +58,7 @@ write-source-spec =
     record-at-requires
     rewire-requires
     write-record-requires
-    add-k
+    add-i
     loop-less
     loop-again
     same-length

@@ -1,5 +1,5 @@
 -- `distance` meets its contract: the difference of two levels.
-use Rattle.mapper.proofs.Fans.{distance-is}
+use Rattle.mapper.proofs.ShortChains.{distance-is}
 use borrow.Author.Needs.{needs}
 use Rattle.mapper.proofs.sinks.distance.Statement.{statement}
 use Rattle.mapper.proofs.sinks.distance.Tie as tie

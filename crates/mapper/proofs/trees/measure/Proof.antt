@@ -1,5 +1,5 @@
 -- `measure` meets its contract: no sink, a line, or a row that is filled and walked.
-use Rattle.mapper.proofs.Fans.{no-sink, few-sinks, few-above, few-cast, few-fit}
+use Rattle.mapper.proofs.ShortChains.{no-sink, few-sinks, few-above, few-cast, few-fit}
 use Rattle.mapper.proofs.Lines.{measured-few}
 use Rattle.mapper.proofs.Measuring.{measured-none, walkable, measured}
 use Rattle.mapper.proofs.Walking.{drained}
@@ -7,26 +7,26 @@ use borrow.Author.Needs.{needs}
 use Rattle.mapper.proofs.trees.measure.Statement.{statement}
 use Rattle.mapper.proofs.trees.measure.Tie as tie
 
-fanout-of-requires : tie.Need-fanout-of-requires
-fanout-of-requires c κs = search needs
+chain-of-requires : tie.Need-chain-of-requires
+chain-of-requires c κs = search needs
 
 enum-told : tie.Need-enum-told
 enum-told c = search needs
 
-enum-known-fanout : tie.Need-enum-known-fanout
-enum-known-fanout c = search needs
+enum-known-chain : tie.Need-enum-known-chain
+enum-known-chain c = search needs
 
 one-if-requires : tie.Need-one-if-requires
 one-if-requires c κs = search needs
 
 add-t15 : tie.Need-add-t15
-add-t15 c = search (few-fit _ _ _ _ (few-sinks _ _ _ _ _ (c .before .before .before .before .fanout-of .ensures) (c .before .before .fanout .given .1)))
+add-t15 c = search (few-fit _ _ _ _ (few-sinks _ _ _ _ _ (c .before .before .before .before .chain-of .ensures) (c .before .before .chain .given .1)))
 
 cast-t16 : tie.Need-cast-t16
-cast-t16 c = search (few-cast, few-sinks _ _ _ _ _ (c .before .before .before .before .fanout-of .ensures) (c .before .before .fanout .given .1))
+cast-t16 c = search (few-cast, few-sinks _ _ _ _ _ (c .before .before .before .before .chain-of .ensures) (c .before .before .chain .given .1))
 
 sub-t17 : tie.Need-sub-t17
-sub-t17 c = few-above _ _ _ _ (few-sinks _ _ _ _ _ (c .before .before .before .before .fanout-of .ensures) (c .before .before .fanout .given .1))
+sub-t17 c = few-above _ _ _ _ (few-sinks _ _ _ _ _ (c .before .before .before .before .chain-of .ensures) (c .before .before .chain .given .1))
 
 enum-told-2 : tie.Need-enum-told-2
 enum-told-2 c = search needs
@@ -50,9 +50,9 @@ pub measure-spec : {M : Type 1} → statement M
 measure-spec =
     tie.close
     (tie.spec
-    fanout-of-requires
+    chain-of-requires
     enum-told
-    enum-known-fanout
+    enum-known-chain
     one-if-requires
     add-t15
     cast-t16

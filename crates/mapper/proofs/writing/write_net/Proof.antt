@@ -1,24 +1,24 @@
 -- `write_net` meets its contract: no sink, a line, or a tree.
-use Rattle.mapper.proofs.Fans.{no-sink, few-sinks, few-above}
+use Rattle.mapper.proofs.ShortChains.{no-sink, few-sinks, few-above}
 use Rattle.mapper.proofs.Netting.{net-none, line-start, line-room, line-fits, line-levels, line-next, net-line}
 use Rattle.mapper.proofs.Threading.{driver-fits}
 use borrow.Author.Needs.{needs}
 use Rattle.mapper.proofs.writing.write_net.Statement.{statement}
 use Rattle.mapper.proofs.writing.write_net.Tie as tie
 
-fanout-of-requires : tie.Need-fanout-of-requires
-fanout-of-requires c κs = search needs
+chain-of-requires : tie.Need-chain-of-requires
+chain-of-requires c κs = search needs
 
 enum-told : tie.Need-enum-told
 enum-told c = search needs
 
-enum-known-fanout : tie.Need-enum-known-fanout
-enum-known-fanout c = search needs
+enum-known-chain : tie.Need-enum-known-chain
+enum-known-chain c = search needs
 
 sub-n : tie.Need-sub-n
 sub-n c =
     let b = c .before in
-    let few = few-sinks _ _ _ _ _ (b .before .before .fanout-of .ensures) (b .fanout .given .1) in
+    let few = few-sinks _ _ _ _ _ (b .before .before .chain-of .ensures) (b .chain .given .1) in
     few-above _ _ _ _ few
 
 hang-line-requires : tie.Need-hang-line-requires
@@ -30,13 +30,13 @@ level-at-requires c κs = search needs
 write-line-requires : tie.Need-write-line-requires
 write-line-requires c κs =
     let b = c .before .before .before .before .before in
-    let few = few-sinks _ _ _ _ _ (b .before .before .fanout-of .ensures) (b .fanout .given .1) in
+    let few = few-sinks _ _ _ _ _ (b .before .before .chain-of .ensures) (b .chain .given .1) in
     (search (line-room, few), (search (needs, driver-fits), search (line-fits, few), search (line-levels, few)))
 
 add-result : tie.Need-add-result
 add-result c =
     let b = c .before .before .before .before .before .before .before .before in
-    let few = few-sinks _ _ _ _ _ (b .before .before .fanout-of .ensures) (b .fanout .given .1) in
+    let few = few-sinks _ _ _ _ _ (b .before .before .chain-of .ensures) (b .chain .given .1) in
     search (line-next, few)
 
 enum-told-2 : tie.Need-enum-told-2
@@ -54,7 +54,7 @@ same-length c = search needs
 returns-2 : tie.Need-returns-2
 returns-2 c =
     let b = c .before .before .before .before .before .before .before .before in
-    let few = few-sinks _ _ _ _ _ (b .before .before .fanout-of .ensures) (b .fanout .given .1) in
+    let few = few-sinks _ _ _ _ _ (b .before .before .chain-of .ensures) (b .chain .given .1) in
     search (net-line, few)
 
 same-length-2 : tie.Need-same-length-2
@@ -67,9 +67,9 @@ pub write-net-spec : {M : Type 1} → statement M
 write-net-spec =
     tie.close
     (tie.spec
-    fanout-of-requires
+    chain-of-requires
     enum-told
-    enum-known-fanout
+    enum-known-chain
     sub-n
     hang-line-requires
     level-at-requires

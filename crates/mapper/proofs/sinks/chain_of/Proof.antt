@@ -1,8 +1,8 @@
--- `fanout_of` meets its contract: no sink, one, two, or more.
-use Rattle.mapper.proofs.Fans.{fans-none, first-above, fans-one, second-above, fans-two, fans-many, fans-fit}
+-- `chain_of` meets its contract: no sink, one, two, or more.
+use Rattle.mapper.proofs.ShortChains.{fans-none, first-above, fans-one, second-above, fans-two, fans-many, fans-fit}
 use borrow.Author.Needs.{needs}
-use Rattle.mapper.proofs.sinks.fanout_of.Statement.{statement}
-use Rattle.mapper.proofs.sinks.fanout_of.Tie as tie
+use Rattle.mapper.proofs.sinks.chain_of.Statement.{statement}
+use Rattle.mapper.proofs.sinks.chain_of.Tie as tie
 
 mul-index : tie.Need-mul-index
 mul-index c = search needs
@@ -64,8 +64,8 @@ returns-3 c = search fans-two
 returns-4 : tie.Need-returns-4
 returns-4 c = search fans-many
 
-pub fanout-of-spec : {M : Type 1} → statement M
-fanout-of-spec =
+pub chain-of-spec : {M : Type 1} → statement M
+chain-of-spec =
     tie.close
     (tie.spec
     mul-index

@@ -15,9 +15,9 @@ use Rattle.facts.proofs.Sums.{bit-le}
 use Rattle.netlist.specs.Kinds.{slots, topLevel}
 use Rattle.netlist.specs.Records.{Netlist}
 use Rattle.fanout.specs.Nets.{sinks}
-use Rattle.mapper.specs.declared.sinks.Fanout.{Fanout}
-use Rattle.mapper.specs.declared.sinks.Fanout.the-variants.{None, Few, Many}
-use Rattle.mapper.specs.Chains.{slotEnd, namesSlot, nextSink, Above, slotDistance, sinksBelow, Chained, FewSinks, Fans}
+use Rattle.mapper.specs.declared.sinks.Chain.{Chain}
+use Rattle.mapper.specs.declared.sinks.Chain.the-variants.{Empty, Short, Long}
+use Rattle.mapper.specs.Chains.{slotEnd, namesSlot, nextSink, Above, slotDistance, sinksBelow, Chained, ShortChain, ChainIs}
 use Rattle.mapper.proofs.Filling.{sinks-all, sinks-skip, sinks-none, sinks-here, sinks-other, OnChain, on-chain, chain-first, chain-next, chain-level}
 
 bit-same : (a k : ℕ) → a ≡ k → bit (eqb a k) ≡ 1
@@ -27,12 +27,12 @@ bit-other : (a k : ℕ) → (a ≡ k → ⊥) → bit (eqb a k) ≡ 0
 bit-other a k e = ap bit (ne-eqb a k e)
 
 -- one sink, at distance a
-one-sink : (n : Netlist) (d a : ℕ) → 1 ≤ a → a ≤ topLevel → ((k : ℕ) → sinks n d k ≡ bit (eqb a k)) → FewSinks n d a (bit (eqb a 1))
+one-sink : (n : Netlist) (d a : ℕ) → 1 ≤ a → a ≤ topLevel → ((k : ℕ) → sinks n d k ≡ bit (eqb a k)) → ShortChain n d a (bit (eqb a 1))
 one-sink n d a l m h =
     record {
       above = l;
-      within = m;
-      close = sym (h 1);
+      near = m;
+      ones = sym (h 1);
       farthest = omega (arith, h a, bit-same a a refl);
       few = omega (arith, h a, bit-le (eqb a a));
       nearer = λ k b. omega (arith, h k, bit-le (eqb a k));
@@ -41,12 +41,12 @@ one-sink n d a l m h =
 
 -- two sinks, at distances a and b
 two-sinks : (n : Netlist) (d a b top : ℕ) → 1 ≤ a → a ≤ topLevel → b ≤ topLevel → top ≡ max a b →
-    ((k : ℕ) → sinks n d k ≡ bit (eqb a k) + bit (eqb b k)) → FewSinks n d top (bit (eqb a 1) + bit (eqb b 1))
+    ((k : ℕ) → sinks n d k ≡ bit (eqb a k) + bit (eqb b k)) → ShortChain n d top (bit (eqb a 1) + bit (eqb b 1))
 two-sinks n d a b top l m m′ e h =
     record {
       above = omega arith;
-      within = omega arith;
-      close = sym (h 1);
+      near = omega arith;
+      ones = sym (h 1);
       farthest = far (decLt a b);
       few = omega (arith, h top, bit-le (eqb a top), bit-le (eqb b top));
       nearer = λ k c. nearer k c (ℕ-discrete a k);
@@ -106,8 +106,8 @@ module _ (n : Netlist) (first next : List ℕ) (end d p : ℕ) (h : Chained n fi
   before : (k : ℕ) → sinksBelow n d k p ≡ 0
   before k = ap (sinksBelow n d k) (chain-first n first next end d h p ld e) ∙ sinks-skip n d k 0 ∙ sinks-none n d k
 
-  pub fans-none : end ≤ p → Fans n d None
-  unfolding Fans
+  pub fans-none : end ≤ p → ChainIs n d Empty
+  unfolding ChainIs
   fans-none l k = all-sinks n d end p k (h .stop) (on .within) l ∙ before k
 
   module _ (l : p < end) where
@@ -128,15 +128,15 @@ module _ (n : Netlist) (first next : List ℕ) (end d p : ℕ) (h : Chained n fi
         one-before : (k : ℕ) → sinksBelow n d k q ≡ bit (eqb a k)
         one-before k = omega (arith, fan-count n first next end d h p on l a k q f g, before k)
 
-        pub fans-one : (near : ℕ) → near ≡ bit (eqb a 1) → end ≤ q → Fans n d (Few a near)
-        unfolding Fans
+        pub fans-one : (near : ℕ) → near ≡ bit (eqb a 1) → end ≤ q → ChainIs n d (Short a near)
+        unfolding ChainIs
         fans-one near i m =
-            subst (FewSinks n d a) (sym i)
+            subst (ShortChain n d a) (sym i)
             (one-sink n d a (first-near .0) (first-near .1) (λ k. all-sinks n d end q k (h .stop) (q-on .within) m ∙ one-before k))
 
         pub fans-two : (b o top x y : ℕ) → q < end → b ≡ slotDistance n d q → o ≡ getD next q 0 → end ≤ o →
-            top ≡ max a b → x ≡ bit (eqb a 1) → y ≡ bit (eqb b 1) → Fans n d (Few top (x + y))
-        unfolding Fans
+            top ≡ max a b → x ≡ bit (eqb a 1) → y ≡ bit (eqb b 1) → ChainIs n d (Short top (x + y))
+        unfolding ChainIs
         fans-two b o top x y m i j r t u v =
             rw (u, v)
             (two-sinks n d a b top (first-near .0) (first-near .1) (omega (arith, fan-near n first next end d h q q-on m)) t
@@ -145,8 +145,8 @@ module _ (n : Netlist) (first next : List ℕ) (end d p : ℕ) (h : Chained n fi
             ∙ fan-count n first next end d h q q-on m b k o i j
             ∙ ap (λ (z : ℕ). z + bit (eqb b k)) (one-before k)))
 
-pub fans-many : (n : Netlist) (d : ℕ) → Fans n d Many
-unfolding Fans
+pub fans-many : (n : Netlist) (d : ℕ) → ChainIs n d Long
+unfolding ChainIs
 fans-many n d = tt
 
 -- how many of two sinks stand at distance 1
@@ -154,24 +154,24 @@ pub fans-fit : (a b x y : ℕ) → x ≡ bit (eqb a 1) → y ≡ bit (eqb b 1) �
 fans-fit a b x y e f = omega (arith, bit-le (eqb a 1), bit-le (eqb b 1))
 
 -- what is known of d's sinks, by case
-pub no-sink : (n : Netlist) (d : ℕ) (f : Fanout) → Fans n d f → f ≡ None → (k : ℕ) → sinks n d k ≡ 0
-unfolding Fans
-no-sink n d f h e = subst (Fans n d) e h
+pub no-sink : (n : Netlist) (d : ℕ) (f : Chain) → ChainIs n d f → f ≡ Empty → (k : ℕ) → sinks n d k ≡ 0
+unfolding ChainIs
+no-sink n d f h e = subst (ChainIs n d) e h
 
-pub few-sinks : (n : Netlist) (d : ℕ) (f : Fanout) (top near : ℕ) → Fans n d f → f ≡ Few top near → FewSinks n d top near
-unfolding Fans
-few-sinks n d f top near h e = subst (Fans n d) e h
+pub few-sinks : (n : Netlist) (d : ℕ) (f : Chain) (top near : ℕ) → ChainIs n d f → f ≡ Short top near → ShortChain n d top near
+unfolding ChainIs
+few-sinks n d f top near h e = subst (ChainIs n d) e h
 
 -- the numbers of one or two sinks are small
-module _ (n : Netlist) (d top near : ℕ) (h : FewSinks n d top near) where
+module _ (n : Netlist) (d top near : ℕ) (h : ShortChain n d top near) where
   pub few-above : 1 ≤ top
   few-above = h .above
 
   pub few-cast : Fits w32 top
-  few-cast = omega (arith, h .within)
+  few-cast = omega (arith, h .near)
 
   pub few-fit : (x : ℕ) → x ≡ bit (ltb 1 top) → Fits w32 (x + near)
-  few-fit x e = omega (arith, h .close, most (decLt 1 top), bit-le (ltb 1 top))
+  few-fit x e = omega (arith, h .ones, most (decLt 1 top), bit-le (ltb 1 top))
     where
       most : Dec (1 < top) → sinks n d 1 ≤ 2
       most (yes l) = omega (arith, h .nearer 1 l)
