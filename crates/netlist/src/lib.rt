@@ -398,7 +398,7 @@ fn check_used(bytes: &[u8], deep: u16, k: u32, used: usize) -> Checked
     }
 }
 
-// Checks 4 to 7 of record k, by a path for each kind.
+// Checks 4 to 7 of record k; an arm for each kind, so that the compiler knows its slots.
 fn check_record(bytes: &[u8], deep: u16, k: u32) -> Checked
     requires { ⌜ k < recordCount (now bytes) ⌝ }
     requires { ⌜ misplaced deep (recordAt (now bytes) k) ≡ misplaced (Records.depth (netlist (now bytes))) (recordAt (now bytes) k) ⌝ }
