@@ -172,10 +172,6 @@ placed n m whole h =
       balanced = λ k j l u. f k l .1 .1 j u;
     }
 
-pub places-placed :
-    (n m : Netlist) (records size : ℕ) → Sized n m records size → scan (placeChecks n m) 0 (m .size) ≡ Passed → PlacesPassed n m
-places-placed n m records size sized h = placed n m (omega (arith, sized .records, sized .size, sized .whole)) h
-
 -- what 12 leaves: no record below the source's size is a buffer
 module _ (n m : Netlist) (records size : ℕ) (sized : Sized n m records size) where
   pub driven : scan (placeChecks n m) 0 (n .size) ≡ Passed → Driven records m
@@ -228,18 +224,14 @@ module _ (n : Netlist) (s : ℕ) (m : Netlist) where
   unfolding legalChecks
   legal-places number place h = rw h
 
-  pub legal-placed :
-      (a : Checked) → scan (placeChecks n m) 0 (m .size) ≡ Passed →
-      a ≡ (scan (traceCheck n m) 0 (n .size) andThen scan (feedCheck s m) 0 (m .size)) → a ≡ legalChecks n s m
-  unfolding legalChecks
-  legal-placed a good e = e ∙ rw good
+  module _ (places : scan (placeChecks n m) 0 (m .size) ≡ Passed) where
+    pub legal-traces : (number place : ℕ) → scan (traceCheck n m) 0 (n .size) ≡ Refused number place → Refused number place ≡ legalChecks n s m
+    unfolding legalChecks
+    legal-traces number place h = rw (places, h)
 
-  module _ (traces : Checked) (q : traces ≡ scan (traceCheck n m) 0 (n .size)) where
-    pub placed-traces : (number place : ℕ) → traces ≡ Refused number place → Refused number place ≡ (scan (traceCheck n m) 0 (n .size) andThen scan (feedCheck s m) 0 (m .size))
-    placed-traces number place f = rw (← q, f)
-
-    pub placed-feeds : (a : Checked) → traces ≡ Passed → a ≡ scan (feedCheck s m) 0 (m .size) → a ≡ (scan (traceCheck n m) 0 (n .size) andThen scan (feedCheck s m) 0 (m .size))
-    placed-feeds a f h = h ∙ rw (← q, f)
+    pub legal-feeds : (a : Checked) → scan (traceCheck n m) 0 (n .size) ≡ Passed → a ≡ scan (feedCheck s m) 0 (m .size) → a ≡ legalChecks n s m
+    unfolding legalChecks
+    legal-feeds a h e = e ∙ rw (places, h)
 
 module _ (n : Netlist) (s : ℕ) (bytes : List ℕ) (records : ℕ) (e : records ≡ n .size) (b : Bool) (f : b ≡ badLength records bytes) where
   pub mapped-length : b ≡ true → Refused 11 0 ≡ mappedChecks n s bytes

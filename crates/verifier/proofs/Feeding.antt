@@ -26,10 +26,10 @@ use Rattle.netlist.specs.Records.{Netlist, netlist, recordAt, recordCount, name
 use Rattle.netlist.proofs.Checks.{arity-slots}
 use Rattle.fanout.specs.Answer.{driverCapacity}
 use Rattle.verifier.specs.Legal.{capacityOf}
-use Rattle.verifier.specs.Checks.{differs, noBuffer, slotChecks, placeChecks, feedCheck}
-use Rattle.verifier.specs.Walking.{Sized, PlacesPassed}
+use Rattle.verifier.specs.Checks.{differs, noBuffer, slotChecks, placeChecks, traceCheck, feedCheck, legalChecks}
+use Rattle.verifier.specs.Walking.{Sized, Driven, PlacesPassed}
 use Rattle.verifier.specs.Feeding.{stop, more, fedOnce, fedBy, tally, badFanin, bufferChecks, Fed, FedAtMost, Tallied, TalliedIfPassed, capacityAt, countCheck}
-use Rattle.verifier.proofs.Checks.{slots-good, slots-passed, kept-bad, kept-slots, placed-driven, scan-cong, scan-onward, scan-early}
+use Rattle.verifier.proofs.Checks.{slots-good, slots-passed, kept-bad, kept-slots, placed, placed-driven, scan-cong, scan-onward, scan-early, legal-places, legal-traces, legal-feeds}
 
 module _ (counts : List ℕ) (x : ℕ) where
   pub feed-full : stop ≤ getD counts x 0 → counts ≡ fedOnce counts x
@@ -291,17 +291,6 @@ module _ (a right : Checked) (m : Netlist) (k : ℕ) (counts : List ℕ) (c : Ta
   pub counted-tallied : a ≡ Passed → Tallied m k counts
   counted-tallied p = c .tallied p
 
-  pub counted-refusal : (number place : ℕ) → a ≡ Refused number place → right ≡ Refused number place
-  counted-refusal number place p = sym (c .answer) ∙ p
-
-pub counted-early :
-    (n m : Netlist) (a : Checked) (k next number place records size : ℕ) (counts after : List ℕ) →
-    TalliedIfPassed a (scan (placeChecks n m) 0 (n .size)) m k counts → a ≡ Refused number place → Sized n m records size →
-    TalliedIfPassed (Refused number place) (scan (placeChecks n m) 0 (m .size)) m next after
-counted-early n m a k next number place records size counts after c p sized =
-    counted-refused m _ number place next after
-    (scan-early (placeChecks n m) (n .size) (m .size) (omega (arith, sized .records, sized .size, sized .whole)) number place (sym (c .answer) ∙ p))
-
 pub capacity-driver : (s n k : ℕ) → k < n → driverCapacity ≡ capacityAt s n k
 capacity-driver s n k l = rw (lt-ltb k n l)
 
@@ -340,11 +329,41 @@ module _ (n m : Netlist) (s records size : ℕ) (sized : Sized n m records size)
           rw (le-ltb (capacityAt s records k) (getD counts k 0) (omega (arith, fed)), ← capacity, le-ltb (capacityAt s records k) (feeds m k) g))
     ]
 
-  pub counts-room : size ≤ length counts
-  counts-room = omega (arith, t .room, sized .size)
-
-  pub counts-feeds : (a : Checked) → a ≡ scan (countCheck s records counts) 0 size → a ≡ scan (feedCheck s m) 0 (m .size)
+  counts-feeds : (a : Checked) → a ≡ scan (countCheck s records counts) 0 size → a ≡ scan (feedCheck s m) 0 (m .size)
   counts-feeds a e = e ∙ ap (scan (countCheck s records counts) 0) (sized .size) ∙ scan-cong (countCheck s records counts) (feedCheck s m) (m .size) count-feed
+
+-- 12 to 17, part by part
+module _ (n m : Netlist) (records size : ℕ) (sized : Sized n m records size) (a : Checked) (counts : List ℕ) where
+  pub kept-refused :
+      (s k number place : ℕ) → TalliedIfPassed a (scan (placeChecks n m) 0 (n .size)) m k counts → a ≡ Refused number place →
+      Refused number place ≡ legalChecks n s m
+  kept-refused s k number place c p =
+      legal-places n s m number place
+      (scan-early (placeChecks n m) (n .size) (m .size) (omega (arith, sized .records, sized .size, sized .whole)) number place (sym (c .answer) ∙ p))
+
+  module _ (c : TalliedIfPassed a (scan (placeChecks n m) 0 (m .size)) m (m .size) counts) where
+    pub added-refused : (s number place : ℕ) → a ≡ Refused number place → Refused number place ≡ legalChecks n s m
+    added-refused s number place p = legal-places n s m number place (sym (c .answer) ∙ p)
+
+    module _ (p : a ≡ Passed) where
+      pub places-placed : PlacesPassed n m
+      places-placed = placed n m (omega (arith, sized .records, sized .size, sized .whole)) (sym (c .answer) ∙ p)
+
+      pub places-driven : Driven records m
+      places-driven = placed-driven n m records size sized places-placed
+
+      pub counts-room : size ≤ length counts
+      counts-room = omega (arith, c .tallied p .room, sized .size)
+
+      module _ (traced : Checked) (q : traced ≡ scan (traceCheck n m) 0 (n .size)) where
+        pub traced-refused : (s number place : ℕ) → traced ≡ Refused number place → Refused number place ≡ legalChecks n s m
+        traced-refused s number place f = legal-traces n s m (sym (c .answer) ∙ p) number place (sym q ∙ f)
+
+        pub feeds-decide :
+            (s : ℕ) (b : Checked) → traced ≡ Passed → s < stop → b ≡ scan (countCheck s records counts) 0 size → b ≡ legalChecks n s m
+        feeds-decide s b f below e =
+            legal-feeds n s m (sym (c .answer) ∙ p) b (sym q ∙ f)
+            (counts-feeds n m s records size sized places-placed below counts (c .tallied p) b e)
 
 -- one record more by the counts
 module _ (s n : ℕ) (counts : List ℕ) (size k : ℕ) (i : Scanning (countCheck s n counts) size k) (l : k < size)

@@ -3,7 +3,7 @@ ghost use mathlib.Core.Path.{_≡_};
 ghost use mathlib.Core.Bool.{true, false};
 ghost use Prim.Native.Nat.{_+_, _<_, _≤_};
 ghost use lib.ListN.{length};
-ghost use Rattle.facts.specs.Checks.{_andThen_, scan};
+ghost use Rattle.facts.specs.Checks.{scan};
 ghost use Rattle.facts.specs.Sums.{any};
 ghost use Rattle.netlist.specs.Kinds;
 ghost use Rattle.netlist.specs.Kinds.{slots};
@@ -34,7 +34,6 @@ ghost use Rattle.verifier.specs.Checks.{
   placeChecks,
   strays,
   traceCheck,
-  feedCheck,
   badLength,
   legalChecks,
   mappedChecks,
@@ -450,52 +449,6 @@ fn check_counts(counts: &[u8], capacity: u32, n: u32, m: u32) -> Checked
     first_overfed(counts, capacity, n, m)
 }
 
-// Checks 12 to 15 of every record, rising.
-fn check_places(
-    source: &[u8],
-    mapped: &[u8],
-    n: u32,
-    m: u32,
-    counts: &mut [u8],
-    drivers: &mut [u16],
-) -> Checked
-    requires { ⌜ Sized (netlist (now source)) (netlist (now mapped)) n m ⌝ }
-    requires { ⌜ Tallied (netlist (now mapped)) 0 (now counts) ⌝ }
-    requires { ⌜ Known (netlist (now mapped)) (now drivers) ⌝ }
-    ensures { λ a. ⌜ TalliedIfPassed a (scan (placeChecks (netlist (now (source .entry))) (netlist (now (mapped .entry)))) 0 (recordCount (now (mapped .entry)))) (netlist (now (mapped .entry))) (recordCount (now (mapped .entry))) (now (counts .exit)) ⌝ }
-    ensures { λ _. ⌜ Known (netlist (now (mapped .entry))) (now (drivers .exit)) ⌝ }
-{
-    let kept = check_records(source, mapped, n, counts);
-    match kept {
-        Checked::Passed => check_buffers(source, mapped, n, m, counts, drivers),
-        Checked::Refused(number, place) => Checked::Refused(number, place),
-    }
-}
-
-// Checks 16 and 17, of a mapped netlist that passed 12 to 15.
-fn check_placed(
-    source: &[u8],
-    capacity: u32,
-    mapped: &[u8],
-    n: u32,
-    m: u32,
-    counts: &[u8],
-    drivers: &mut [u16],
-) -> Checked
-    requires { ⌜ Sized (netlist (now source)) (netlist (now mapped)) n m ⌝ }
-    requires { ⌜ PlacesPassed (netlist (now source)) (netlist (now mapped)) ⌝ }
-    requires { ⌜ capacity < stop ⌝ }
-    requires { ⌜ Tallied (netlist (now mapped)) (recordCount (now mapped)) (now counts) ⌝ }
-    requires { ⌜ Known (netlist (now mapped)) (now drivers) ⌝ }
-    ensures { λ a. ⌜ a ≡ (scan (traceCheck (netlist (now (source .entry))) (netlist (now (mapped .entry)))) 0 (recordCount (now (source .entry))) andThen scan (feedCheck capacity (netlist (now (mapped .entry)))) 0 (recordCount (now (mapped .entry)))) ⌝ }
-{
-    let traces = check_traces(source, mapped, n, drivers);
-    match traces {
-        Checked::Passed => check_counts(counts, capacity, n, m),
-        Checked::Refused(number, place) => Checked::Refused(number, place),
-    }
-}
-
 // Checks 12 to 17, with counts that are all 0 and drivers of which none is known.
 fn check_with(
     source: &[u8],
@@ -512,9 +465,23 @@ fn check_with(
     requires { ⌜ Known (netlist (now mapped)) (now drivers) ⌝ }
     ensures { λ a. ⌜ a ≡ legalChecks (netlist (now (source .entry))) capacity (netlist (now (mapped .entry))) ⌝ }
 {
-    let places = check_places(source, mapped, n, m, counts, drivers);
-    match places {
-        Checked::Passed => check_placed(source, capacity, mapped, n, m, counts, drivers),
+    let kept = check_records(source, mapped, n, counts);
+    match kept {
+        Checked::Passed => {}
+        Checked::Refused(number, place) => {
+            return Checked::Refused(number, place);
+        }
+    }
+    let added = check_buffers(source, mapped, n, m, counts, drivers);
+    match added {
+        Checked::Passed => {}
+        Checked::Refused(number, place) => {
+            return Checked::Refused(number, place);
+        }
+    }
+    let traced = check_traces(source, mapped, n, drivers);
+    match traced {
+        Checked::Passed => check_counts(counts, capacity, n, m),
         Checked::Refused(number, place) => Checked::Refused(number, place),
     }
 }
