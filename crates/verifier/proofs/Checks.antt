@@ -17,12 +17,13 @@ use Rattle.facts.specs.Sums.{any}
 use Rattle.facts.proofs.Bools.{true-false}
 use Rattle.facts.proofs.Reflect.{reflect, unlike-none}
 use Rattle.facts.proofs.Sums.{any-none}
-use Rattle.facts.proofs.Loops.{Scanning}
+use Rattle.facts.proofs.Loops.{NoneYet, any-more, any-found, any-end, Scanning}
 use Rattle.netlist.specs.declared.Record.{Record}
 use Rattle.netlist.specs.Kinds.{width, slots, unused, topLevel, mappedLimit, output, buffer, arity}
 use Rattle.netlist.specs.Records.{Netlist, netlist, recordCount, recordAt, blank, slot}
 use Rattle.netlist.specs.Source.{IsSource}
 use Rattle.netlist.specs.Checks.{inputChecks}
+use Rattle.netlist.proofs.Checks.{arity-slots}
 use Rattle.netlist.proofs.Source.{input-passed as input, no-buffer}
 use Rattle.verifier.specs.Checks.{badEmpty, differs, noBuffer, badName, notOneLower, slotChecks, placeChecks, traceCheck, feedCheck, badLength, legalChecks, mappedChecks, verifyChecks}
 use Rattle.verifier.specs.Walking.{Sized, Driven, PlacesPassed}
@@ -35,12 +36,39 @@ blank-slot (suc zero) = refl
 blank-slot (suc (suc zero)) = refl
 blank-slot (suc (suc (suc j))) = refl
 
-module _ (kind : ℕ) (r : Record) (j n : ℕ) (e : n ≡ arity kind) where
-  pub empty-from : (x : ℕ) → n ≤ j → x ≡ slot r j → not (eqb x unused) ≡ badEmpty kind blank r j
-  empty-from x l p = rw (le-leb (arity kind) j (rw e at l), blank-slot j, p)
+-- no slot below j is wrong, where the slots that the kind uses are below j
+pub record EmptyYet (kind : ℕ) (r : Record) (j : ℕ) : Type 0 where
+  pub from : arity kind ≤ j
+  pub none : NoneYet (badEmpty kind blank r) slots j
 
-  pub empty-below : j < n → false ≡ badEmpty kind blank r j
-  empty-below l = rw (lt-leb (arity kind) j (rw e at l))
+module _ (kind : ℕ) (r : Record) where
+  pub empty-start : (n : ℕ) → n ≡ arity kind → EmptyYet kind r n
+  empty-start n e =
+      rw e (record {
+        from = omega arith;
+        none = record {
+          within = arity-slots kind;
+          none = any-none (badEmpty kind blank r) (arity kind) .1 (λ j l. rw (lt-leb (arity kind) j l));
+        };
+      })
+
+  module _ (j : ℕ) (i : EmptyYet kind r j) where
+    pub empty-end : slots ≤ j → false ≡ any (badEmpty kind blank r) slots
+    empty-end l = any-end (badEmpty kind blank r) slots j (i .none) l
+
+    module _ (l : j < slots) (x : ℕ) (p : x ≡ slot r j) where
+      here : not (eqb x unused) ≡ badEmpty kind blank r j
+      here = rw (le-leb (arity kind) j (i .from), blank-slot j, p)
+
+      pub empty-found : x ≢ unused → true ≡ any (badEmpty kind blank r) slots
+      empty-found h = any-found (badEmpty kind blank r) slots j (not (eqb x unused)) l here (rw (ne-eqb x unused h))
+
+      pub empty-more : x ≡ unused → EmptyYet kind r (j + 1)
+      empty-more h =
+          record {
+            from = omega (arith, i .from);
+            none = any-more (badEmpty kind blank r) slots j (not (eqb x unused)) (i .none) l here (rw (eq-eqb x unused h));
+          }
 
 any-cong : (p q : ℕ → Bool) (n : ℕ) → ((j : ℕ) → j < n → p j ≡ q j) → any p n ≡ any q n
 unfolding any
@@ -100,15 +128,12 @@ module _ (m : Netlist) (r : Record) (j x : ℕ) (e : x ≡ slot r j) where
   pub name-kind : (n y : ℕ) → n ≡ m .size → x < n → y ≡ m .at x .kind → eqb y output ≡ badName m r j
   name-kind n y p l q = let h : slot r j < m .size = omega arith in rw (lt-leb (m .size) (slot r j) h, q, e)
 
-  pub fanin-lower : (y : ℕ) → y ≡ m .at x .level → not (eqb (r .level) (y + 1)) ≡ notOneLower m r j
-  fanin-lower y q = rw (q, e, add-one (m .at (slot r j) .level))
-
 module _ (m : Netlist) (r : Record) (j : ℕ) (b : Bool) (e : b ≡ badName m r j) where
-  pub slot-named : b ≡ true → true ≡ badFanin m r j
-  slot-named t = rw (← e, t)
+  pub fanin-named : b ≡ true → true ≡ badFanin m r j
+  fanin-named t = rw (← e, t)
 
-  pub slot-level : (c : Bool) → b ≡ false → c ≡ notOneLower m r j → c ≡ badFanin m r j
-  slot-level c t f = f ∙ rw (← e, t)
+  pub fanin-lower : (x y : ℕ) → b ≡ false → x ≡ slot r j → y ≡ m .at x .level → not (eqb (r .level) (y + 1)) ≡ badFanin m r j
+  fanin-lower x y t p q = rw (← e, t, q, p, add-one (m .at (slot r j) .level))
 
 -- 14 and 15 pass where no used slot is bad
 module _ (m : Netlist) (k : ℕ) (r : Record) where
@@ -121,17 +146,17 @@ module _ (m : Netlist) (k : ℕ) (r : Record) where
   pub slots-good : (b : Bool) → b ≡ not (any (badFanin m r) (arity (r .kind))) → b ≡ true → slotChecks m k r ≡ Passed
   slots-good b e t = slots-fine (not-true (any (badFanin m r) (arity (r .kind))) (sym e ∙ t))
 
-  module _ (some : any (badFanin m r) (arity (r .kind)) ≡ true) (b : Bool) (n : ℕ) (p : n ≡ arity (r .kind)) (e : b ≡ any (badName m r) n) where
-    pub names-bad : b ≡ true → Refused 14 k ≡ slotChecks m k r
-    names-bad t = rw (← p, ← e, t)
+  module _ (n : ℕ) (p : n ≡ arity (r .kind)) (j : ℕ) where
+    pub names-bad : (b : Bool) → j < n → b ≡ badName m r j → b ≡ true → Refused 14 k ≡ slotChecks m k r
+    names-bad b l e t = rw (← p, ← any-found (badName m r) n j b l e t)
 
-    pub levels-bad : b ≡ false → Refused 15 k ≡ slotChecks m k r
-    levels-bad t = rw (← p, ← e, t) (go (any (notOneLower m r) n) refl)
+    pub levels-bad : any (badFanin m r) (arity (r .kind)) ≡ true → NoneYet (badName m r) n j → n ≤ j → Refused 15 k ≡ slotChecks m k r
+    levels-bad some i l = rw (← p, ← any-end (badName m r) n j i l) (go (any (notOneLower m r) n) refl)
       where
         go : (c : Bool) → any (notOneLower m r) n ≡ c → Refused 15 k ≡ check 15 k c
         go true u = refl
         go false u =
-            absurd (true-false (any (badFanin m r) (arity (r .kind))) some (slots-passed (rw (← p, ← e, t, u))))
+            absurd (true-false (any (badFanin m r) (arity (r .kind))) some (slots-passed (rw (← p, ← any-end (badName m r) n j i l, u))))
 
 module _ (records : ℕ) (bytes : List ℕ) where
   pub length-ragged : length bytes % width ≢ 0 → true ≡ badLength records bytes

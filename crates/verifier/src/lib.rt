@@ -29,7 +29,6 @@ ghost use Rattle.verifier.specs.Checks.{
   badEmpty,
   noBuffer,
   badName,
-  notOneLower,
   slotChecks,
   placeChecks,
   strays,
@@ -66,24 +65,13 @@ pub enum Verified {
     Refused(u32, u32),
 }
 
-// Checks 12 and 13 of one slot: one that the kind does not use names something.
-fn bad_empty(kind: u8, r: Record, j: usize) -> bool
-    ensures { λ b. ⌜ b ≡ badEmpty kind Records.blank r j ⌝ }
-{
-    if arity(kind) <= j {
-        slot(r, j) != netlist::UNUSED
-    } else {
-        false
-    }
-}
-
-// Checks 12 and 13 of the slots that the kind does not use.
+// Checks 12 and 13 of the slots that the kind does not use: one names something.
 fn any_bad_empty(kind: u8, r: Record) -> bool
     ensures { λ b. ⌜ b ≡ any (badEmpty kind Records.blank r) slots ⌝ }
 {
-    let mut j: usize = 0;
+    let mut j = arity(kind);
     while j < netlist::SLOTS {
-        if bad_empty(kind, r, j) {
+        if slot(r, j) != netlist::UNUSED {
             return true;
         }
         j += 1;
@@ -135,36 +123,15 @@ fn bad_name(mapped: &[u8], r: Record, j: usize) -> bool
     netlist::kind_at(mapped, x) == netlist::OUTPUT
 }
 
-// Check 14 of the first n slots.
-fn any_bad_name(mapped: &[u8], r: Record, n: usize) -> bool
-    ensures { λ b. ⌜ b ≡ any (badName (netlist (now (mapped .entry))) r) n ⌝ }
-{
-    let mut j: usize = 0;
-    while j < n {
-        if bad_name(mapped, r, j) {
-            return true;
-        }
-        j += 1;
-    }
-    false
-}
-
-// Check 15 of one used slot: its fanin is not one level lower.
-fn not_one_lower(mapped: &[u8], r: Record, j: usize) -> bool
-    ensures { λ b. ⌜ b ≡ notOneLower (netlist (now (mapped .entry))) r j ⌝ }
-{
-    let below = netlist::level_at(mapped, slot(r, j) as usize);
-    r.level as u32 != below as u32 + 1
-}
-
-// Checks 14 and 15 of one used slot.
+// Checks 14 and 15 of one used slot: it names no fanin, or one that is not one level lower.
 fn bad_fanin(mapped: &[u8], r: Record, j: usize) -> bool
     ensures { λ b. ⌜ b ≡ badFanin (netlist (now (mapped .entry))) r j ⌝ }
 {
     if bad_name(mapped, r, j) {
         return true;
     }
-    not_one_lower(mapped, r, j)
+    let below = netlist::level_at(mapped, slot(r, j) as usize);
+    r.level as u32 != below as u32 + 1
 }
 
 // One more slot that x feeds, up to the stop.
@@ -213,8 +180,13 @@ fn refuse_slots(mapped: &[u8], k: u32, r: Record) -> Checked
     requires { ⌜ any (badFanin (netlist (now mapped)) r) (Kinds.arity (r .kind)) ≡ true ⌝ }
     ensures { λ a. ⌜ a ≡ slotChecks (netlist (now (mapped .entry))) k r ⌝ }
 {
-    if any_bad_name(mapped, r, arity(r.kind)) {
-        return Checked::Refused(14, k);
+    let used = arity(r.kind);
+    let mut j: usize = 0;
+    while j < used {
+        if bad_name(mapped, r, j) {
+            return Checked::Refused(14, k);
+        }
+        j += 1;
     }
     Checked::Refused(15, k)
 }
