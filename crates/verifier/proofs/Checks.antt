@@ -23,8 +23,7 @@ use Rattle.netlist.specs.Kinds.{width, slots, unused, topLevel, mappedLimit, ou
 use Rattle.netlist.specs.Records.{Netlist, netlist, recordCount, recordAt, blank, slot}
 use Rattle.netlist.specs.Source.{IsSource}
 use Rattle.netlist.specs.Checks.{inputChecks}
-use Rattle.netlist.proofs.Checks.{arity-slots}
-use Rattle.netlist.proofs.Source.{input-passed as input, no-buffer}
+use Rattle.netlist.proofs.Source.{input-passed, no-buffer}
 use Rattle.verifier.specs.Checks.{badEmpty, differs, noBuffer, badName, notOneLower, slotChecks, placeChecks, traceCheck, feedCheck, badLength, legalChecks, mappedChecks, verifyChecks}
 use Rattle.verifier.specs.Walking.{Sized, Driven, PlacesPassed}
 use Rattle.verifier.specs.Feeding.{stop, badFanin, bufferChecks}
@@ -36,39 +35,20 @@ blank-slot (suc zero) = refl
 blank-slot (suc (suc zero)) = refl
 blank-slot (suc (suc (suc j))) = refl
 
--- no slot below j is wrong, where the slots that the kind uses are below j
-pub record EmptyYet (kind : ℕ) (r : Record) (j : ℕ) : Type 0 where
-  pub from : arity kind ≤ j
-  pub none : NoneYet (badEmpty kind blank r) slots j
+-- a slot is wrong that the kind does not use and that names something
+module _ (kind : ℕ) (r : Record) (j n : ℕ) (e : n ≡ arity kind) (i : NoneYet (badEmpty kind blank r) slots j) (l : j < slots) where
+  pub empty-used : j < n → NoneYet (badEmpty kind blank r) slots (j + 1)
+  empty-used h = any-more (badEmpty kind blank r) slots j false i l (rw (lt-leb (arity kind) j (rw e at h))) refl
 
-module _ (kind : ℕ) (r : Record) where
-  pub empty-start : (n : ℕ) → n ≡ arity kind → EmptyYet kind r n
-  empty-start n e =
-      rw e (record {
-        from = omega arith;
-        none = record {
-          within = arity-slots kind;
-          none = any-none (badEmpty kind blank r) (arity kind) .1 (λ j l. rw (lt-leb (arity kind) j l));
-        };
-      })
+  module _ (h : n ≤ j) (x : ℕ) (p : x ≡ slot r j) where
+    here : not (eqb x unused) ≡ badEmpty kind blank r j
+    here = rw (le-leb (arity kind) j (rw e at h), blank-slot j, p)
 
-  module _ (j : ℕ) (i : EmptyYet kind r j) where
-    pub empty-end : slots ≤ j → false ≡ any (badEmpty kind blank r) slots
-    empty-end l = any-end (badEmpty kind blank r) slots j (i .none) l
+    pub empty-found : x ≢ unused → true ≡ any (badEmpty kind blank r) slots
+    empty-found g = any-found (badEmpty kind blank r) slots j (not (eqb x unused)) l here (rw (ne-eqb x unused g))
 
-    module _ (l : j < slots) (x : ℕ) (p : x ≡ slot r j) where
-      here : not (eqb x unused) ≡ badEmpty kind blank r j
-      here = rw (le-leb (arity kind) j (i .from), blank-slot j, p)
-
-      pub empty-found : x ≢ unused → true ≡ any (badEmpty kind blank r) slots
-      empty-found h = any-found (badEmpty kind blank r) slots j (not (eqb x unused)) l here (rw (ne-eqb x unused h))
-
-      pub empty-more : x ≡ unused → EmptyYet kind r (j + 1)
-      empty-more h =
-          record {
-            from = omega (arith, i .from);
-            none = any-more (badEmpty kind blank r) slots j (not (eqb x unused)) (i .none) l here (rw (eq-eqb x unused h));
-          }
+    pub empty-kept : x ≡ unused → NoneYet (badEmpty kind blank r) slots (j + 1)
+    empty-kept g = any-more (badEmpty kind blank r) slots j (not (eqb x unused)) i l here (rw (eq-eqb x unused g))
 
 any-cong : (p q : ℕ → Bool) (n : ℕ) → ((j : ℕ) → j < n → p j ≡ q j) → any p n ≡ any q n
 unfolding any
@@ -258,19 +238,7 @@ module _ (n : Netlist) (s : ℕ) (m : Netlist) where
     unfolding legalChecks
     legal-feeds a h e = e ∙ rw (places, h)
 
-module _ (n : Netlist) (s : ℕ) (bytes : List ℕ) (records : ℕ) (e : records ≡ n .size) (b : Bool) (f : b ≡ badLength records bytes) where
-  pub mapped-length : b ≡ true → Refused 11 0 ≡ mappedChecks n s bytes
-  unfolding mappedChecks
-  mapped-length t = rw (← e, ← f, t)
-
-  pub mapped-legal : (a : Checked) → b ≡ false → a ≡ legalChecks n s (netlist bytes) → a ≡ mappedChecks n s bytes
-  unfolding mappedChecks
-  mapped-legal a t g = g ∙ rw (← e, ← f, t)
-
--- what 1 to 7 and 11 leave: a source, sizes that fit, and a capacity below the stop
-pub capacity-fits : (source : List ℕ) (s : ℕ) → inputChecks s source ≡ Passed → s < stop
-capacity-fits source s i = omega (arith, input s source i .high)
-
+-- what 11 leaves: sizes that fit
 module _ (records : ℕ) (bytes : List ℕ) (b : Bool) (f : b ≡ badLength records bytes) (t : b ≡ false) where
   within : (records ≤ recordCount bytes) × (recordCount bytes ≤ mappedLimit)
   within = let h : badLength records bytes ≡ false = sym f ∙ t in let g = simp reflect at h in (g .1 .0, g .1 .1)
@@ -281,26 +249,30 @@ module _ (records : ℕ) (bytes : List ℕ) (b : Bool) (f : b ≡ badLength reco
   pub mapped-fits : (m : ℕ) → m ≡ recordCount bytes → m < 2 ^ 32
   mapped-fits m e = omega (arith, within)
 
-  pub mapped-sized :
-      (source : List ℕ) (s m : ℕ) → inputChecks s source ≡ Passed → records ≡ recordCount source → m ≡ recordCount bytes →
-      Sized (netlist source) (netlist bytes) records m
-  mapped-sized source s m i e g =
-      record {
-        source = input s source i .isSource .isSource;
-        records = e;
-        size = g;
-        whole = omega (arith, within);
-        fits = omega (arith, within);
-      }
-
 module _ (source : List ℕ) (s : ℕ) (mapped : List ℕ) (input : Checked) (e : input ≡ inputChecks s source) where
   pub verify-input : (number place : ℕ) → input ≡ Refused number place → Refused number place ≡ verifyChecks source s mapped
   unfolding verifyChecks
   verify-input number place f = rw (← e, f)
 
-  pub input-passed : input ≡ Passed → inputChecks s source ≡ Passed
-  input-passed p = sym e ∙ p
+  module _ (p : input ≡ Passed) where
+    pub capacity-fits : s < stop
+    capacity-fits = omega (arith, input-passed s source (sym e ∙ p) .high)
 
-  pub verify-mapped : (a : Checked) → input ≡ Passed → a ≡ mappedChecks (netlist source) s mapped → a ≡ verifyChecks source s mapped
-  unfolding verifyChecks
-  verify-mapped a p f = f ∙ rw (← e, p)
+    module _ (records : ℕ) (r : records ≡ recordCount source) (b : Bool) (f : b ≡ badLength records mapped) where
+      pub verify-length : b ≡ true → Refused 11 0 ≡ verifyChecks source s mapped
+      unfolding verifyChecks mappedChecks
+      verify-length t = rw (← e, p, ← r, ← f, t)
+
+      pub verify-legal : (a : Checked) → b ≡ false → a ≡ legalChecks (netlist source) s (netlist mapped) → a ≡ verifyChecks source s mapped
+      unfolding verifyChecks mappedChecks
+      verify-legal a t g = g ∙ rw (← e, p, ← r, ← f, t)
+
+      pub mapped-sized : (m : ℕ) → b ≡ false → m ≡ recordCount mapped → Sized (netlist source) (netlist mapped) records m
+      mapped-sized m t g =
+          record {
+            source = input-passed s source (sym e ∙ p) .isSource .isSource;
+            records = r;
+            size = g;
+            whole = omega (arith, within records mapped b f t);
+            fits = omega (arith, within records mapped b f t);
+          }

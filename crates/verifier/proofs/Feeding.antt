@@ -291,12 +291,6 @@ module _ (a right : Checked) (m : Netlist) (k : ℕ) (counts : List ℕ) (c : Ta
   pub counted-tallied : a ≡ Passed → Tallied m k counts
   counted-tallied p = c .tallied p
 
-pub capacity-driver : (s n k : ℕ) → k < n → driverCapacity ≡ capacityAt s n k
-capacity-driver s n k l = rw (lt-ltb k n l)
-
-pub capacity-buffer : (s n k : ℕ) → n ≤ k → s ≡ capacityAt s n k
-capacity-buffer s n k l = rw (le-ltb k n l)
-
 -- 17 by the counts
 module _ (n m : Netlist) (s records size : ℕ) (sized : Sized n m records size) (p : PlacesPassed n m) (below : s < stop) (counts : List ℕ) (t : Tallied m (m .size) counts) where
   module _ (k : ℕ) (l : k < m .size) where
@@ -364,6 +358,14 @@ module _ (n m : Netlist) (records size : ℕ) (sized : Sized n m records size) (
         feeds-decide s b f below e =
             legal-feeds n s m (sym (c .answer) ∙ p) b (sym q ∙ f)
             (counts-feeds n m s records size sized places-placed below counts (c .tallied p) b e)
+
+-- what a record may feed, as the code has it
+module _ (s n k c : ℕ) where
+  pub capacity-driver : k < n → c ≡ driverCapacity → c ≡ capacityAt s n k
+  capacity-driver l e = e ∙ rw (lt-ltb k n l)
+
+  pub capacity-buffer : n ≤ k → c ≡ s → c ≡ capacityAt s n k
+  capacity-buffer l e = e ∙ rw (le-ltb k n l)
 
 -- one record more by the counts
 module _ (s n : ℕ) (counts : List ℕ) (size k : ℕ) (i : Scanning (countCheck s n counts) size k) (l : k < size)

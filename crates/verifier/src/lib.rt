@@ -10,7 +10,6 @@ ghost use Rattle.netlist.specs.Kinds.{slots};
 ghost use Rattle.netlist.specs.Records;
 ghost use Rattle.netlist.specs.Records.{netlist, recordAt, recordCount};
 ghost use Rattle.netlist.specs.Source.{IsSource};
-ghost use Rattle.netlist.specs.Checks.{inputChecks};
 ghost use Rattle.verifier.specs.Walking.{
   Sized,
   PlacesPassed,
@@ -23,7 +22,7 @@ ghost use Rattle.verifier.specs.Walking.{
   SlotsTraceable,
   SlotsTraced,
 };
-ghost use Rattle.verifier.specs.Feeding.{stop, capacityAt, countCheck, badFanin, bufferChecks, fedOnce, Fed, FedAtMost, Tallied, TalliedIfPassed};
+ghost use Rattle.verifier.specs.Feeding.{stop, countCheck, badFanin, bufferChecks, fedOnce, Fed, FedAtMost, Tallied, TalliedIfPassed};
 ghost use Rattle.verifier.specs.Checks;
 ghost use Rattle.verifier.specs.Checks.{
   badEmpty,
@@ -35,7 +34,6 @@ ghost use Rattle.verifier.specs.Checks.{
   traceCheck,
   badLength,
   legalChecks,
-  mappedChecks,
   verifyChecks,
   verifyAnswer,
 };
@@ -69,10 +67,12 @@ pub enum Verified {
 fn any_bad_empty(kind: u8, r: Record) -> bool
     ensures { λ b. ⌜ b ≡ any (badEmpty kind Records.blank r) slots ⌝ }
 {
-    let mut j = arity(kind);
+    let mut j: usize = 0;
     while j < netlist::SLOTS {
-        if slot(r, j) != netlist::UNUSED {
-            return true;
+        if arity(kind) <= j {
+            if slot(r, j) != netlist::UNUSED {
+                return true;
+            }
         }
         j += 1;
     }
@@ -367,13 +367,6 @@ fn check_traces(source: &[u8], mapped: &[u8], n: u32, drivers: &mut [u16]) -> Ch
     Checked::Passed
 }
 
-// The most slots that record k may feed, of a netlist whose buffers start at n.
-fn capacity_at(capacity: u32, n: u32, k: u32) -> u32
-    ensures { λ c. ⌜ c ≡ capacityAt capacity n k ⌝ }
-{
-    if k < n { DRIVER_CAPACITY } else { capacity }
-}
-
 // The largest count of the records from `from` on, below `to`.
 fn most_fed(counts: &[u8], from: u32, to: u32) -> u8
     requires { ⌜ to ≤ length (now counts) ⌝ }
@@ -399,7 +392,8 @@ fn first_overfed(counts: &[u8], capacity: u32, n: u32, m: u32) -> Checked
     let mut k: u32 = 0;
     while k < m {
         let fed = facts::wide(counts[k as usize]);
-        if capacity_at(capacity, n, k) < fed as u32 {
+        let most = if k < n { DRIVER_CAPACITY } else { capacity };
+        if most < fed as u32 {
             return Checked::Refused(17, k);
         }
         k += 1;
@@ -488,11 +482,17 @@ fn check_legal(source: &[u8], capacity: u32, mapped: &[u8], n: u32, m: u32) -> C
     check_with(source, capacity, mapped, n, m, &mut counts, &mut drivers)
 }
 
-// Checks 11 to 17, of a source and a capacity that passed 1 to 7.
-fn check_mapped(source: &[u8], capacity: u32, mapped: &[u8]) -> Checked
-    requires { ⌜ inputChecks capacity (now source) ≡ Checked.Passed ⌝ }
-    ensures { λ a. ⌜ a ≡ mappedChecks (netlist (now (source .entry))) capacity (now (mapped .entry)) ⌝ }
+// What every call with a mapped netlist checks first: 1 to 7, then 11 to 17.
+pub fn check_mapping(source: &[u8], capacity: u32, mapped: &[u8]) -> Checked
+    ensures { λ a. ⌜ a ≡ verifyChecks (now (source .entry)) capacity (now (mapped .entry)) ⌝ }
 {
+    let input = netlist::check_input(capacity, source);
+    match input {
+        Checked::Passed => {}
+        Checked::Refused(number, place) => {
+            return Checked::Refused(number, place);
+        }
+    }
     let n = record_count(source);
     if bad_length(n, mapped) {
         return Checked::Refused(11, 0);
@@ -504,17 +504,6 @@ fn check_mapped(source: &[u8], capacity: u32, mapped: &[u8]) -> Checked
         n as u32,
         record_count(mapped) as u32,
     )
-}
-
-// What every call with a mapped netlist checks first: 1 to 7, then 11 to 17.
-pub fn check_mapping(source: &[u8], capacity: u32, mapped: &[u8]) -> Checked
-    ensures { λ a. ⌜ a ≡ verifyChecks (now (source .entry)) capacity (now (mapped .entry)) ⌝ }
-{
-    let input = netlist::check_input(capacity, source);
-    match input {
-        Checked::Passed => check_mapped(source, capacity, mapped),
-        Checked::Refused(number, place) => Checked::Refused(number, place),
-    }
 }
 
 // The verifier: checks 1 to 7, then 11 to 17; a legal mapped netlist's buffers are all its records from the source's size on.

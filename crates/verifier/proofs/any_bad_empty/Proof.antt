@@ -1,22 +1,26 @@
 -- `any_bad_empty` meets its contract: no slot below j is wrong, until one is or all are passed.
 use borrow.Author.Needs.{needs}
 use Prim.Native.Nat.{_-_}
+use mathlib.Core.Logic.{⊎-elim}
+use Rattle.facts.proofs.Loops.{NoneYet, any-start, any-end}
 use Rattle.netlist.specs.Kinds.{slots}
-use Rattle.verifier.proofs.Checks.{EmptyYet, empty-start, empty-more, empty-found, empty-end}
+use Rattle.netlist.specs.Records.{blank}
+use Rattle.verifier.specs.Checks.{badEmpty}
+use Rattle.verifier.proofs.Checks.{empty-used, empty-found, empty-kept}
 use Rattle.verifier.proofs.any_bad_empty.Statement.{statement}
 use Rattle.verifier.proofs.any_bad_empty.Tie as tie
 
 abbrev Inv-loop : tie.InvT-loop
-Inv-loop kind r j₀ j = EmptyYet kind r j
+Inv-loop kind r j₀ j = NoneYet (badEmpty kind blank r) slots j
 
 abbrev μ-loop : tie.MeasureT-loop
 μ-loop kind r j₀ j = slots - j
 
+loop-holds : tie.Need-loop-holds Inv-loop μ-loop
+loop-holds c = search any-start
+
 arity-requires : tie.Need-arity-requires Inv-loop μ-loop
 arity-requires c κs = search needs
-
-loop-holds : tie.Need-loop-holds Inv-loop μ-loop
-loop-holds c = search empty-start
 
 slot-requires : tie.Need-slot-requires Inv-loop μ-loop
 slot-requires c κs = search needs
@@ -31,10 +35,10 @@ loop-less : tie.Need-loop-less Inv-loop μ-loop
 loop-less c = search needs
 
 loop-again : tie.Need-loop-again Inv-loop μ-loop
-loop-again c = search empty-more
+loop-again c = ⊎-elim (λ w. search empty-kept) (λ w. search empty-used) (c .if1 .came)
 
 returns-2 : tie.Need-returns-2 Inv-loop μ-loop
-returns-2 c = search empty-end
+returns-2 c = search any-end
 
 pub any-bad-empty-spec : {M : Type 1} → statement M
 any-bad-empty-spec =
@@ -42,8 +46,8 @@ any-bad-empty-spec =
     (tie.spec
     Inv-loop
     μ-loop
-    arity-requires
     loop-holds
+    arity-requires
     slot-requires
     returns
     add-j

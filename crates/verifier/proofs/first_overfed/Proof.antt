@@ -1,9 +1,10 @@
 -- `first_overfed` meets its contract: the answer from k on is the answer.
 use borrow.Author.Needs.{needs}
 use Prim.Native.Nat.{_-_}
+use mathlib.Core.Logic.{⊎-elim}
 use Rattle.facts.proofs.Loops.{Scanning, scan-start, scan-end}
 use Rattle.verifier.specs.Feeding.{countCheck}
-use Rattle.verifier.proofs.Feeding.{count-more, count-stop}
+use Rattle.verifier.proofs.Feeding.{capacity-driver, capacity-buffer, count-more, count-stop}
 use Rattle.verifier.proofs.first_overfed.Statement.{statement}
 use Rattle.verifier.proofs.first_overfed.Tie as tie
 
@@ -25,14 +26,11 @@ shared-slice-read-wide c = search needs
 wide-requires : tie.Need-wide-requires Inv-loop μ-loop
 wide-requires c κs = search needs
 
-capacity-at-requires : tie.Need-capacity-at-requires Inv-loop μ-loop
-capacity-at-requires c κs = search needs
-
-cast-if1 : tie.Need-cast-if1 Inv-loop μ-loop
-cast-if1 c = search needs
+cast-if2 : tie.Need-cast-if2 Inv-loop μ-loop
+cast-if2 c = search needs
 
 returns : tie.Need-returns Inv-loop μ-loop
-returns c = search count-stop
+returns c = ⊎-elim (λ w. search (count-stop, capacity-driver)) (λ w. search (count-stop, capacity-buffer)) (c .before .if1 .came)
 
 add-k : tie.Need-add-k Inv-loop μ-loop
 add-k c = search needs
@@ -41,7 +39,7 @@ loop-less : tie.Need-loop-less Inv-loop μ-loop
 loop-less c = search needs
 
 loop-again : tie.Need-loop-again Inv-loop μ-loop
-loop-again c = search count-more
+loop-again c = ⊎-elim (λ w. search (count-more, capacity-driver)) (λ w. search (count-more, capacity-buffer)) (c .before .if1 .came)
 
 returns-2 : tie.Need-returns-2 Inv-loop μ-loop
 returns-2 c = search scan-end
@@ -56,8 +54,7 @@ first-overfed-spec =
     cast-wide
     shared-slice-read-wide
     wide-requires
-    capacity-at-requires
-    cast-if1
+    cast-if2
     returns
     add-k
     loop-less
