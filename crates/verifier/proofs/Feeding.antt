@@ -178,8 +178,8 @@ module _ (m : Netlist) where
         counted = f ∙ rw (e, add-one k) (ap (λ (l : List ℕ). fedBy l (m .at k) (arity (m .at k .kind))) (t .counted));
       }
 
-  counted-refused : (right : Checked) (number place k : ℕ) (counts : List ℕ) → right ≡ Refused number place → TalliedIfPassed (Refused number place) right m k counts
-  counted-refused right number place k counts e =
+  tallied-refused : (right : Checked) (number place k : ℕ) (counts : List ℕ) → right ≡ Refused number place → TalliedIfPassed (Refused number place) right m k counts
+  tallied-refused right number place k counts e =
       record { answer = sym e; tallied = λ p. absurd (let z : _≡_ {A = ℕ} 0 1 = cc in omega arith) }
 
   -- a record whose slots decide
@@ -210,7 +210,7 @@ module _ (source mapped : List ℕ) (k : ℕ) (a r : Record) (p : a ≡ recordAt
       (next : ℕ) (counts : List ℕ) → b ≡ true →
       TalliedIfPassed (Refused 12 k) (placeChecks (netlist source) (netlist mapped) k) (netlist mapped) next counts
   record-differs next counts t =
-      counted-refused (netlist mapped) _ 12 k next counts (kept-bad (netlist source) (netlist mapped) k l (rw (← p, ← q, ← e) t))
+      tallied-refused (netlist mapped) _ 12 k next counts (kept-bad (netlist source) (netlist mapped) k l (rw (← p, ← q, ← e) t))
 
   module _ (same : b ≡ false) (c : Bool) (before after : List ℕ) (f : Fed (netlist mapped) r (arity (r .kind)) c before after) where
     decides : placeChecks (netlist source) (netlist mapped) k ≡ slotChecks (netlist mapped) k (recordAt mapped k)
@@ -238,7 +238,7 @@ module _ (mapped : List ℕ) (k : ℕ) (r : Record) (q : r ≡ recordAt mapped k
   foreign = rw (← q, e)
 
   pub buffer-differs : (next : ℕ) (counts : List ℕ) → b ≡ true → TalliedIfPassed (Refused 13 k) (bufferChecks (netlist mapped) k) (netlist mapped) next counts
-  buffer-differs next counts t = counted-refused (netlist mapped) _ 13 k next counts (rw (foreign, t))
+  buffer-differs next counts t = tallied-refused (netlist mapped) _ 13 k next counts (rw (foreign, t))
 
   module _ (same : b ≡ false) (used : ℕ) (u : used ≡ arity buffer) (c : Bool) (before after : List ℕ) (f : Fed (netlist mapped) r used c before after) where
     settles : bufferChecks (netlist mapped) k ≡ slotChecks (netlist mapped) k (recordAt mapped k)
@@ -277,7 +277,7 @@ module _ (n m : Netlist) (records : ℕ) (counts : List ℕ) where
     module _ (l : k < size) (a : Checked) (after : List ℕ) (c : TalliedIfPassed a (placeChecks n m k) m (k + 1) after) where
       pub tallying-stop : (number place : ℕ) → a ≡ Refused number place → TalliedIfPassed (Refused number place) (scan (placeChecks n m) 0 records) m records after
       tallying-stop number place p =
-          counted-refused m _ number place records after (sym (scan-stop (placeChecks n m) records k number place a (i .scanning) (rw e at l) (c .answer) p))
+          tallied-refused m _ number place records after (sym (scan-stop (placeChecks n m) records k number place a (i .scanning) (rw e at l) (c .answer) p))
 
       pub tallying-more : a ≡ Passed → Tallying n m records after (k + 1)
       tallying-more p =
@@ -285,11 +285,11 @@ module _ (n m : Netlist) (records : ℕ) (counts : List ℕ) where
 
 -- what a part of the checks leaves for the next
 module _ (a right : Checked) (m : Netlist) (k : ℕ) (counts : List ℕ) (c : TalliedIfPassed a right m k counts) where
-  pub counted-passed : a ≡ Passed → right ≡ Passed
-  counted-passed p = sym (c .answer) ∙ p
+  pub tallied-passed : a ≡ Passed → right ≡ Passed
+  tallied-passed p = sym (c .answer) ∙ p
 
-  pub counted-tallied : a ≡ Passed → Tallied m k counts
-  counted-tallied p = c .tallied p
+  pub tallied-counts : a ≡ Passed → Tallied m k counts
+  tallied-counts p = c .tallied p
 
 -- 17 by the counts
 module _ (n m : Netlist) (s records size : ℕ) (sized : Sized n m records size) (p : PlacesPassed n m) (below : s < stop) (counts : List ℕ) (t : Tallied m (m .size) counts) where

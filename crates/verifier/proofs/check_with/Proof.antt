@@ -1,6 +1,6 @@
 -- `check_with` meets its contract: the records below the source's size, the buffers, the traces, then the feeding.
 use borrow.Author.Needs.{needs}
-use Rattle.verifier.proofs.Feeding.{counted-passed, counted-tallied, kept-refused, added-refused, places-placed, places-driven, counts-room, traced-refused, feeds-decide}
+use Rattle.verifier.proofs.Feeding.{tallied-passed, tallied-counts, kept-refused, added-refused, places-placed, places-driven, counts-room, traced-refused, feeds-decide}
 use Rattle.verifier.proofs.check_with.Statement.{statement}
 use Rattle.verifier.proofs.check_with.Tie as tie
 
@@ -20,7 +20,7 @@ returns : tie.Need-returns
 returns c = search kept-refused
 
 check-buffers-requires : tie.Need-check-buffers-requires
-check-buffers-requires c κs = (search needs, (search counted-passed, (search counted-tallied, search needs)))
+check-buffers-requires c κs = (search needs, (search tallied-passed, (search tallied-counts, search needs)))
 
 enum-told-2 : tie.Need-enum-told-2
 enum-told-2 c = search needs
