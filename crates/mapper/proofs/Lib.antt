@@ -6,6 +6,7 @@ pub mod Chains
 pub mod Counting
 pub mod Feeds
 pub mod Filling
+pub mod Following
 pub mod Hanging
 pub mod Joining
 pub mod Lines

@@ -22,7 +22,7 @@ use Rattle.mapper.proofs.Area.{encoded-cong}
 use Rattle.mapper.proofs.Mapped.{tree-sum, at-place}
 use Rattle.mapper.proofs.Nodes.{pos, IsNode, hangs, buffer-node}
 use Rattle.mapper.proofs.Measuring.{row-none, net-nodes}
-use Rattle.mapper.proofs.Hanging.{sink-node, sink-parent, away, flatNumbered}
+use Rattle.mapper.proofs.Hanging.{sink-node, sink-parent, flatNumbered}
 
 -- a row with a sink has a node
 nodes-some : (s : ℕ) (r : List ℕ) (x : ℕ) → 0 < s → 0 < getD r x 0 → 0 < nodes s r
@@ -169,12 +169,12 @@ module _ (n : Netlist) (s d top near : ℕ) (r : Ready n s) (ld : d < n .size) (
       ∙ ap (encoded (λ j. mappedAt n s (blockStart n s d + j))) (sym (line-size n s d top near (r .source) (r .low) ld h)))
 
   pub line-hooked : (before after : List ℕ) → Hooked n d (onLine n d (blockStart n s d)) before after → Hooked n d (onParent n s) before after
-  unfolding slotDistance onLine
+  unfolding onLine
   line-hooked before after k =
       record {
         size = k .size;
         at = λ y l c.
             k .at y l c
-            ∙ sym (sink-parent n s r d y l c ∙ line-node (away n y d) (flatNumbered n s y d) (sink-node n s r d y l c));
+            ∙ sym (sink-parent n s r d y l c ∙ line-node (slotDistance n d y) (flatNumbered n s y d) (sink-node n s r d y l c));
         others = k .others;
       }

@@ -17,11 +17,11 @@ use Rattle.fanout.specs.Nets.{row, sinks, up, buffersAt}
 use Rattle.mapper.specs.declared.trees.TreeTotals.{TreeTotals}
 use Rattle.mapper.specs.Bytes.{encoded, put, withRecords}
 use Rattle.mapper.specs.Mapped.{buffersOf, treeSize, blockStart, mappedSize, mapped, Ready}
-use Rattle.mapper.specs.Chains.{slotEnd, namesSlot, Chained, Filled, Walkable, Walked, Stale, ShortChain, GrownNet, Hung, Hooked, onParent, onLine, lineRecord, Noded, Writable, Wrote}
+use Rattle.mapper.specs.Chains.{slotEnd, namesSlot, slotDistance, Chained, Filled, Walkable, Walked, Stale, ShortChain, GrownNet, Hung, Hooked, onParent, onLine, lineRecord, Noded, Writable, Wrote}
 use Rattle.mapper.proofs.Area.{written-none, written-more, written-length}
 use Rattle.facts.proofs.Blocks.{block-before}
 use Rattle.mapper.proofs.Nodes.{pos, nodes-none}
-use Rattle.mapper.proofs.Hanging.{away, named-sink}
+use Rattle.mapper.proofs.Hanging.{named-sink}
 use Rattle.mapper.proofs.Lines.{line-size, line-written, line-hooked}
 use Rattle.mapper.proofs.Threading.{hung-next}
 use Rattle.mapper.proofs.Measuring.{walkable, net-nodes, measured-none}
@@ -100,7 +100,7 @@ module _ (n : Netlist) (s d at : ℕ) (first next : List ℕ) (end : ℕ) (count
       none = measured-none n s d (w .ready .source) (w .ready .low, w .ready .high) (w .driver) z .buffers
 
       unnamed : (y : ℕ) → y < slotEnd n → namesSlot n d y ≡ true → ⊥
-      unnamed y l c = omega (arith, z (away n y d), named-sink n s (w .ready) d y l c)
+      unnamed y l c = omega (arith, z (slotDistance n d y), named-sink n s (w .ready) d y l c)
 
   pub line-start : at ≤ mappedLimit
   line-start = omega (arith, w .start, w .ready .fits, block-before (treeSize n s) d (n .size) (w .driver))

@@ -1,6 +1,6 @@
 -- Laws of going along the chain of one driver and giving each of its sinks a number: those below slot p have theirs.
-use Prim.Native.Nat.{ℕ, suc, _+_, _-_, _≤_, _<_, _/_}
-use mathlib.Core.Path.{_≡_, refl, sym, _∙_, ap, subst}
+use Prim.Native.Nat.{ℕ, suc, _+_, _-_, _≤_, _<_}
+use mathlib.Core.Path.{_≡_, refl, sym, _∙_, ap}
 use mathlib.Core.Bool.{true, false}
 use mathlib.Core.List.{List}
 use native.Mathlib.Omega.{arith}
@@ -9,11 +9,11 @@ use lib.ListN.{length, getD, set, length-set}
 use lib.Seq.{getD-set-same, getD-set-other}
 use borrow.Author.Tests.{eq-eqb, ne-eqb}
 use Rattle.facts.proofs.Bools.{and-i, true-false}
-use Rattle.netlist.specs.Kinds.{slots, mappedLimit}
+use Rattle.netlist.specs.Kinds.{mappedLimit}
 use Rattle.netlist.specs.Records.{Netlist}
 use Rattle.mapper.specs.Chains.{slotEnd, usedSlot, faninSlot, namesSlot, nextSink, Above, slotDistance, Chained, Hung, Hooked, onParent, lineParent, onLine}
 use Rattle.mapper.proofs.Chains.{next-within, next-none}
-use Rattle.mapper.proofs.Filling.{OnChain, on-chain, chain-first, chain-next, chain-level}
+use Rattle.mapper.proofs.Following.{OnChain, chain-first, chain-start, chain-linked, chain-inside, chain-names, chain-above, chain-near, chain-on, chain-less}
 
 -- d's sinks below slot p hold what f says; from p on d's chain stands
 pub record Threading (n : Netlist) (d : ℕ) (f : ℕ → ℕ) (before : List ℕ) (p : ℕ) (after : List ℕ) : Type 0 where
@@ -23,62 +23,58 @@ pub record Threading (n : Netlist) (d : ℕ) (f : ℕ → ℕ) (before : List �
   pub above : (y : ℕ) → p ≤ y → y < slotEnd n → namesSlot n d y ≡ true → getD after y 0 ≡ nextSink n d (suc y)
   pub others : (y : ℕ) → namesSlot n d y ≡ false → getD after y 0 ≡ getD before y 0
 
-module _ (n : Netlist) (first before : List ℕ) (end d : ℕ) (h : Chained n first before d end) (ld : d < n .size) (f : ℕ → ℕ) where
-  pub thread-start : (p : ℕ) → p ≡ getD first d 0 → Threading n d f before p before
-  thread-start p e =
+module _ (n : Netlist) (first before : List ℕ) (end d : ℕ) (h : Chained n first before d end) (f : ℕ → ℕ) where
+  pub thread-start : (p : ℕ) → d < n .size → p ≡ getD first d 0 → Threading n d f before p before
+  thread-start p l e =
       record {
-        chain = subst (OnChain n d) (sym g) (on-chain n d 0 (omega arith));
+        chain = chain-start n first before end d h p l e;
         size = refl;
-        below = λ y a b c. absurd (next-none n d 0 y (omega arith) (omega (arith, g)) c);
-        above = λ y a b c. chain-next n first before end d h y (getD before y 0) c b refl;
+        below = λ y a b c. absurd (next-none n d 0 y (omega arith) (omega (arith, chain-first n first before end d h p l e)) c);
+        above = λ y a b c. chain-linked n first before end d h y (getD before y 0) c b refl;
         others = λ y c. refl;
       }
-    where
-      g : p ≡ nextSink n d 0
-      g = chain-first n first before end d h p ld e
 
   module _ (p : ℕ) (after : List ℕ) (t : Threading n d f before p after) where
     module _ (l : p < end) where
-      pub thread-inside : p < slotEnd n
-      thread-inside = omega (arith, h .stop)
+      inside : p < slotEnd n
+      inside = chain-inside n first before end d h p (t .chain) l
 
-      pub thread-names : namesSlot n d p ≡ true
-      thread-names = t .chain .sink thread-inside
+      names : namesSlot n d p ≡ true
+      names = chain-names n first before end d h p (t .chain) l
 
-      pub thread-above : Above n d p
-      thread-above = record { higher = chain-level n d p (h .source) (t .chain) thread-inside }
+      pub thread-above : (low : ℕ) → low ≡ n .at d .level → Above n low p
+      thread-above = chain-above n first before end d h p (t .chain) l
 
       -- a parent on a line fits its slot
       pub thread-reach : (start k : ℕ) → start ≤ mappedLimit → k ≡ slotDistance n d p → start + k < 65536
-      unfolding slotDistance
-      thread-reach start k a b = omega (arith, h .source .levels (p / slots) (omega (arith, thread-inside)))
+      thread-reach start k a e = omega (arith, chain-near n first before end d h p (t .chain) l k e)
 
       module _ (q : ℕ) (e : q ≡ getD after p 0) where
         pub thread-next : q ≡ nextSink n d (suc p)
-        thread-next = e ∙ t .above p (omega arith) thread-inside thread-names
-
-        further : p < q
-        further = omega (arith, thread-next, next-within n d (suc p) thread-inside)
+        thread-next = e ∙ t .above p (omega arith) inside names
 
         pub thread-less : end - q < end - p
-        thread-less = omega (arith, further, thread-next, next-within n d (suc p) thread-inside, h .stop)
+        thread-less = chain-less n first before end d h p (t .chain) l q thread-next
+
+        further : p < q
+        further = omega (arith, thread-next, next-within n d (suc p) inside)
 
         pub thread-more : (v : ℕ) → v ≡ f p → Threading n d f before q (set after p v)
         thread-more v g =
             record {
-              chain = subst (OnChain n d) (sym thread-next) (on-chain n d (suc p) thread-inside);
+              chain = chain-on n first before end d h p (t .chain) l q thread-next;
               size = length-set after p v ∙ t .size;
               below = λ y a b c. at y a b c (ℕ-discrete y p);
               above = λ y a b c.
                   getD-set-other after p y v 0 (λ x. omega (arith, further)) ∙ t .above y (omega (arith, further)) b c;
               others = λ y c.
-                  getD-set-other after p y v 0 (λ x. true-false (namesSlot n d p) thread-names (ap (namesSlot n d) (sym x) ∙ c))
+                  getD-set-other after p y v 0 (λ x. true-false (namesSlot n d p) names (ap (namesSlot n d) (sym x) ∙ c))
                   ∙ t .others y c;
             }
           where
             at : (y : ℕ) → y < q → y < slotEnd n → namesSlot n d y ≡ true → Dec (y ≡ p) → getD (set after p v) y 0 ≡ f y
             at y a b c (yes x) =
-                rw x (getD-set-same after p v 0 (omega (arith, t .size, h .nextLong, thread-inside, h .source .few)) ∙ g)
+                rw x (getD-set-same after p v 0 (omega (arith, t .size, h .nextLong, inside, h .source .few)) ∙ g)
             at y a b c (no x) =
                 getD-set-other after p y v 0 x
                 ∙ elim (decLt y p) [

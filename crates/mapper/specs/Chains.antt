@@ -41,10 +41,11 @@ namesSlot n d y = names n d (y / slots) (y % slots)
 unfoldable pub nextSink : Netlist → ℕ → ℕ → ℕ
 nextSink n d y = seek (namesSlot n d) y (slotEnd n - y)
 
--- slot y's record stands above record d; and how far
-pub record Above (n : Netlist) (d y : ℕ) : Type 0 where
-  pub higher : n .at d .level < n .at (y / slots) .level
+-- slot y's record stands at level low or above
+pub record Above (n : Netlist) (low y : ℕ) : Type 0 where
+  pub higher : low ≤ n .at (y / slots) .level
 
+-- how far slot y's record stands above record d
 unfoldable pub slotDistance : Netlist → ℕ → ℕ → ℕ
 slotDistance n d y = n .at (y / slots) .level - n .at d .level
 

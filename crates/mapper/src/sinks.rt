@@ -1,11 +1,11 @@
 // The chains of sinks: each driver's first sink, and after each sink its driver's next.
 ghost use mathlib.Core.Path.{_≡_};
-ghost use Prim.Native.Nat.{suc, _+_, _*_, _<_};
+ghost use Prim.Native.Nat.{suc, _+_, _-_, _*_, _/_, _<_};
 ghost use lib.ListN.{replicate};
 ghost use Rattle.netlist.specs.Kinds.{slots, topLevel, arity};
 ghost use Rattle.netlist.specs.Records.{netlist, recordCount};
 ghost use Rattle.netlist.specs.Source.{IsSource};
-ghost use Rattle.mapper.specs.Chains.{Above, slotDistance, Linked, Chained, Filled, ChainIs};
+ghost use Rattle.mapper.specs.Chains.{Above, Linked, Chained, Filled, ChainIs};
 use crate::RECORDS;
 use crate::SINKS;
 use crate::numbers;
@@ -63,6 +63,14 @@ pub(crate) fn link_all(source: &[u8], n: usize, first: &mut [u16; RECORDS], next
     }
 }
 
+// How far the record of slot p stands above level low.
+pub(crate) fn distance(source: &[u8], low: u16, p: usize) -> usize
+    requires { ⌜ Above (netlist (now source)) low p ⌝ }
+    ensures { λ r. ⌜ (r ≡ netlist (now (source .entry)) .at (p / slots) .level - low) × (r < 65536) ⌝ }
+{
+    (netlist::level_at(source, p / SLOTS) - low) as usize
+}
+
 // The row of d's net, filled along the chain of its sinks; the largest distance is handed back.
 pub(crate) fn fill_row(
     source: &[u8],
@@ -81,20 +89,12 @@ pub(crate) fn fill_row(
     let mut top: usize = 0;
     let mut p = numbers::index(first[d]);
     while p < end {
-        let k = (netlist::level_at(source, p / SLOTS) - low) as usize;
+        let k = distance(source, low, p);
         p = numbers::index(next[p]);
         row[k] += 1;
         top = numbers::larger(top, k);
     }
     top
-}
-
-// How far the record of slot p stands above record d.
-pub(crate) fn distance(source: &[u8], d: usize, p: usize) -> usize
-    requires { ⌜ Above (netlist (now source)) d p ⌝ }
-    ensures { λ r. ⌜ r ≡ slotDistance (netlist (now (source .entry))) d p ⌝ }
-{
-    (netlist::level_at(source, p / SLOTS) - netlist::level_at(source, d)) as usize
 }
 
 // The sinks of d, along its chain.
@@ -113,13 +113,14 @@ pub(crate) fn chain_of(
     if end <= p {
         return Chain::Empty;
     }
-    let a = distance(source, d, p);
+    let low = netlist::level_at(source, d);
+    let a = distance(source, low, p);
     let q = numbers::index(next[p]);
     if end <= q {
         return Chain::Short(a, numbers::one_if(a == 1));
     }
     if end <= numbers::index(next[q]) {
-        let b = distance(source, d, q);
+        let b = distance(source, low, q);
         return Chain::Short(
             numbers::larger(a, b),
             numbers::one_if(a == 1) + numbers::one_if(b == 1),

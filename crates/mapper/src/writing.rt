@@ -16,7 +16,6 @@ use crate::sinks;
 use crate::sinks::Chain;
 use crate::trees;
 use fanout::DISTANCES;
-use netlist::SLOTS;
 
 // The row, all zero again: only distances up to top were touched.
 fn clear_row(top: usize, row: &mut [u32; DISTANCES])
@@ -111,7 +110,7 @@ fn hang_sinks(
     let mut p = numbers::index(first[d]);
     while p < end {
         let after = numbers::index(next[p]);
-        let k = (netlist::level_at(source, p / SLOTS) - low) as usize;
+        let k = sinks::distance(source, low, p);
         let q = row[k];
         row[k] = q + 1;
         next[p] = parent_of(base[k], s, k, q);
@@ -206,10 +205,11 @@ fn hang_line(
     requires { ⌜ start ≤ mappedLimit ⌝ }
     ensures { λ _. ⌜ Hooked (netlist (now (source .entry))) d (onLine (netlist (now (source .entry))) d start) (now (next .entry)) (now (next .exit)) ⌝ }
 {
+    let low = netlist::level_at(source, d);
     let mut p = numbers::index(first[d]);
     while p < end {
         let after = numbers::index(next[p]);
-        next[p] = line_parent(d, start, sinks::distance(source, d, p));
+        next[p] = line_parent(d, start, sinks::distance(source, low, p));
         p = after;
     }
 }

@@ -1,4 +1,5 @@
 -- `chain_of` meets its contract: no sink, one, two, or more.
+use Rattle.mapper.proofs.Following.{distance-is}
 use Rattle.mapper.proofs.ShortChains.{fans-none, first-above, fans-one, second-above, fans-two, fans-many, fans-fit}
 use borrow.Author.Needs.{needs}
 use Rattle.mapper.proofs.sinks.chain_of.Statement.{statement}
@@ -16,6 +17,9 @@ index-requires c κs = search needs
 returns : tie.Need-returns
 returns c = search fans-none
 
+level-at-requires : tie.Need-level-at-requires
+level-at-requires c κs = search needs
+
 distance-requires : tie.Need-distance-requires
 distance-requires c κs = search first-above
 
@@ -32,7 +36,7 @@ one-if-requires : tie.Need-one-if-requires
 one-if-requires c κs = search needs
 
 returns-2 : tie.Need-returns-2
-returns-2 c = search fans-one
+returns-2 c = search (fans-one, distance-is)
 
 mul-index-3 : tie.Need-mul-index-3
 mul-index-3 c = search needs
@@ -55,11 +59,11 @@ one-if-requires-2 c κs = search needs
 one-if-requires-3 : tie.Need-one-if-requires-3
 one-if-requires-3 c κs = search needs
 
-add-t27 : tie.Need-add-t27
-add-t27 c = search fans-fit
+add-t28 : tie.Need-add-t28
+add-t28 c = search fans-fit
 
 returns-3 : tie.Need-returns-3
-returns-3 c = search fans-two
+returns-3 c = search (fans-two, distance-is)
 
 returns-4 : tie.Need-returns-4
 returns-4 c = search fans-many
@@ -72,6 +76,7 @@ chain-of-spec =
     element-copy-out-index
     index-requires
     returns
+    level-at-requires
     distance-requires
     mul-index-2
     element-copy-out-index-2
@@ -85,6 +90,6 @@ chain-of-spec =
     larger-requires
     one-if-requires-2
     one-if-requires-3
-    add-t27
+    add-t28
     returns-3
     returns-4)

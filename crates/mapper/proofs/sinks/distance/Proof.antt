@@ -1,14 +1,10 @@
--- `distance` meets its contract: the difference of two levels.
-use Rattle.mapper.proofs.ShortChains.{distance-is}
+-- `distance` meets its contract: a level less another.
 use borrow.Author.Needs.{needs}
 use Rattle.mapper.proofs.sinks.distance.Statement.{statement}
 use Rattle.mapper.proofs.sinks.distance.Tie as tie
 
 level-at-requires : tie.Need-level-at-requires
 level-at-requires c κs = search needs
-
-level-at-requires-2 : tie.Need-level-at-requires-2
-level-at-requires-2 c κs = search needs
 
 sub-result : tie.Need-sub-result
 sub-result c = search needs
@@ -17,8 +13,7 @@ cast-result : tie.Need-cast-result
 cast-result c = search needs
 
 returns : tie.Need-returns
-returns c = search distance-is
+returns c = search needs
 
 pub distance-spec : {M : Type 1} → statement M
-distance-spec =
-    tie.close (tie.spec level-at-requires level-at-requires-2 sub-result cast-result returns)
+distance-spec = tie.close (tie.spec level-at-requires sub-result cast-result returns)

@@ -28,14 +28,8 @@ index-requires c κs = search needs
 loop-holds : tie.Need-loop-holds Inv-loop μ-loop
 loop-holds c = search (needs, fill-start)
 
-level-at-requires-2 : tie.Need-level-at-requires-2 Inv-loop μ-loop
-level-at-requires-2 c κs = search needs
-
-sub-k : tie.Need-sub-k Inv-loop μ-loop
-sub-k c = search (needs, fill-above)
-
-cast-k : tie.Need-cast-k Inv-loop μ-loop
-cast-k c = search needs
+distance-requires : tie.Need-distance-requires Inv-loop μ-loop
+distance-requires c κs = search fill-above
 
 mul-index-2 : tie.Need-mul-index-2 Inv-loop μ-loop
 mul-index-2 c = search needs
@@ -47,7 +41,7 @@ index-requires-2 : tie.Need-index-requires-2 Inv-loop μ-loop
 index-requires-2 c κs = search needs
 
 mul-row : tie.Need-mul-row Inv-loop μ-loop
-mul-row c = search (needs, fill-near)
+mul-row c = search needs
 
 element-copy-out-row : tie.Need-element-copy-out-row Inv-loop μ-loop
 element-copy-out-row c = search fill-near
@@ -81,9 +75,7 @@ fill-row-spec =
     element-copy-out-index
     index-requires
     loop-holds
-    level-at-requires-2
-    sub-k
-    cast-k
+    distance-requires
     mul-index-2
     element-copy-out-index-2
     index-requires-2

@@ -1,17 +1,22 @@
 -- `hang_line` meets its contract: the sinks of d below slot p hang on the line.
 use Prim.Native.Nat.{_-_}
-use Rattle.netlist.specs.Records.{netlist}
+use mathlib.Core.Path.{_≡_}
+use Rattle.netlist.specs.Records.{netlist, recordAt}
 use Rattle.mapper.specs.Chains.{onLine}
+use Rattle.mapper.proofs.Following.{distance-is}
 use Rattle.mapper.proofs.Threading.{Threading, thread-start, thread-above, thread-reach, thread-less, thread-more, thread-end, driver-fits, line-hung}
 use borrow.Author.Needs.{needs}
 use Rattle.mapper.proofs.writing.hang_line.Statement.{statement}
 use Rattle.mapper.proofs.writing.hang_line.Tie as tie
 
 abbrev Inv-loop : tie.InvT-loop
-Inv-loop source end first next₀ d start p₀ next p = Threading (netlist source) d (onLine (netlist source) d start) next₀ p next
+Inv-loop source end first next₀ d start low p₀ next p = (low ≡ recordAt source d .level) × Threading (netlist source) d (onLine (netlist source) d start) next₀ p next
 
 abbrev μ-loop : tie.MeasureT-loop
-μ-loop source end first next₀ d start p₀ next p = end - p
+μ-loop source end first next₀ d start low p₀ next p = end - p
+
+level-at-requires : tie.Need-level-at-requires Inv-loop μ-loop
+level-at-requires c κs = search needs
 
 mul-index : tie.Need-mul-index Inv-loop μ-loop
 mul-index c = search needs
@@ -23,7 +28,7 @@ index-requires : tie.Need-index-requires Inv-loop μ-loop
 index-requires c κs = search needs
 
 loop-holds : tie.Need-loop-holds Inv-loop μ-loop
-loop-holds c = search thread-start
+loop-holds c = (search needs, search thread-start)
 
 mul-index-2 : tie.Need-mul-index-2 Inv-loop μ-loop
 mul-index-2 c = search needs
@@ -38,7 +43,7 @@ distance-requires : tie.Need-distance-requires Inv-loop μ-loop
 distance-requires c κs = search thread-above
 
 line-parent-requires : tie.Need-line-parent-requires Inv-loop μ-loop
-line-parent-requires c κs = search (driver-fits, thread-reach)
+line-parent-requires c κs = search (driver-fits, thread-reach, distance-is)
 
 mul-next : tie.Need-mul-next Inv-loop μ-loop
 mul-next c = search needs
@@ -50,7 +55,7 @@ loop-less : tie.Need-loop-less Inv-loop μ-loop
 loop-less c = search thread-less
 
 loop-again : tie.Need-loop-again Inv-loop μ-loop
-loop-again c = search (thread-more, line-hung)
+loop-again c = (search needs, search (thread-more, line-hung, distance-is))
 
 returns : tie.Need-returns Inv-loop μ-loop
 returns c = search thread-end
@@ -61,6 +66,7 @@ hang-line-spec =
     (tie.spec
     Inv-loop
     μ-loop
+    level-at-requires
     mul-index
     element-copy-out-index
     index-requires

@@ -37,17 +37,11 @@ element-copy-out-index-2 c = search needs
 index-requires-2 : tie.Need-index-requires-2 Inv-loop μ-loop
 index-requires-2 c κs = search needs
 
-level-at-requires-2 : tie.Need-level-at-requires-2 Inv-loop μ-loop
-level-at-requires-2 c κs = search needs
-
-sub-k : tie.Need-sub-k Inv-loop μ-loop
-sub-k c = search hang-above
-
-cast-k : tie.Need-cast-k Inv-loop μ-loop
-cast-k c = search needs
+distance-requires : tie.Need-distance-requires Inv-loop μ-loop
+distance-requires c κs = search hang-above
 
 mul-q : tie.Need-mul-q Inv-loop μ-loop
-mul-q c = search (needs, hang-near)
+mul-q c = search needs
 
 element-copy-out-q : tie.Need-element-copy-out-q Inv-loop μ-loop
 element-copy-out-q c = search hang-near
@@ -56,13 +50,13 @@ add-row : tie.Need-add-row Inv-loop μ-loop
 add-row c = search hang-fits
 
 mul-row : tie.Need-mul-row Inv-loop μ-loop
-mul-row c = search (needs, hang-near)
+mul-row c = search needs
 
 element-write-row : tie.Need-element-write-row Inv-loop μ-loop
 element-write-row c = search hang-near
 
 mul-parent-of : tie.Need-mul-parent-of Inv-loop μ-loop
-mul-parent-of c = search (needs, hang-near)
+mul-parent-of c = search needs
 
 element-copy-out-parent-of : tie.Need-element-copy-out-parent-of Inv-loop μ-loop
 element-copy-out-parent-of c = search hang-near
@@ -99,9 +93,7 @@ hang-sinks-spec =
     mul-index-2
     element-copy-out-index-2
     index-requires-2
-    level-at-requires-2
-    sub-k
-    cast-k
+    distance-requires
     mul-q
     element-copy-out-q
     add-row
