@@ -5,8 +5,8 @@ use mathlib.Core.Bool.{Bool, true, false, cond}
 use mathlib.Core.List.{List, []}
 use native.Mathlib.Omega.{arith}
 use native.Mathlib.Decide.{decLt, ℕ-discrete}
-use lib.ListN.{length, getD, drop, set, replicate, length-set, length-replicate, List·getD-eq-default}
-use lib.Seq.{getD-set-same, getD-set-other, getD-drop, drop-nil, ext-getD}
+use lib.ListN.{length, getD, drop, set, replicate, length-set, List·getD-eq-default}
+use lib.Seq.{getD-set-same, getD-set-other, getD-drop, drop-nil}
 use Rattle.facts.proofs.Sums.{count₂-le, count₂-none}
 use Rattle.netlist.specs.Kinds.{slots, topLevel, sourceLimit, isDriver}
 use Rattle.netlist.specs.Records.{Netlist}
@@ -16,8 +16,8 @@ use Rattle.fanout.specs.Nets.{row, sinks, sinkAt, nodes, buffers, nodesAt, fewe
 use Rattle.fanout.proofs.Nets.{row-length, row-at}
 use Rattle.mapper.specs.declared.trees.TreeTotals.{TreeTotals}
 use Rattle.mapper.specs.Mapped.{netRow}
-use Rattle.mapper.specs.Chains.{Chained, Filled, Walkable, Walked, Stale, Measured}
-use Rattle.mapper.proofs.Lists.{getD-replicated}
+use Rattle.mapper.specs.Chains.{Filled, Walkable, Walked, Stale, Measured}
+use Rattle.mapper.proofs.Lists.{zeros}
 use Rattle.mapper.proofs.Nodes.{nodes-none, buffers-none, sink-facts, no-sinks}
 
 -- entries below k are zero, and those beyond top
@@ -50,12 +50,8 @@ module _ (counts : List ℕ) (top : ℕ) where
 
   pub clear-end : (k : ℕ) → Clearing counts top k → top < k → counts ≡ replicate (suc topLevel) 0
   clear-end k h l =
-      ext-getD 0 counts (replicate (suc topLevel) 0) (h .size ∙ sym (length-replicate {A = ℕ} (suc topLevel) 0))
-      (λ x m. at x (decLt x k) ∙ sym (getD-replicated (suc topLevel) x 0))
-    where
-      at : (x : ℕ) → Dec (x < k) → getD counts x 0 ≡ 0
-      at x (yes b) = h .before x b
-      at x (no b) = h .beyond x (omega arith)
+      zeros (suc topLevel) counts (h .size)
+      (λ x. elim (decLt x k) [ yes b ↦ h .before x b | no b ↦ h .beyond x (omega arith) ])
 
 -- a source's row can be walked
 pub row-small : (n : Netlist) (d k : ℕ) → IsSource n → getD (row n d) k 0 ≤ slots * sourceLimit
@@ -127,8 +123,7 @@ measured-none n s d i c l z =
     none : (x : ℕ) → getD (drop 1 (row n d)) x 0 ≡ 0
     none x = getD-drop 1 (row n d) x 0 ∙ row-none n d (1 + x) (z (1 + x))
 
-module _ (n : Netlist) (first next : List ℕ) (end s d top : ℕ) (counts : List ℕ)
-    (h : Chained n first next d end) (c : (2 ≤ s) × (s ≤ 4)) (f : Filled n d counts top) where
+module _ (n : Netlist) (s d top : ℕ) (counts : List ℕ) (i : IsSource n) (c : (2 ≤ s) × (s ≤ 4)) (f : Filled n d counts top) where
   pub walkable : Walkable s counts top
   walkable =
       record {
@@ -136,13 +131,13 @@ module _ (n : Netlist) (first next : List ℕ) (end s d top : ℕ) (counts : Lis
         high = c .1;
         size = ap length (f .counted) ∙ row-length n d;
         near = f .near;
-        apart = ap (λ (r : List ℕ). getD r 0 0) (f .counted) ∙ row-apart n d (h .source);
-        small = λ k. subst (λ (l : List ℕ). getD l k 0 ≤ slots * sourceLimit) (sym (f .counted)) (row-small n d k (h .source));
+        apart = ap (λ (r : List ℕ). getD r 0 0) (f .counted) ∙ row-apart n d i;
+        small = λ k. subst (λ (l : List ℕ). getD l k 0 ≤ slots * sourceLimit) (sym (f .counted)) (row-small n d k i);
         beyond = f .beyond;
       }
 
   pub measured : (after : List ℕ) (t : TreeTotals) → Walked s counts false after t → d < n .size → Measured n s d t
   measured after t w l =
-      net-measured n s d (h .source) (c .0) l t
+      net-measured n s d i (c .0) l t
       (w .nodes ∙ ap (λ (r : List ℕ). nodesAt s r 1) (f .counted))
       (w .buffers ∙ ap (fewest s) (f .counted))

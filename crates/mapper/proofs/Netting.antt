@@ -17,7 +17,7 @@ use Rattle.fanout.specs.Nets.{row, sinks, up, buffersAt}
 use Rattle.mapper.specs.declared.trees.TreeTotals.{TreeTotals}
 use Rattle.mapper.specs.Bytes.{encoded, put, withRecords}
 use Rattle.mapper.specs.Mapped.{buffersOf, treeSize, blockStart, mappedSize, mapped, Ready}
-use Rattle.mapper.specs.Chains.{slotEnd, namesSlot, slotDistance, Chained, Filled, Walkable, Walked, Stale, ShortChain, GrownNet, Hung, Hooked, onParent, onLine, lineRecord, Noded, Writable, Wrote}
+use Rattle.mapper.specs.Chains.{slotEnd, namesSlot, slotDistance, Filled, Walkable, Walked, Stale, ShortChain, GrownNet, Hung, Hooked, onParent, onLine, lineRecord, Noded, Writable, Wrote}
 use Rattle.mapper.proofs.Area.{written-none, written-more, written-length}
 use Rattle.facts.proofs.Blocks.{block-before}
 use Rattle.mapper.proofs.Nodes.{pos, nodes-none}
@@ -26,10 +26,9 @@ use Rattle.mapper.proofs.Lines.{line-size, line-written, line-hooked}
 use Rattle.mapper.proofs.Threading.{hung-next}
 use Rattle.mapper.proofs.Measuring.{walkable, net-nodes, measured-none}
 
-module _ (n : Netlist) (s d : ℕ) (first next : List ℕ) (end : ℕ) (r : Ready n s) (h : Chained n first next d end) (top : ℕ)
-    (counts : List ℕ) (f : Filled n d counts top) where
+module _ (n : Netlist) (s d top : ℕ) (counts : List ℕ) (r : Ready n s) (f : Filled n d counts top) where
   pub net-walkable : Walkable s counts top
-  net-walkable = walkable n first next end s d top counts h (r .low, r .high) f
+  net-walkable = walkable n s d top counts (r .source) (r .low, r .high) f
 
   -- after the walk the row holds the tree's buffers
   rowed : (after : List ℕ) (t : TreeTotals) (w : Walked s counts true after t) → d < n .size →
@@ -39,7 +38,7 @@ module _ (n : Netlist) (s d : ℕ) (first next : List ℕ) (end : ℕ) (r : Read
   rowed after t w ld (suc k) a b =
       w .at (suc k) a
       ∙ ap (λ (r : List ℕ). buffersAt s r (suc k)) (f .counted)
-      ∙ ap (up s) (sym (net-nodes n s d (suc (suc k)) (h .source) (pos n s r) ld))
+      ∙ ap (up s) (sym (net-nodes n s d (suc (suc k)) (r .source) (pos n s r) ld))
 
   pub net-grown : (after : List ℕ) (t : TreeTotals) → Walked s counts true after t → d < n .size → GrownNet n s d after top
   net-grown after t w ld =
@@ -49,7 +48,7 @@ module _ (n : Netlist) (s d : ℕ) (first next : List ℕ) (end : ℕ) (r : Read
         rowed = record { size = w .size; at = rowed after t w ld };
         near = f .near;
         beyond = λ k l.
-            net-nodes n s d k (h .source) (pos n s r) ld
+            net-nodes n s d k (r .source) (pos n s r) ld
             ∙ nodes-none s (drop k (row n d)) (pos n s r)
             (λ x.
             getD-drop k (row n d) x 0
@@ -77,12 +76,16 @@ sum-last f n = rw (add-one n) refl
 -- the net of d, by its sinks
 module _ (n : Netlist) (s d at : ℕ) (first next : List ℕ) (end : ℕ) (counts base area : List ℕ)
     (w : Writable n s d at first next end counts base area) where
-  wrote : (after : ℕ) (next′ counts′ base′ area′ : List ℕ) → after ≡ at + treeSize n s d → counts′ ≡ replicate (suc topLevel) 0 →
+  -- the next net begins where this one ends
+  next-start : at + treeSize n s d ≡ blockStart n s (d + 1)
+  next-start = omega (arith, w .start, sum-last (treeSize n s) d)
+
+  pub wrote : (after : ℕ) (next′ counts′ base′ area′ : List ℕ) → after ≡ blockStart n s (d + 1) → counts′ ≡ replicate (suc topLevel) 0 →
       length base′ ≡ suc topLevel → Hooked n d (onParent n s) next next′ → area′ ≡ withRecords (mapped n s) at (treeSize n s d) area →
       Wrote n s d at first next′ end counts′ base′ area area′ after
   wrote after next′ counts′ base′ area′ e c b k a =
       record {
-        start = omega (arith, w .start, sum-last (treeSize n s) d);
+        start = e;
         clear = c;
         room = b;
         hung = hung-next n s d first next next′ end (w .hung) k;
@@ -92,7 +95,7 @@ module _ (n : Netlist) (s d at : ℕ) (first next : List ℕ) (end : ℕ) (count
   -- without sinks it has no buffers, and no slot names d
   pub net-none : ((k : ℕ) → sinks n d k ≡ 0) → Wrote n s d at first next end counts base area area at
   net-none z =
-      wrote at next counts base area (omega (arith, none)) (w .clear) (w .room)
+      wrote at next counts base area (omega (arith, none, next-start)) (w .clear) (w .room)
       record { size = refl; at = λ y l c. absurd (unnamed y l c); others = λ y c. refl }
       (sym (ap (λ (c : ℕ). withRecords (mapped n s) at c area) (sym none) ∙ written-none (mapped n s) at 0 area))
     where
@@ -107,14 +110,11 @@ module _ (n : Netlist) (s d at : ℕ) (first next : List ℕ) (end : ℕ) (count
 
   -- of one or two it is a line
   module _ (top near : ℕ) (f : ShortChain n d top near) where
+    size : treeSize n s d ≡ top - 1
+    size = line-size n s d top near (w .ready .source) (w .ready .low) (w .driver) f
+
     inside : at + (top - 1) ≤ mappedSize n s
-    inside =
-        omega (
-          arith,
-          w .start,
-          line-size n s d top near (w .ready .source) (w .ready .low) (w .driver) f,
-          block-before (treeSize n s) d (n .size) (w .driver),
-        )
+    inside = omega (arith, w .start, size, block-before (treeSize n s) d (n .size) (w .driver))
 
     pub line-room : width * (at + (top - 1)) ≤ length area
     line-room = omega (arith, inside, w .long)
@@ -126,24 +126,17 @@ module _ (n : Netlist) (s d at : ℕ) (first next : List ℕ) (end : ℕ) (count
     line-levels low e = omega (arith, f .near, w .ready .source .levels d (w .driver))
 
     pub line-next : Fits w64 (at + (top - 1))
-    line-next = omega (arith, inside, w .ready .fits)
+    line-next = omega (arith, line-fits)
 
     pub net-line : (low : ℕ) (next′ area′ : List ℕ) → low ≡ n .at d .level → Hooked n d (onLine n d at) next next′ →
         area′ ≡ put area (width * at) (encoded (lineRecord d at low) (top - 1)) →
         Wrote n s d at first next′ end counts base area area′ (at + (top - 1))
     net-line low next′ area′ e k a =
         wrote (at + (top - 1)) next′ counts base area′
-        (omega (arith, line-size n s d top near (w .ready .source) (w .ready .low) (w .driver) f))
+        (omega (arith, size, next-start))
         (w .clear) (w .room)
         (line-hooked n s d top near (w .ready) (w .driver) f next next′ (subst (λ (x : ℕ). Hooked n d (onLine n d x) next next′) (w .start) k))
         (a ∙ rw (e, w .start) (line-written n s d top near (w .ready) (w .driver) f area))
-
-  -- of more it is a tree
-  pub net-tree : (after : ℕ) (next′ counts′ base′ area′ : List ℕ) → after ≡ blockStart n s (d + 1) → counts′ ≡ replicate (suc topLevel) 0 →
-      length base′ ≡ suc topLevel → Hooked n d (onParent n s) next next′ → area′ ≡ withRecords (mapped n s) at (treeSize n s d) area →
-      Wrote n s d at first next′ end counts′ base′ area area′ after
-  net-tree after next′ counts′ base′ area′ e c b k a =
-      wrote after next′ counts′ base′ area′ (omega (arith, w .start, sum-last (treeSize n s) d)) c b k a
 
 -- the nets of the drivers below d are written
 pub record Netting (n : Netlist) (s : ℕ) (first : List ℕ) (end : ℕ) (area₀ : List ℕ) (d at : ℕ) (next counts base area : List ℕ) : Type 0 where
@@ -197,14 +190,11 @@ module _ (n : Netlist) (s : ℕ) (first : List ℕ) (end : ℕ) (area₀ : List 
               w .bytes
               ∙ ap₂ (λ (xs : List ℕ) (i : ℕ). withRecords (mapped n s) i (treeSize n s d) xs) (h .bytes) (h .start)
               ∙ written-more (mapped n s) (n .size) (sum (treeSize n s) d) area₀ (treeSize n s d) (omega (arith, inside, h .start))
-              ∙ ap (λ (c : ℕ). withRecords (mapped n s) (n .size) c area₀) so-far;
+              ∙ ap (λ (c : ℕ). withRecords (mapped n s) (n .size) c area₀) (sum-last (treeSize n s) d);
         }
       where
         inside : at + treeSize n s d ≤ mappedSize n s
         inside = omega (arith, h .start, block-before (treeSize n s) d (n .size) (omega arith))
-
-        so-far : sum (treeSize n s) d + treeSize n s d ≡ sum (treeSize n s) (d + 1)
-        so-far = sum-last (treeSize n s) d
 
     pub nets-hung : N ≤ d → Hung n s first next (n .size) end
     nets-hung l = let e : d ≡ n .size = omega (arith, h .within) in subst (λ (x : ℕ). Hung n s first next x end) e (h .hung)

@@ -1,4 +1,4 @@
--- Laws of walking a row down in place: from distance k on the row holds the buffers, or nothing where it is drained.
+-- Laws of walking a row down in place: from distance k on the row holds the buffers, or nothing where they are not kept.
 use Prim.Native.Nat.{ℕ, suc, _+_, _-_, _*_, _≤_, _<_, _/_}
 use mathlib.Core.Path.{_≡_, refl, sym, _∙_, ap}
 use mathlib.Core.Bool.{Bool, true, false, cond}
@@ -8,14 +8,14 @@ use native.Mathlib.Nat.{mul-le-mul-right, mul-suc}
 use native.Mathlib.Decide.{decLt, ℕ-discrete}
 use mir.Val.{Fits}
 use mir.Syntax.{w32}
-use lib.ListN.{length, getD, drop, set, replicate, length-set, length-drop, length-replicate}
-use lib.Seq.{getD-set-same, getD-set-other, getD-drop, ext-getD}
+use lib.ListN.{length, getD, drop, set, replicate, length-set, length-drop}
+use lib.Seq.{getD-set-same, getD-set-other, getD-drop}
 use Rattle.netlist.specs.Kinds.{slots, topLevel, sourceLimit}
 use Rattle.fanout.specs.Nets.{up, nodes, buffers, nodesAt, buffersAt}
 use Rattle.fanout.proofs.Nets.{up-le, up-zero, nodes-at, buffers-from}
 use Rattle.mapper.specs.declared.trees.TreeTotals.{TreeTotals}
 use Rattle.mapper.specs.Chains.{Walkable, Walked}
-use Rattle.mapper.proofs.Lists.{getD-replicated}
+use Rattle.mapper.proofs.Lists.{zeros}
 use Rattle.mapper.proofs.Nodes.{nodes-none, buffers-none}
 
 -- at most half of the nodes, rounded up
@@ -151,10 +151,8 @@ module _ (s : ℕ) (counts : List ℕ) (top : ℕ) (w : Walkable s counts top) w
         last = omega (arith, h .from)
 
 -- a row whose buffers are not kept is all zero after the walk
-pub drained : (s : ℕ) (counts after : List ℕ) (t : TreeTotals) → Walked s counts false after t → after ≡ replicate (suc topLevel) 0
-drained s counts after t w =
-    ext-getD 0 after (replicate (suc topLevel) 0) (w .size ∙ sym (length-replicate {A = ℕ} (suc topLevel) 0))
-    (λ x m. at x (decLt 0 x) ∙ sym (getD-replicated (suc topLevel) x 0))
+pub walked-clear : (s : ℕ) (counts after : List ℕ) (t : TreeTotals) → Walked s counts false after t → after ≡ replicate (suc topLevel) 0
+walked-clear s counts after t w = zeros (suc topLevel) after (w .size) (λ x. at x (decLt 0 x))
   where
     at : (x : ℕ) → Dec (0 < x) → getD after x 0 ≡ 0
     at x (yes m) = w .at x (omega arith)

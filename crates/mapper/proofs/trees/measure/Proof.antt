@@ -2,7 +2,7 @@
 use Rattle.mapper.proofs.ShortChains.{no-sink, few-sinks, few-above, few-cast, few-fit}
 use Rattle.mapper.proofs.Lines.{measured-few}
 use Rattle.mapper.proofs.Measuring.{measured-none, walkable, measured}
-use Rattle.mapper.proofs.Walking.{drained}
+use Rattle.mapper.proofs.Walking.{walked-clear}
 use borrow.Author.Needs.{needs}
 use Rattle.mapper.proofs.trees.measure.Statement.{statement}
 use Rattle.mapper.proofs.trees.measure.Tie as tie
@@ -44,7 +44,7 @@ returns-2 : tie.Need-returns-2
 returns-2 c = (search (measured-few, few-sinks), search needs)
 
 returns-3 : tie.Need-returns-3
-returns-3 c = (search measured, search drained)
+returns-3 c = (search measured, search walked-clear)
 
 pub measure-spec : {M : Type 1} → statement M
 measure-spec =

@@ -1,5 +1,5 @@
 -- `write_tree` meets its contract: what each step leaves is what the next one asks.
-use Rattle.mapper.proofs.Netting.{net-stale, net-tree}
+use Rattle.mapper.proofs.Netting.{net-stale, wrote}
 use borrow.Author.Needs.{needs}
 use Rattle.mapper.proofs.writing.write_tree.Statement.{statement}
 use Rattle.mapper.proofs.writing.write_tree.Tie as tie
@@ -20,7 +20,7 @@ same-length : tie.Need-same-length
 same-length c = search needs
 
 returns : tie.Need-returns
-returns c = search net-tree
+returns c = search wrote
 
 pub write-tree-spec : {M : Type 1} → statement M
 write-tree-spec =
