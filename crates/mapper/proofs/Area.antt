@@ -79,15 +79,15 @@ unfolding encoded
 length-recs m i c = length-joined (λ k. encode (m .at (i + k))) width (λ k. length-encode (m .at (i + k))) c
 
 module _ (m : Netlist) (i c : ℕ) (area : List ℕ) where
-  pub written-length : width * (i + c) ≤ length area → length (withRecords m i c area) ≡ length area
-  written-length l = length-put area (width * i) (recs m i c) (omega (arith, length-recs m i c))
+  pub records-length : width * (i + c) ≤ length area → length (withRecords m i c area) ≡ length area
+  records-length l = length-put area (width * i) (recs m i c) (omega (arith, length-recs m i c))
 
-  pub written-none : withRecords m i 0 area ≡ area
+  pub records-none : withRecords m i 0 area ≡ area
   unfolding encoded joined
-  written-none = ap (λ (k : ℕ). take (width * i) area ++ drop k area) (add-zero (width * i)) ∙ take-append-drop (width * i) area
+  records-none = ap (λ (k : ℕ). take (width * i) area ++ drop k area) (add-zero (width * i)) ∙ take-append-drop (width * i) area
 
-  pub written-more : (k : ℕ) → width * (i + c) ≤ length area → withRecords m (i + c) k (withRecords m i c area) ≡ withRecords m i (c + k) area
-  written-more k l =
+  pub records-more : (k : ℕ) → width * (i + c) ≤ length area → withRecords m (i + c) k (withRecords m i c area) ≡ withRecords m i (c + k) area
+  records-more k l =
       ap (λ (x : ℕ). put (withRecords m i c area) x (recs m (i + c) k)) place
       ∙ put-behind area (width * i) (recs m i c) (recs m (i + c) k) (omega (arith, length-recs m i c))
       ∙ ap (put area (width * i)) (sym (recs-append m i c k))
@@ -96,9 +96,9 @@ module _ (m : Netlist) (i c : ℕ) (area : List ℕ) where
       place = omega (arith, length-recs m i c)
 
 -- all records, the last ones first
-pub written-all : (m : Netlist) (i c : ℕ) (area : List ℕ) → width * i ≤ length area → i + c ≡ m .size →
+pub records-all : (m : Netlist) (i c : ℕ) (area : List ℕ) → width * i ≤ length area → i + c ≡ m .size →
     withRecords m 0 i (withRecords m i c area) ≡ onto (bytesOf m) area
-written-all m i c area l e =
+records-all m i c area l e =
     put-before area 0 (recs m 0 i) (width * i) (recs m i c) (omega (arith, length-recs m 0 i)) l
     ∙ ap (put area 0) (ap (λ (k : ℕ). recs m 0 i ++ recs m k c) (sym (zero-add i)) ∙ sym (recs-append m 0 i c) ∙ ap (recs m 0) e)
     ∙ ap (λ (k : ℕ). bytesOf m ++ drop k area) (zero-add (length (bytesOf m)))

@@ -89,8 +89,8 @@ behind-far s (suc (suc k)) q base t l e = ap (λ (x : ℕ). base + x) e
 pub behind-fits : (s k q base t : ℕ) → 2 ≤ k → t ≡ q / s → base + behind s k q < 65536 → Fits w16 (base + t)
 behind-fits s k q base t l e b = omega (arith, behind-far s k q base t l e)
 
-pub share-fits : (s k q base t : ℕ) → 2 ≤ k → t ≡ q / s → base + behind s k q < 65536 → Fits w16 t
-share-fits s k q base t l e b = omega (arith, behind-far s k q base t l e)
+pub back-fits : (s k q base t : ℕ) → 2 ≤ k → t ≡ q / s → base + behind s k q < 65536 → Fits w16 t
+back-fits s k q base t l e b = omega (arith, behind-far s k q base t l e)
 
 -- buffer j of distance k: what it hangs on, and its record
 pub level-parent : (base s k n j : ℕ) → j < n → base + n < 65536 → base + behind s k j < 65536

@@ -18,7 +18,7 @@ use Rattle.mapper.specs.declared.trees.TreeTotals.{TreeTotals}
 use Rattle.mapper.specs.Bytes.{encoded, put, withRecords}
 use Rattle.mapper.specs.Mapped.{buffersOf, treeSize, blockStart, mappedSize, mapped, Ready}
 use Rattle.mapper.specs.Chains.{slotEnd, namesSlot, slotDistance, Filled, Walkable, Walked, Stale, ShortChain, GrownNet, Hung, Hooked, onParent, onLine, lineRecord, Noded, Writable, Wrote}
-use Rattle.mapper.proofs.Area.{written-none, written-more, written-length}
+use Rattle.mapper.proofs.Area.{records-none, records-more, records-length}
 use Rattle.facts.proofs.Blocks.{block-before}
 use Rattle.mapper.proofs.Nodes.{pos, nodes-none}
 use Rattle.mapper.proofs.Hanging.{named-sink}
@@ -97,7 +97,7 @@ module _ (n : Netlist) (s d at : ℕ) (first next : List ℕ) (end : ℕ) (count
   net-none z =
       wrote at next counts base area (omega (arith, none, next-start)) (w .clear) (w .room)
       record { size = refl; at = λ y l c. absurd (unnamed y l c); others = λ y c. refl }
-      (sym (ap (λ (c : ℕ). withRecords (mapped n s) at c area) (sym none) ∙ written-none (mapped n s) at 0 area))
+      (sym (ap (λ (c : ℕ). withRecords (mapped n s) at c area) (sym none) ∙ records-none (mapped n s) at 0 area))
     where
       none : 0 ≡ treeSize n s d
       none = measured-none n s d (w .ready .source) (w .ready .low, w .ready .high) (w .driver) z .buffers
@@ -160,7 +160,7 @@ module _ (n : Netlist) (s : ℕ) (first : List ℕ) (end : ℕ) (area₀ : List 
         room = b;
         hung = h;
         long = refl;
-        bytes = sym (written-none (mapped n s) (n .size) 0 area₀);
+        bytes = sym (records-none (mapped n s) (n .size) 0 area₀);
       }
 
   module _ (d at N : ℕ) (next counts base area : List ℕ) (h : Netting n s first end area₀ d at next counts base area) (size : N ≡ n .size) where
@@ -185,11 +185,11 @@ module _ (n : Netlist) (s : ℕ) (first : List ℕ) (end : ℕ) (area₀ : List 
           clear = w .clear;
           room = w .room;
           hung = w .hung;
-          long = ap length (w .bytes) ∙ written-length (mapped n s) at (treeSize n s d) area (omega (arith, inside, h .long)) ∙ h .long;
+          long = ap length (w .bytes) ∙ records-length (mapped n s) at (treeSize n s d) area (omega (arith, inside, h .long)) ∙ h .long;
           bytes =
               w .bytes
               ∙ ap₂ (λ (xs : List ℕ) (i : ℕ). withRecords (mapped n s) i (treeSize n s d) xs) (h .bytes) (h .start)
-              ∙ written-more (mapped n s) (n .size) (sum (treeSize n s) d) area₀ (treeSize n s d) (omega (arith, inside, h .start))
+              ∙ records-more (mapped n s) (n .size) (sum (treeSize n s) d) area₀ (treeSize n s d) (omega (arith, inside, h .start))
               ∙ ap (λ (c : ℕ). withRecords (mapped n s) (n .size) c area₀) (sum-last (treeSize n s) d);
         }
       where

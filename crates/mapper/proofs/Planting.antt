@@ -22,7 +22,7 @@ use Rattle.mapper.specs.Chains.{behind, levelRecord, GrownNet, Based}
 use Rattle.facts.proofs.Blocks.{block-before}
 use Rattle.mapper.proofs.Mapped.{tree-sum, at-place}
 use Rattle.mapper.proofs.Nodes.{pos}
-use Rattle.mapper.proofs.Area.{encoded-cong, written-none, written-more, written-length}
+use Rattle.mapper.proofs.Area.{encoded-cong, records-none, records-more, records-length}
 
 -- what node q hangs on, from what the first node of its distance hangs on
 pub parent-from : (n : Netlist) (s d k q : ℕ) → parent n s d k q ≡ parent n s d k 0 + behind s k q
@@ -87,7 +87,7 @@ module _ (n : Netlist) (s d start top : ℕ) (counts area₀ : List ℕ) (h : Gr
         size = b;
         based = λ x l m. absurd (omega arith);
         long = refl;
-        bytes = sym (ap (λ (c : ℕ). withRecords (mapped n s) start c area₀) at-one ∙ written-none (mapped n s) start 0 area₀);
+        bytes = sym (ap (λ (c : ℕ). withRecords (mapped n s) start c area₀) at-one ∙ records-none (mapped n s) start 0 area₀);
       }
 
   pub plant-driver : Fits w16 d
@@ -147,12 +147,12 @@ module _ (n : Netlist) (s d start top : ℕ) (counts area₀ : List ℕ) (h : Gr
             long =
                 ap length g
                 ∙ ap (λ (l : List ℕ). length (put area (width * at) l)) level-bytes
-                ∙ written-length (mapped n s) at (getD counts k 0) area plant-room ∙ p .long;
+                ∙ records-length (mapped n s) at (getD counts k 0) area plant-room ∙ p .long;
             bytes =
                 g
                 ∙ ap (put area (width * at)) level-bytes
                 ∙ ap₂ (λ (xs : List ℕ) (i : ℕ). withRecords (mapped n s) i (getD counts k 0) xs) (p .bytes) (p .here)
-                ∙ written-more (mapped n s) start (sum (buffersOf n s d) k) area₀ (getD counts k 0) (omega (arith, ends, p .here))
+                ∙ records-more (mapped n s) start (sum (buffersOf n s d) k) area₀ (getD counts k 0) (omega (arith, ends, p .here))
                 ∙ ap (λ (c : ℕ). withRecords (mapped n s) start c area₀) so-far;
           }
         where

@@ -14,7 +14,7 @@ use Rattle.mapper.specs.Mapped.{bufferTotal, mappedSize, sinkParent, rew
 use Rattle.mapper.specs.Chains.{Hung, relinkedAt}
 use Rattle.mapper.proofs.Mapped.{at-source}
 use Rattle.mapper.proofs.Nodes.{pos}
-use Rattle.mapper.proofs.Area.{written-all, encoded-cong}
+use Rattle.mapper.proofs.Area.{records-all, encoded-cong}
 
 tabulate-cong : (f g : ℕ → ℕ) (n : ℕ) → ((i : ℕ) → i < n → f i ≡ g i) → tabulate f n ≡ tabulate g n
 tabulate-cong f g zero h = refl
@@ -62,7 +62,7 @@ module _ (bytes : List ℕ) (s : ℕ) (first parents : List ℕ) (end : ℕ) (r 
       ∙ ap (put area₁ 0)
       (encoded-cong _ _ (netlist bytes .size) (λ i l. new-record i l ∙ ap (mappedAt (netlist bytes) s) (from-zero i)))
       ∙ ap (withRecords (mapped (netlist bytes) s) 0 (netlist bytes .size)) f
-      ∙ written-all (mapped (netlist bytes) s) (netlist bytes .size) (bufferTotal (netlist bytes) s) area₀ (omega arith) refl
+      ∙ records-all (mapped (netlist bytes) s) (netlist bytes .size) (bufferTotal (netlist bytes) s) area₀ (omega arith) refl
     where
       from-zero : (i : ℕ) → i ≡ 0 + i
       from-zero i = omega arith

@@ -1,6 +1,6 @@
 -- `parent_of` meets its contract: at distance 1 the first parent itself, else q / s behind it.
 use borrow.Author.Needs.{needs}
-use Rattle.mapper.proofs.Joining.{behind-near, behind-far, behind-fits, share-fits}
+use Rattle.mapper.proofs.Joining.{behind-near, behind-far, behind-fits, back-fits}
 use Rattle.mapper.proofs.writing.parent_of.Statement.{statement}
 use Rattle.mapper.proofs.writing.parent_of.Tie as tie
 
@@ -8,7 +8,7 @@ divide-requires : tie.Need-divide-requires
 divide-requires c κs = search needs
 
 cast-result : tie.Need-cast-result
-cast-result c = search share-fits
+cast-result c = search back-fits
 
 add-result : tie.Need-add-result
 add-result c = search behind-fits
