@@ -8,7 +8,7 @@ use native.Mathlib.Nat.{mul-zero, mul-suc, mul-add, add-zero, add-suc, add-sub-o
 use native.Mathlib.Decide.{decLt}
 use native.Mathlib.Numerals.{add-one}
 use lib.Dec.{eqb}
-use borrow.Author.Tests.{eq-eqb, eqb-true}
+use borrow.Author.Tests.{eq-eqb, ne-eqb, eqb-true}
 use Rattle.facts.proofs.Bools.{and-l, and-r, or-l, or-r, true-false, not-true}
 use Rattle.facts.specs.Sums.{bit, sum, count, count₂, any}
 
@@ -67,6 +67,11 @@ unfolding sum
 sum-first f zero = omega arith
 sum-first f (suc n) = omega (arith, sum-first f n)
 
+-- one more term
+pub sum-last : (f : ℕ → ℕ) (n : ℕ) → sum f n + f n ≡ sum f (n + 1)
+unfolding sum
+sum-last f n = rw (add-one n) refl
+
 -- a sum of zeros
 pub sum-none : (f : ℕ → ℕ) (n : ℕ) → ((i : ℕ) → i < n → f i ≡ 0) → sum f n ≡ 0
 sum-none f n h = sum-cong f (λ i. 0) n h ∙ sum-zero n
@@ -116,6 +121,12 @@ count-cong p q n h = sum-cong _ _ n (λ i l. ap bit (h i l))
 pub bit-le : (a : Bool) → bit a ≤ 1
 bit-le true = omega arith
 bit-le false = omega arith
+
+pub bit-same : (a b : ℕ) → a ≡ b → bit (eqb a b) ≡ 1
+bit-same a b e = ap bit (eq-eqb a b e)
+
+pub bit-other : (a b : ℕ) → (a ≡ b → ⊥) → bit (eqb a b) ≡ 0
+bit-other a b h = ap bit (ne-eqb a b h)
 
 bit-none : (a : Bool) → (a ≡ true → ⊥) → bit a ≡ 0
 bit-none true h = absurd (h refl)

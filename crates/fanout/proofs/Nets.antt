@@ -1,13 +1,15 @@
--- Laws of one net's counts: rounding up, nodes and buffers per distance, their minimality, and the row's entries.
+-- Laws of one net's counts: rounding up, nodes and buffers per distance, their minimality, lines, and the row's entries.
 use Prim.Native.Nat.{ℕ, zero, suc, _+_, _*_, _-_, _≤_, _<_, _/_}
 use mathlib.Core.Path.{_≡_, refl, ap}
-use mathlib.Core.List.{List}
+use mathlib.Core.List.{List, [], _∷_}
 use native.Mathlib.Omega.{arith}
 use native.Mathlib.Nat.{mul-comm, mul-suc, div-lt-iff-lt-mul, lt-div-mul-add}
 use native.Mathlib.Decide.{decLt}
 use lib.ListN.{length, getD, drop, drop-of-length-le, List·getD-eq-default}
-use lib.Seq.{drop-cons}
-use Rattle.facts.specs.Sums.{sum}
+use lib.Seq.{drop-cons, getD-drop}
+use lib.Dec.{ltb}
+use borrow.Author.Tests.{lt-ltb, le-ltb}
+use Rattle.facts.specs.Sums.{bit, sum}
 use Rattle.netlist.specs.Kinds.{topLevel}
 use Rattle.netlist.proofs.Lists.{length-tabulate, getD-tabulate}
 use Rattle.netlist.specs.Records.{Netlist}
@@ -100,6 +102,56 @@ module _ (s : ℕ) (r : List ℕ) (B : ℕ → ℕ) (h : 0 < s)
 
   pub minimal-nodes : nodesAt s r 1 ≤ B 1 + getD r 1 0
   minimal-nodes = omega (arith, nodes-at s r 1 h, minimal 1 (omega arith))
+
+-- a row with a sink has a node
+nodes-some : (s : ℕ) (r : List ℕ) (x : ℕ) → 0 < s → 0 < getD r x 0 → 0 < nodes s r
+unfolding nodes
+nodes-some s [] x p l = absurd (omega (arith, List·getD-eq-default {A = ℕ} [] 0 {n = x} (omega arith)))
+nodes-some s (c ∷ r) zero p l = omega arith
+nodes-some s (c ∷ r) (suc x) p l = omega (arith, div-up s 0 (nodes s r) p (nodes-some s r x p l))
+
+-- a row whose farthest sinks, at most two, stand at distance top, and at most one sink at each distance below
+module _ (s : ℕ) (r : List ℕ) (top : ℕ) (two : 2 ≤ s) (farthest : 0 < getD r top 0) (few : getD r top 0 ≤ 2)
+    (nearer : (k : ℕ) → k < top → getD r k 0 ≤ 1) (beyond : (k : ℕ) → top < k → getD r k 0 ≡ 0) where
+  positive : 0 < s
+  positive = omega arith
+
+  -- one buffer carries the buffer and the sinks one level further on
+  carries : (k : ℕ) → 1 ≤ k → bit (ltb (suc k) top) + getD r (suc k) 0 ≤ s * bit (ltb k top)
+  carries k a = elim (decLt k top) [ yes l ↦ below l (decLt (suc k) top) | no l ↦ none l ]
+    where
+      below : k < top → Dec (suc k < top) → bit (ltb (suc k) top) + getD r (suc k) 0 ≤ s * bit (ltb k top)
+      below l (yes b) = rw (lt-ltb k top l, lt-ltb (suc k) top b) (omega (arith, nearer (suc k) b))
+      below l (no b) =
+          let e : suc k ≡ top = omega arith in
+          rw (lt-ltb k top l, le-ltb (suc k) top (omega arith)) (omega (arith, ap (λ (x : ℕ). getD r x 0) e))
+
+      none : (k < top → ⊥) → bit (ltb (suc k) top) + getD r (suc k) 0 ≤ s * bit (ltb k top)
+      none l = rw (le-ltb k top (omega arith), le-ltb (suc k) top (omega arith)) (omega (arith, beyond (suc k) (omega arith)))
+
+  -- has one buffer at each distance below top
+  pub line-row : (k : ℕ) → 1 ≤ k → buffersAt s r k ≡ bit (ltb k top)
+  line-row k a = elim (decLt k top) [ yes l ↦ one l | no l ↦ none l ]
+    where
+      most : buffersAt s r k ≤ bit (ltb k top)
+      most = minimal s r (λ k. bit (ltb k top)) positive carries k a
+
+      back : k < top → suc k + (top - suc k) ≡ top
+      back l = omega arith
+
+      one : k < top → buffersAt s r k ≡ bit (ltb k top)
+      one l =
+          rw (lt-ltb k top l)
+          (omega (
+            arith,
+            rw (lt-ltb k top l) at most,
+            div-up s 0 (nodesAt s r (suc k)) positive
+                (nodes-some s (drop (suc k) r) (top - suc k) positive
+                (omega (arith, getD-drop (suc k) r (top - suc k) 0, ap (λ (x : ℕ). getD r x 0) (back l)))),
+          ))
+
+      none : (k < top → ⊥) → buffersAt s r k ≡ bit (ltb k top)
+      none l = rw (le-ltb k top (omega arith)) (omega (arith, rw (le-ltb k top (omega arith)) at most))
 
 pub row-length : (m : Netlist) (d : ℕ) → length (row m d) ≡ suc topLevel
 unfolding row

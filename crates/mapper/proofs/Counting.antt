@@ -4,7 +4,6 @@ use mathlib.Core.Path.{_≡_, refl, sym, _∙_, ap}
 use mathlib.Core.Bool.{Bool, not}
 use mathlib.Core.List.{List}
 use native.Mathlib.Omega.{arith}
-use native.Mathlib.Numerals.{add-one}
 use mir.Val.{Fits}
 use mir.Syntax.{w64}
 use lib.ListN.{drop, replicate, length-drop}
@@ -14,7 +13,7 @@ use Rattle.facts.specs.declared.Checked.{Checked}
 use Rattle.facts.specs.declared.Checked.the-variants.{Passed, Refused}
 use Rattle.facts.specs.Checks.{check}
 use Rattle.facts.specs.Sums.{sum}
-use Rattle.facts.proofs.Sums.{sum-mono, sum-const}
+use Rattle.facts.proofs.Sums.{sum-mono, sum-const, sum-last}
 use Rattle.facts.proofs.Loops.{Scanning, scan-start, scan-more, scan-stop, scan-end}
 use Rattle.netlist.specs.Kinds.{slots, topLevel, sourceLimit}
 use Rattle.netlist.specs.Records.{Netlist}
@@ -89,13 +88,12 @@ module _ (n : Netlist) (s : ℕ) where
 
       pub count-more : (after : List ℕ) → after ≡ replicate (suc topLevel) 0 → t .nodes ≤ driverCapacity →
           Counting n s m after (total + t .buffers) (d + 1)
-      unfolding sum
       count-more after e f =
           record {
             checks =
                 scan-more (treeCheck n s) m d (treeCheck n s d) (h .checks) (omega arith) refl
                 (ap (λ (b : Bool). check 8 d (not b)) (le-leb (nodesAt s (netRow n d) 1) driverCapacity (omega (arith, g .nodes))));
-            before = rw (add-one d) (omega (arith, h .before, g .buffers));
+            before = omega (arith, h .before, g .buffers, sum-last (treeSize n s) d);
             small = omega (arith, h .small, g .buffers, tree-small d (chained .source) (c .0) (omega arith));
             clear = e;
           }

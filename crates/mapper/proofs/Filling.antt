@@ -1,22 +1,20 @@
 -- Laws of filling a row along the chain of one driver: every sink below slot p is counted.
 use Prim.Native.Nat.{ℕ, suc, _+_, _-_, _≤_, _<_, _/_, max}
-use mathlib.Core.Path.{_≡_, refl, sym, _∙_, ap}
+use mathlib.Core.Path.{_≡_, sym, _∙_, ap}
 use mathlib.Core.List.{List}
 use native.Mathlib.Omega.{arith}
-use native.Mathlib.Decide.{ℕ-discrete}
 use mir.Val.{Fits}
 use mir.Syntax.{w32}
 use lib.ListN.{length, getD, set, replicate, length-set, length-replicate}
-use lib.Seq.{getD-set-same, getD-set-other, ext-getD}
-use lib.Dec.{eqb}
-use Rattle.facts.specs.Sums.{bit}
+use lib.Seq.{getD-set-other, ext-getD}
 use Rattle.netlist.specs.Kinds.{slots, topLevel}
 use Rattle.netlist.specs.Records.{Netlist}
 use Rattle.fanout.specs.Nets.{row}
 use Rattle.fanout.proofs.Nets.{row-length, row-at}
+use Rattle.fanout.proofs.Rows.{added-at}
 use Rattle.mapper.specs.Chains.{nextSink, Above, slotDistance, sinksBelow, Chained, Filled}
 use Rattle.mapper.proofs.Lists.{getD-replicated}
-use Rattle.mapper.proofs.Following.{bit-same, bit-other, sinks-below, OnChain, chain-start, chain-none, chain-all, chain-inside, chain-above, chain-near, chain-next, chain-on, chain-less, chain-count, distance-is}
+use Rattle.mapper.proofs.Following.{sinks-below, OnChain, chain-start, chain-none, chain-all, chain-inside, chain-above, chain-near, chain-next, chain-on, chain-less, chain-count, distance-is}
 
 -- every sink of d below slot p is counted, and none further than top
 pub record Filling (n : Netlist) (d p : ℕ) (counts : List ℕ) (top : ℕ) : Type 0 where
@@ -68,21 +66,19 @@ module _ (n : Netlist) (first next : List ℕ) (end d : ℕ) (h : Chained n firs
             record {
               chain = chain-on n first next end d h p (f .chain) l q next-is;
               size = length-set counts a _ ∙ f .size;
-              counted = λ k b. at k b (ℕ-discrete k a) ∙ sym (chain-count n first next end d h p (f .chain) l q next-is a k e);
+              counted = λ k b.
+                  omega (
+                    arith,
+                    added-at counts a k (omega (arith, f .size, fill-near)),
+                    f .counted k b,
+                    chain-count n first next end d h p (f .chain) l q next-is a k e,
+                  );
               near = omega (arith, f .near, fill-near);
               beyond = λ k b. getD-set-other counts a k _ 0 (λ x. omega arith) ∙ f .beyond k (omega arith);
             }
           where
             next-is : q ≡ nextSink n d (suc p)
             next-is = chain-next n first next end d h p (f .chain) l q g
-
-            at : (k : ℕ) → k ≤ topLevel → Dec (k ≡ a) → getD (set counts a (getD counts a 0 + 1)) k 0 ≡ sinksBelow n d k p + bit (eqb a k)
-            at k b (yes x) =
-                rw x
-                (getD-set-same counts a _ 0 (omega (arith, f .size, fill-near))
-                ∙ omega (arith, f .counted a (omega (arith, fill-near)), bit-same a a refl))
-            at k b (no x) =
-                getD-set-other counts a k _ 0 x ∙ omega (arith, f .counted k b, bit-other a k (λ y. x (sym y)))
 
     pub fill-less : (q : ℕ) → p < end → q ≡ getD next p 0 → end - q < end - p
     fill-less q l g = chain-less n first next end d h p (f .chain) l q (chain-next n first next end d h p (f .chain) l q g)

@@ -18,12 +18,6 @@ use Rattle.fanout.specs.Nets.{sinks, sinkAt}
 use Rattle.mapper.specs.Chains.{slotEnd, usedSlot, faninSlot, namesSlot, nextSink, Above, slotDistance, sinksBelow, Chained}
 use Rattle.mapper.proofs.Chains.{next-within, next-names, next-count}
 
-pub bit-same : (a k : ℕ) → a ≡ k → bit (eqb a k) ≡ 1
-bit-same a k e = ap bit (eq-eqb a k e)
-
-pub bit-other : (a k : ℕ) → (a ≡ k → ⊥) → bit (eqb a k) ≡ 0
-bit-other a k e = ap bit (ne-eqb a k e)
-
 -- all sinks stand below the end
 pub sinks-all : (n : Netlist) (d k : ℕ) → sinksBelow n d k (slotEnd n) ≡ sinks n d k
 unfolding sinksBelow sinks

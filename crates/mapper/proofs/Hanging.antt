@@ -4,25 +4,23 @@ use mathlib.Core.Path.{_≡_, refl, sym, _∙_, ap, ap₂, subst}
 use mathlib.Core.Bool.{Bool, true}
 use mathlib.Core.List.{List}
 use native.Mathlib.Omega.{arith}
-use native.Mathlib.Decide.{ℕ-discrete}
 use mir.Val.{Fits}
 use mir.Syntax.{w32}
 use lib.ListN.{length, getD, set, length-set}
-use lib.Seq.{getD-set-same, getD-set-other}
 use borrow.Author.Tests.{ltb-true, eqb-true}
-use lib.Dec.{eqb}
-use Rattle.facts.specs.Sums.{bit, count}
+use Rattle.facts.specs.Sums.{count}
 use Rattle.facts.proofs.Bools.{and-l, and-r}
-use Rattle.facts.proofs.Sums.{count-append, count-cong, count₂-flat}
+use Rattle.facts.proofs.Sums.{bit-same, count-append, count-cong, count₂-flat}
 use Rattle.netlist.specs.Kinds.{slots, topLevel, arity}
 use Rattle.netlist.specs.Records.{Netlist}
 use Rattle.fanout.specs.Nets.{sinks, sinkAt, nodesAt}
+use Rattle.fanout.proofs.Rows.{added-at}
 use Rattle.mapper.specs.Mapped.{netRow, buffersOf, treeSize, parent, rank, sinkNumber, sinkParent, Ready}
 use Rattle.mapper.specs.Chains.{slotEnd, usedSlot, faninSlot, namesSlot, nextSink, Above, slotDistance, sinksBelow, behind, Hooked, onParent, Hangable, Noded}
 use Rattle.facts.proofs.Blocks.{block-before}
 use Rattle.mapper.proofs.Mapped.{tree-sum}
 use Rattle.mapper.proofs.Nodes.{pos, IsNode, nodes-split, source-node, parent-inside}
-use Rattle.mapper.proofs.Following.{bit-same, bit-other, sinks-all, sinks-below, sinks-rise, sinks-more, named-above, distance-is, chain-none, chain-all, chain-inside, chain-names, chain-above, chain-apart, chain-near, chain-count}
+use Rattle.mapper.proofs.Following.{sinks-all, sinks-below, sinks-rise, sinks-more, named-above, distance-is, chain-none, chain-all, chain-inside, chain-names, chain-above, chain-apart, chain-near, chain-count}
 use Rattle.mapper.proofs.Planting.{parent-from}
 use Rattle.mapper.proofs.Threading.{Threading, thread-start, thread-next, thread-less, thread-more, thread-end}
 
@@ -172,20 +170,16 @@ module _ (n : Netlist) (s d : ℕ) (first before : List ℕ) (end : ℕ) (counts
                   thread-more n first before end d (h .hung .chained) (onParent n s) p next (f .threading) l q e t (g ∙ sym hangs-on);
               size = length-set counts k _ ∙ f .size;
               counted = λ x a b.
-                  at x a b (ℕ-discrete x k)
-                  ∙ omega (arith, chain-count n first before end d (h .hung .chained) p (f .threading .chain) l q next-is k x ek);
+                  omega (
+                    arith,
+                    added-at counts k x (omega (arith, f .size, hang-near)),
+                    f .counted x a b,
+                    chain-count n first before end d (h .hung .chained) p (f .threading .chain) l q next-is k x ek,
+                  );
             }
           where
             next-is : q ≡ nextSink n d (suc p)
             next-is = thread-next n first before end d (h .hung .chained) (onParent n s) p next (f .threading) l q e
-
-            at : (x : ℕ) → 1 ≤ x → x ≤ topLevel → Dec (x ≡ k) →
-                getD (set counts k (getD counts k 0 + 1)) x 0 ≡ buffersOf n s d x + sinksBelow n d x p + bit (eqb k x)
-            at x a b (yes y) =
-                rw y
-                (getD-set-same counts k _ 0 (omega (arith, f .size, hang-near)) ∙ omega (arith, number-is, bit-same k k refl))
-            at x a b (no y) =
-                getD-set-other counts k x _ 0 y ∙ omega (arith, f .counted x a b, bit-other k x (λ z. y (sym z)))
 
     pub hang-hooked : end ≤ p → Hooked n d (onParent n s) before next
     hang-hooked l = thread-end n first before end d (h .hung .chained) (onParent n s) p next (f .threading) l

@@ -1,11 +1,9 @@
 -- Laws of nets of one or two sinks: their tree is a line, with one buffer at each distance below the largest.
 use Prim.Native.Nat.{ℕ, zero, suc, _+_, _-_, _*_, _≤_, _<_, _/_}
 use mathlib.Core.Path.{_≡_, refl, sym, _∙_, ap}
-use mathlib.Core.List.{List, [], _∷_}
+use mathlib.Core.List.{List}
 use native.Mathlib.Omega.{arith}
 use native.Mathlib.Decide.{decLt}
-use lib.ListN.{getD, drop, List·getD-eq-default}
-use lib.Seq.{getD-drop}
 use lib.Dec.{ltb}
 use borrow.Author.Tests.{lt-ltb, le-ltb, ltb-true}
 use Rattle.facts.specs.Sums.{bit, sum, count}
@@ -13,8 +11,8 @@ use Rattle.facts.proofs.Sums.{sum-cong, sum-first, count-all, count-stop}
 use Rattle.netlist.specs.Kinds.{width, topLevel}
 use Rattle.netlist.specs.Records.{Netlist}
 use Rattle.netlist.specs.Source.{IsSource}
-use Rattle.fanout.specs.Nets.{row, sinks, up, nodes, nodesAt, buffersAt}
-use Rattle.fanout.proofs.Nets.{div-up, nodes-at, row-at, minimal}
+use Rattle.fanout.specs.Nets.{row, sinks, up, nodes, buffersAt}
+use Rattle.fanout.proofs.Nets.{nodes-at, line-row, row-at}
 use Rattle.mapper.specs.Bytes.{encoded, put, withRecords}
 use Rattle.mapper.specs.Mapped.{buffersOf, treeSize, blockStart, place, parent, bufferOf, bufferRecord, mappedAt, mapped, Ready}
 use Rattle.mapper.specs.Chains.{slotDistance, ShortChain, Measured, lineParent, lineRecord, Hooked, onParent, onLine}
@@ -24,59 +22,10 @@ use Rattle.mapper.proofs.Nodes.{pos, IsNode, hangs, buffer-node}
 use Rattle.mapper.proofs.Measuring.{row-none, net-nodes}
 use Rattle.mapper.proofs.Hanging.{sink-node, sink-parent, flatNumbered}
 
--- a row with a sink has a node
-nodes-some : (s : ℕ) (r : List ℕ) (x : ℕ) → 0 < s → 0 < getD r x 0 → 0 < nodes s r
-unfolding nodes
-nodes-some s [] x p l = absurd (omega (arith, List·getD-eq-default {A = ℕ} [] 0 {n = x} (omega arith)))
-nodes-some s (c ∷ r) zero p l = omega arith
-nodes-some s (c ∷ r) (suc x) p l = omega (arith, div-up s 0 (nodes s r) p (nodes-some s r x p l))
-
--- a row whose farthest sinks, at most two, stand at distance top, and at most one sink at each distance below
-module _ (s : ℕ) (r : List ℕ) (top : ℕ) (two : 2 ≤ s) (farthest : 0 < getD r top 0) (few : getD r top 0 ≤ 2)
-    (nearer : (k : ℕ) → k < top → getD r k 0 ≤ 1) (beyond : (k : ℕ) → top < k → getD r k 0 ≡ 0) where
-  some : 0 < s
-  some = omega arith
-
-  -- one buffer carries the buffer and the sinks one level further on
-  carries : (k : ℕ) → 1 ≤ k → bit (ltb (suc k) top) + getD r (suc k) 0 ≤ s * bit (ltb k top)
-  carries k a = elim (decLt k top) [ yes l ↦ below l (decLt (suc k) top) | no l ↦ none l ]
-    where
-      below : k < top → Dec (suc k < top) → bit (ltb (suc k) top) + getD r (suc k) 0 ≤ s * bit (ltb k top)
-      below l (yes b) = rw (lt-ltb k top l, lt-ltb (suc k) top b) (omega (arith, nearer (suc k) b))
-      below l (no b) =
-          let e : suc k ≡ top = omega arith in
-          rw (lt-ltb k top l, le-ltb (suc k) top (omega arith)) (omega (arith, ap (λ (x : ℕ). getD r x 0) e))
-
-      none : (k < top → ⊥) → bit (ltb (suc k) top) + getD r (suc k) 0 ≤ s * bit (ltb k top)
-      none l = rw (le-ltb k top (omega arith), le-ltb (suc k) top (omega arith)) (omega (arith, beyond (suc k) (omega arith)))
-
-  line-row : (k : ℕ) → 1 ≤ k → buffersAt s r k ≡ bit (ltb k top)
-  line-row k a = elim (decLt k top) [ yes l ↦ one l | no l ↦ none l ]
-    where
-      most : buffersAt s r k ≤ bit (ltb k top)
-      most = minimal s r (λ k. bit (ltb k top)) some carries k a
-
-      back : k < top → suc k + (top - suc k) ≡ top
-      back l = omega arith
-
-      one : k < top → buffersAt s r k ≡ bit (ltb k top)
-      one l =
-          rw (lt-ltb k top l)
-          (omega (
-            arith,
-            rw (lt-ltb k top l) at most,
-            div-up s 0 (nodesAt s r (suc k)) some
-                (nodes-some s (drop (suc k) r) (top - suc k) some
-                (omega (arith, getD-drop (suc k) r (top - suc k) 0, ap (λ (x : ℕ). getD r x 0) (back l)))),
-          ))
-
-      none : (k < top → ⊥) → buffersAt s r k ≡ bit (ltb k top)
-      none l = rw (le-ltb k top (omega arith)) (omega (arith, rw (le-ltb k top (omega arith)) at most))
-
 -- d's net of one or two sinks
 module _ (n : Netlist) (s d top near : ℕ) (i : IsSource n) (two : 2 ≤ s) (ld : d < n .size) (h : ShortChain n d top near) where
-  low : 0 < s
-  low = omega arith
+  positive : 0 < s
+  positive = omega arith
 
   row-line : (k : ℕ) → 1 ≤ k → buffersAt s (row n d) k ≡ bit (ltb k top)
   row-line =
@@ -88,7 +37,7 @@ module _ (n : Netlist) (s d top near : ℕ) (i : IsSource n) (two : 2 ≤ s) (ld
 
   line-at : (k : ℕ) → buffersOf n s d (suc k) ≡ bit (ltb (suc k) top)
   unfolding buffersOf
-  line-at k = ap (up s) (net-nodes n s d (suc (suc k)) i low ld) ∙ row-line (suc k) (omega arith)
+  line-at k = ap (up s) (net-nodes n s d (suc (suc k)) i positive ld) ∙ row-line (suc k) (omega arith)
 
   -- buffers nearer than distance suc k
   line-sum : (k : ℕ) → sum (buffersOf n s d) (suc k) ≡ count (λ x. ltb (suc x) top) k
@@ -105,7 +54,7 @@ module _ (n : Netlist) (s d top near : ℕ) (i : IsSource n) (two : 2 ≤ s) (ld
 
   pub line-size : treeSize n s d ≡ top - 1
   line-size =
-      tree-sum n s low d
+      tree-sum n s positive d
       ∙ line-sum topLevel
       ∙ count-stop (λ x. ltb (suc x) top) (top - 1) topLevel (omega (arith, h .near))
       (λ x a b. omega (arith, ltb-true (suc x) top b))
@@ -119,9 +68,9 @@ module _ (n : Netlist) (s d top near : ℕ) (i : IsSource n) (two : 2 ≤ s) (ld
               arith,
               h .ones,
               row-line 1 (omega arith),
-              nodes-at s (row n d) 1 low,
+              nodes-at s (row n d) 1 positive,
               row-at n d 1 (omega arith),
-              net-nodes n s d 1 i low ld,
+              net-nodes n s d 1 i positive ld,
             );
         buffers = sym line-size;
       }

@@ -4,13 +4,13 @@ use mathlib.Core.Path.{_≡_, refl, sym, _∙_, ap, ap₂, subst}
 use mathlib.Core.Bool.{true}
 use mathlib.Core.List.{List}
 use native.Mathlib.Omega.{arith}
-use native.Mathlib.Numerals.{add-one}
 use native.Mathlib.Decide.{decLt}
 use mir.Val.{Fits}
 use mir.Syntax.{w64}
 use lib.ListN.{length, getD, drop, replicate, List·getD-eq-default}
 use lib.Seq.{getD-drop}
 use Rattle.facts.specs.Sums.{sum}
+use Rattle.facts.proofs.Sums.{sum-last}
 use Rattle.netlist.specs.Kinds.{width, topLevel, mappedLimit}
 use Rattle.netlist.specs.Records.{Netlist}
 use Rattle.fanout.specs.Nets.{row, sinks, up, buffersAt}
@@ -68,10 +68,6 @@ module _ (n : Netlist) (s d top : ℕ) (counts : List ℕ) (g : GrownNet n s d c
               | no m ↦ e .at k (omega arith) (omega arith) ∙ g .beyond k l
             ];
       }
-
-sum-last : (f : ℕ → ℕ) (n : ℕ) → sum f n + f n ≡ sum f (n + 1)
-unfolding sum
-sum-last f n = rw (add-one n) refl
 
 -- the net of d, by its sinks
 module _ (n : Netlist) (s d at : ℕ) (first next : List ℕ) (end : ℕ) (counts base area : List ℕ)

@@ -11,7 +11,7 @@ use mir.Syntax.{w16, w64}
 use lib.ListN.{length, getD, set, length-set}
 use lib.Seq.{getD-set-same, getD-set-other}
 use Rattle.facts.specs.Sums.{sum}
-use Rattle.facts.proofs.Sums.{sum-none, sum-append, sum-more}
+use Rattle.facts.proofs.Sums.{sum-last, sum-none, sum-append, sum-more}
 use Rattle.netlist.specs.Kinds.{width, topLevel}
 use Rattle.netlist.specs.Records.{Netlist}
 use Rattle.fanout.specs.Nets.{up}
@@ -108,12 +108,8 @@ module _ (n : Netlist) (s d start top : ℕ) (counts area₀ : List ℕ) (h : Gr
       counted : getD counts k 0 ≡ buffersOf n s d k
       counted = h .rowed .at k (p .above) (omega (arith, h .near))
 
-      next-sum : sum (buffersOf n s d) (suc k) ≡ sum (buffersOf n s d) k + buffersOf n s d k
-      unfolding sum
-      next-sum = refl
-
       ends : at + getD counts k 0 ≤ mappedSize n s
-      ends = omega (arith, p .here, counted, next-sum, up-to (suc k) (omega (arith, h .near)))
+      ends = omega (arith, p .here, counted, sum-last (buffersOf n s d) k, up-to (k + 1) (omega (arith, h .near)))
 
       pub plant-room : width * (at + getD counts k 0) ≤ length area
       plant-room = omega (arith, ends, p .long)
@@ -140,7 +136,7 @@ module _ (n : Netlist) (s d start top : ℕ) (counts area₀ : List ℕ) (h : Gr
           record {
             above = omega arith;
             within = omega arith;
-            here = rw (add-one k) (omega (arith, p .here, counted, next-sum));
+            here = omega (arith, p .here, counted, sum-last (buffersOf n s d) k);
             hung = rw (add-one k) (at-place-k ∙ sym (parent-next n s d (h .driver) k (p .above)));
             size = length-set base k from ∙ p .size;
             based = λ x a b. at-distance x a b (ℕ-discrete x k);
@@ -160,7 +156,7 @@ module _ (n : Netlist) (s d start top : ℕ) (counts area₀ : List ℕ) (h : Gr
           at-place-k = omega (arith, p .here)
 
           so-far : sum (buffersOf n s d) k + getD counts k 0 ≡ sum (buffersOf n s d) (k + 1)
-          so-far = rw (add-one k) (omega (arith, counted, next-sum))
+          so-far = omega (arith, counted, sum-last (buffersOf n s d) k)
 
           level-bytes : encoded (levelRecord s k (low + k) from) (getD counts k 0) ≡ recs (mapped n s) at (getD counts k 0)
           level-bytes =
@@ -189,8 +185,7 @@ module _ (n : Netlist) (s d start top : ℕ) (counts area₀ : List ℕ) (h : Gr
         rest = omega (arith, p .within, h .near)
 
     pub plant-end : top < k → at ≡ blockStart n s (d + 1)
-    unfolding sum
-    plant-end l = rw (add-one d) (omega (arith, p .here, whole l))
+    plant-end l = omega (arith, p .here, whole l, sum-last (treeSize n s) d)
 
     pub plant-based : top < k → Based n s d base
     plant-based l =

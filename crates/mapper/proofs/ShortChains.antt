@@ -9,14 +9,14 @@ use mir.Syntax.{w32}
 use lib.ListN.{getD}
 use lib.Dec.{ltb, eqb}
 use Rattle.facts.specs.Sums.{bit}
-use Rattle.facts.proofs.Sums.{bit-le}
+use Rattle.facts.proofs.Sums.{bit-le, bit-same, bit-other}
 use Rattle.netlist.specs.Kinds.{topLevel}
 use Rattle.netlist.specs.Records.{Netlist}
 use Rattle.fanout.specs.Nets.{sinks}
 use Rattle.mapper.specs.declared.sinks.Chain.{Chain}
 use Rattle.mapper.specs.declared.sinks.Chain.the-variants.{Empty, Short, Long}
 use Rattle.mapper.specs.Chains.{nextSink, Above, slotDistance, sinksBelow, Chained, ShortChain, ChainIs}
-use Rattle.mapper.proofs.Following.{bit-same, bit-other, OnChain, chain-start, chain-none, chain-next, chain-all, chain-above, chain-apart, chain-near, chain-on, chain-count}
+use Rattle.mapper.proofs.Following.{OnChain, chain-start, chain-none, chain-next, chain-all, chain-above, chain-apart, chain-near, chain-on, chain-count}
 
 -- one sink, at distance a
 one-sink : (n : Netlist) (d a : ℕ) → 1 ≤ a → a ≤ topLevel → ((k : ℕ) → sinks n d k ≡ bit (eqb a k)) → ShortChain n d a (bit (eqb a 1))
