@@ -11,7 +11,7 @@ use Rattle.facts.proofs.Sums.{sum-cong, sum-first, count-all, count-stop}
 use Rattle.netlist.specs.Kinds.{width, topLevel}
 use Rattle.netlist.specs.Records.{Netlist}
 use Rattle.netlist.specs.Source.{IsSource}
-use Rattle.fanout.specs.Nets.{row, sinks, up, nodes, buffersAt}
+use Rattle.fanout.specs.Nets.{row, up, buffersAt}
 use Rattle.fanout.proofs.Nets.{nodes-at, line-row, row-at}
 use Rattle.mapper.specs.Bytes.{encoded, put, withRecords}
 use Rattle.mapper.specs.Mapped.{buffersOf, treeSize, blockStart, place, parent, bufferOf, bufferRecord, mappedAt, mapped, Ready}
