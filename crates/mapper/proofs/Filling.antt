@@ -1,5 +1,5 @@
 -- Laws of filling a row along the chain of one driver: every sink below slot p is counted.
-use Prim.Native.Nat.{ℕ, suc, _+_, _-_, _≤_, _<_, _/_, max}
+use Prim.Native.Nat.{ℕ, suc, _+_, _-_, _≤_, _<_, max}
 use mathlib.Core.Path.{_≡_, sym, _∙_, ap}
 use mathlib.Core.List.{List}
 use native.Mathlib.Omega.{arith}
@@ -7,14 +7,14 @@ use mir.Val.{Fits}
 use mir.Syntax.{w32}
 use lib.ListN.{length, getD, set, replicate, length-set, length-replicate}
 use lib.Seq.{getD-set-other, ext-getD}
-use Rattle.netlist.specs.Kinds.{slots, topLevel}
+use Rattle.netlist.specs.Kinds.{topLevel}
 use Rattle.netlist.specs.Records.{Netlist}
 use Rattle.fanout.specs.Nets.{row}
 use Rattle.fanout.proofs.Nets.{row-length, row-at}
 use Rattle.fanout.proofs.Rows.{added-at}
-use Rattle.mapper.specs.Chains.{nextSink, Above, slotDistance, sinksBelow, Chained, Filled}
+use Rattle.mapper.specs.Chains.{nextSink, slotDistance, sinksBelow, Chained, Filled}
 use Rattle.mapper.proofs.Lists.{getD-replicated}
-use Rattle.mapper.proofs.Following.{sinks-below, OnChain, chain-start, chain-none, chain-all, chain-inside, chain-above, chain-near, chain-next, chain-on, chain-less, chain-count, distance-is}
+use Rattle.mapper.proofs.Following.{sinks-below, OnChain, chain-start, chain-none, chain-all, chain-inside, chain-near, chain-next, chain-on, chain-count}
 
 -- every sink of d below slot p is counted, and none further than top
 pub record Filling (n : Netlist) (d p : ℕ) (counts : List ℕ) (top : ℕ) : Type 0 where
@@ -39,49 +39,39 @@ module _ (n : Netlist) (first next : List ℕ) (end d : ℕ) (h : Chained n firs
       zero-at k = ap (λ (l : List ℕ). getD l k 0) f ∙ getD-replicated (suc topLevel) k 0
 
   module _ (p : ℕ) (counts : List ℕ) (top : ℕ) (f : Filling n d p counts top) where
-    module _ (l : p < end) (low : ℕ) (el : low ≡ n .at d .level) where
-      pub fill-above : Above n low p
-      fill-above = chain-above n first next end d h p (f .chain) l low el
+    module _ (l : p < end) (a : ℕ) (e : a ≡ slotDistance n d p) where
+      near : a < suc topLevel
+      near = chain-near n first next end d h p (f .chain) l a e
 
-      module _ (a : ℕ) (ea : a ≡ n .at (p / slots) .level - low) where
-        e : a ≡ slotDistance n d p
-        e = distance-is n d p low a el ea
+      -- a count stays small
+      pub fill-fits : Fits w32 (getD counts a 0 + 1)
+      fill-fits =
+          omega (
+            arith,
+            f .counted a (omega (arith, near)),
+            sinks-below n d a p,
+            chain-inside n first next end d h p (f .chain) l,
+            h .source .few,
+          )
 
-        pub fill-near : a < suc topLevel
-        fill-near = chain-near n first next end d h p (f .chain) l a e
-
-        -- a count stays small
-        pub fill-fits : Fits w32 (getD counts a 0 + 1)
-        fill-fits =
-            omega (
-              arith,
-              f .counted a (omega (arith, fill-near)),
-              sinks-below n d a p,
-              chain-inside n first next end d h p (f .chain) l,
-              h .source .few,
-            )
-
-        pub fill-more : (q top′ : ℕ) → q ≡ getD next p 0 → top′ ≡ max top a → Filling n d q (set counts a (getD counts a 0 + 1)) top′
-        fill-more q top′ g t =
-            record {
-              chain = chain-on n first next end d h p (f .chain) l q next-is;
-              size = length-set counts a _ ∙ f .size;
-              counted = λ k b.
-                  omega (
-                    arith,
-                    added-at counts a k (omega (arith, f .size, fill-near)),
-                    f .counted k b,
-                    chain-count n first next end d h p (f .chain) l q next-is a k e,
-                  );
-              near = omega (arith, f .near, fill-near);
-              beyond = λ k b. getD-set-other counts a k _ 0 (λ x. omega arith) ∙ f .beyond k (omega arith);
-            }
-          where
-            next-is : q ≡ nextSink n d (suc p)
-            next-is = chain-next n first next end d h p (f .chain) l q g
-
-    pub fill-less : (q : ℕ) → p < end → q ≡ getD next p 0 → end - q < end - p
-    fill-less q l g = chain-less n first next end d h p (f .chain) l q (chain-next n first next end d h p (f .chain) l q g)
+      pub fill-more : (q top′ : ℕ) → q ≡ getD next p 0 → top′ ≡ max top a → Filling n d q (set counts a (getD counts a 0 + 1)) top′
+      fill-more q top′ g t =
+          record {
+            chain = chain-on n first next end d h p (f .chain) l q next-is;
+            size = length-set counts a _ ∙ f .size;
+            counted = λ k b.
+                omega (
+                  arith,
+                  added-at counts a k (omega (arith, f .size, near)),
+                  f .counted k b,
+                  chain-count n first next end d h p (f .chain) l q next-is a k e,
+                );
+            near = omega (arith, f .near, near);
+            beyond = λ k b. getD-set-other counts a k _ 0 (λ x. omega arith) ∙ f .beyond k (omega arith);
+          }
+        where
+          next-is : q ≡ nextSink n d (suc p)
+          next-is = chain-next n first next end d h p (f .chain) l q g
 
     pub fill-end : end ≤ p → Filled n d counts top
     fill-end l =

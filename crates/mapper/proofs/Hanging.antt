@@ -16,13 +16,13 @@ use Rattle.netlist.specs.Records.{Netlist}
 use Rattle.fanout.specs.Nets.{sinks, sinkAt, nodesAt}
 use Rattle.fanout.proofs.Rows.{added-at}
 use Rattle.mapper.specs.Mapped.{netRow, buffersOf, treeSize, parent, rank, sinkNumber, sinkParent, Ready}
-use Rattle.mapper.specs.Chains.{slotEnd, usedSlot, faninSlot, namesSlot, nextSink, Above, slotDistance, sinksBelow, behind, Hooked, onParent, Hangable, Noded}
+use Rattle.mapper.specs.Chains.{slotEnd, usedSlot, faninSlot, namesSlot, nextSink, slotDistance, sinksBelow, behind, onParent, Hangable, Noded}
 use Rattle.facts.proofs.Blocks.{block-before}
 use Rattle.mapper.proofs.Mapped.{tree-sum}
 use Rattle.mapper.proofs.Nodes.{pos, IsNode, nodes-split, source-node, parent-inside}
-use Rattle.mapper.proofs.Following.{sinks-all, sinks-below, sinks-rise, sinks-more, named-above, distance-is, chain-none, chain-all, chain-inside, chain-names, chain-above, chain-apart, chain-near, chain-count}
+use Rattle.mapper.proofs.Following.{sinks-all, sinks-below, sinks-rise, sinks-more, named-above, chain-none, chain-all, chain-inside, chain-names, chain-apart, chain-near, chain-count}
 use Rattle.mapper.proofs.Planting.{parent-from}
-use Rattle.mapper.proofs.Threading.{Threading, thread-start, thread-next, thread-less, thread-more, thread-end}
+use Rattle.mapper.proofs.Threading.{Threading, thread-start, thread-next, thread-more}
 
 -- a rank by slot number
 rank-flat : (f : ℕ → ℕ → Bool) (p : ℕ) → rank f (p / slots) (p % slots) ≡ count (λ z. f (z / slots) (z % slots)) p
@@ -108,28 +108,19 @@ module _ (n : Netlist) (s d : ℕ) (first before : List ℕ) (end : ℕ) (counts
 
   module _ (p : ℕ) (next counts : List ℕ) (f : Hanging n s d before p next counts) where
     module _ (l : p < end) where
-      pub hang-above : (low : ℕ) → low ≡ n .at d .level → Above n low p
-      hang-above = chain-above n first before end d (h .hung .chained) p (f .threading .chain) l
-
-      pub hang-less : (q : ℕ) → q ≡ getD next p 0 → end - q < end - p
-      hang-less q e = thread-less n first before end d (h .hung .chained) (onParent n s) p next (f .threading) l q e
-
       inside : p < slotEnd n
       inside = chain-inside n first before end d (h .hung .chained) p (f .threading .chain) l
 
       names : namesSlot n d p ≡ true
       names = chain-names n first before end d (h .hung .chained) p (f .threading .chain) l
 
-      module _ (low k : ℕ) (el : low ≡ n .at d .level) (ea : k ≡ n .at (p / slots) .level - low) where
-        ek : k ≡ slotDistance n d p
-        ek = distance-is n d p low k el ea
-
-        pub hang-near : k < suc topLevel
-        hang-near = chain-near n first before end d (h .hung .chained) p (f .threading .chain) l k ek
+      module _ (k : ℕ) (ek : k ≡ slotDistance n d p) where
+        near : k < suc topLevel
+        near = chain-near n first before end d (h .hung .chained) p (f .threading .chain) l k ek
 
         number-is : getD counts k 0 ≡ buffersOf n s d k + sinksBelow n d k p
         number-is =
-            f .counted k (chain-apart n first before end d (h .hung .chained) p (f .threading .chain) l k ek) (omega (arith, hang-near))
+            f .counted k (chain-apart n first before end d (h .hung .chained) p (f .threading .chain) l k ek) (omega (arith, near))
 
         node : IsNode n s (h .ready) d k (getD counts k 0)
         node = rw (number-is, ek) (sink-node n s (h .ready) d p inside names)
@@ -156,7 +147,7 @@ module _ (n : Netlist) (s d : ℕ) (first before : List ℕ) (end : ℕ) (counts
               sinks-below n d k p,
               inside,
               h .ready .source .few,
-              block-before (buffersOf n s d) k (suc topLevel) hang-near,
+              block-before (buffersOf n s d) k (suc topLevel) near,
               tree-sum n s (pos n s (h .ready)) d,
               block-before (treeSize n s) d (n .size) (h .driver),
               h .ready .fits,
@@ -172,7 +163,7 @@ module _ (n : Netlist) (s d : ℕ) (first before : List ℕ) (end : ℕ) (counts
               counted = λ x a b.
                   omega (
                     arith,
-                    added-at counts k x (omega (arith, f .size, hang-near)),
+                    added-at counts k x (omega (arith, f .size, near)),
                     f .counted x a b,
                     chain-count n first before end d (h .hung .chained) p (f .threading .chain) l q next-is k x ek,
                   );
@@ -180,9 +171,6 @@ module _ (n : Netlist) (s d : ℕ) (first before : List ℕ) (end : ℕ) (counts
           where
             next-is : q ≡ nextSink n d (suc p)
             next-is = thread-next n first before end d (h .hung .chained) (onParent n s) p next (f .threading) l q e
-
-    pub hang-hooked : end ≤ p → Hooked n d (onParent n s) before next
-    hang-hooked l = thread-end n first before end d (h .hung .chained) (onParent n s) p next (f .threading) l
 
     pub hang-noded : end ≤ p → Noded n s d counts
     hang-noded l = record { size = f .size; at = all }

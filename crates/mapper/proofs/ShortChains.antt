@@ -127,9 +127,6 @@ few-sinks n d f top near h e = subst (ChainIs n d) e h
 
 -- the numbers of one or two sinks are small
 module _ (n : Netlist) (d top near : ℕ) (h : ShortChain n d top near) where
-  pub few-above : 1 ≤ top
-  few-above = h .above
-
   pub few-cast : Fits w32 top
   few-cast = omega (arith, h .near)
 

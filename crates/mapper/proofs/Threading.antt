@@ -11,9 +11,9 @@ use borrow.Author.Tests.{eq-eqb, ne-eqb}
 use Rattle.facts.proofs.Bools.{and-i, true-false}
 use Rattle.netlist.specs.Kinds.{mappedLimit}
 use Rattle.netlist.specs.Records.{Netlist}
-use Rattle.mapper.specs.Chains.{slotEnd, usedSlot, faninSlot, namesSlot, nextSink, Above, slotDistance, Chained, Hung, Hooked, onParent, lineParent, onLine}
+use Rattle.mapper.specs.Chains.{slotEnd, usedSlot, faninSlot, namesSlot, nextSink, slotDistance, Chained, Hung, Hooked, onParent, lineParent, onLine}
 use Rattle.mapper.proofs.Chains.{next-within, next-none}
-use Rattle.mapper.proofs.Following.{OnChain, chain-first, chain-start, chain-linked, chain-inside, chain-names, chain-above, chain-near, chain-on, chain-less}
+use Rattle.mapper.proofs.Following.{OnChain, chain-first, chain-start, chain-linked, chain-inside, chain-names, chain-near, chain-on, chain-less}
 
 -- d's sinks below slot p hold what f says; from p on d's chain stands
 pub record Threading (n : Netlist) (d : ℕ) (f : ℕ → ℕ) (before : List ℕ) (p : ℕ) (after : List ℕ) : Type 0 where
@@ -41,9 +41,6 @@ module _ (n : Netlist) (first before : List ℕ) (end d : ℕ) (h : Chained n fi
 
       names : namesSlot n d p ≡ true
       names = chain-names n first before end d h p (t .chain) l
-
-      pub thread-above : (low : ℕ) → low ≡ n .at d .level → Above n low p
-      thread-above = chain-above n first before end d h p (t .chain) l
 
       -- a parent on a line fits its slot
       pub thread-reach : (start k : ℕ) → start ≤ mappedLimit → k ≡ slotDistance n d p → start + k < 65536

@@ -2,7 +2,8 @@
 use Prim.Native.Nat.{_-_}
 use mathlib.Core.Path.{_≡_}
 use Rattle.netlist.specs.Records.{netlist, recordAt}
-use Rattle.mapper.proofs.Filling.{Filling, fill-start, fill-above, fill-near, fill-fits, fill-less, fill-more, fill-end}
+use Rattle.mapper.proofs.Following.{distance-is, chain-above, chain-near, chain-next, chain-less}
+use Rattle.mapper.proofs.Filling.{Filling, fill-start, fill-fits, fill-more, fill-end}
 use borrow.Author.Needs.{needs}
 use Rattle.mapper.proofs.sinks.fill_row.Statement.{statement}
 use Rattle.mapper.proofs.sinks.fill_row.Tie as tie
@@ -29,7 +30,7 @@ loop-holds : tie.Need-loop-holds Inv-loop μ-loop
 loop-holds c = search (needs, fill-start)
 
 distance-requires : tie.Need-distance-requires Inv-loop μ-loop
-distance-requires c κs = search fill-above
+distance-requires c κs = search chain-above
 
 mul-index-2 : tie.Need-mul-index-2 Inv-loop μ-loop
 mul-index-2 c = search needs
@@ -44,22 +45,22 @@ mul-row : tie.Need-mul-row Inv-loop μ-loop
 mul-row c = search needs
 
 element-copy-out-row : tie.Need-element-copy-out-row Inv-loop μ-loop
-element-copy-out-row c = search fill-near
+element-copy-out-row c = search (chain-near, distance-is)
 
 add-row : tie.Need-add-row Inv-loop μ-loop
-add-row c = search (needs, fill-fits)
+add-row c = search (needs, fill-fits, distance-is)
 
 element-write-row : tie.Need-element-write-row Inv-loop μ-loop
-element-write-row c = search fill-near
+element-write-row c = search (chain-near, distance-is)
 
 larger-requires : tie.Need-larger-requires Inv-loop μ-loop
 larger-requires c κs = search needs
 
 loop-less : tie.Need-loop-less Inv-loop μ-loop
-loop-less c = search fill-less
+loop-less c = search (chain-less, chain-next)
 
 loop-again : tie.Need-loop-again Inv-loop μ-loop
-loop-again c = search (needs, fill-more)
+loop-again c = search (needs, fill-more, distance-is)
 
 returns : tie.Need-returns Inv-loop μ-loop
 returns c = search fill-end

@@ -1,5 +1,5 @@
 -- `measure` meets its contract: no sink, a line, or a row that is filled and walked.
-use Rattle.mapper.proofs.ShortChains.{no-sink, few-sinks, few-above, few-cast, few-fit}
+use Rattle.mapper.proofs.ShortChains.{no-sink, few-sinks, few-cast, few-fit}
 use Rattle.mapper.proofs.Lines.{measured-few}
 use Rattle.mapper.proofs.Measuring.{measured-none, walkable, measured}
 use Rattle.mapper.proofs.Walking.{walked-clear}
@@ -26,7 +26,7 @@ cast-t16 : tie.Need-cast-t16
 cast-t16 c = search (few-cast, few-sinks _ _ _ _ _ (c .before .before .before .before .chain-of .ensures) (c .before .before .chain .given .1))
 
 sub-t17 : tie.Need-sub-t17
-sub-t17 c = few-above _ _ _ _ (few-sinks _ _ _ _ _ (c .before .before .before .before .chain-of .ensures) (c .before .before .chain .given .1))
+sub-t17 c = few-sinks _ _ _ _ _ (c .before .before .before .before .chain-of .ensures) (c .before .before .chain .given .1) .above
 
 enum-told-2 : tie.Need-enum-told-2
 enum-told-2 c = search needs

@@ -3,8 +3,8 @@ use Prim.Native.Nat.{_-_}
 use mathlib.Core.Path.{_≡_}
 use Rattle.netlist.specs.Records.{netlist, recordAt}
 use Rattle.mapper.specs.Chains.{onLine}
-use Rattle.mapper.proofs.Following.{distance-is}
-use Rattle.mapper.proofs.Threading.{Threading, thread-start, thread-above, thread-reach, thread-less, thread-more, thread-end, driver-fits, line-hung}
+use Rattle.mapper.proofs.Following.{distance-is, chain-above}
+use Rattle.mapper.proofs.Threading.{Threading, thread-start, thread-reach, thread-less, thread-more, thread-end, driver-fits, line-hung}
 use borrow.Author.Needs.{needs}
 use Rattle.mapper.proofs.writing.hang_line.Statement.{statement}
 use Rattle.mapper.proofs.writing.hang_line.Tie as tie
@@ -40,7 +40,7 @@ index-requires-2 : tie.Need-index-requires-2 Inv-loop μ-loop
 index-requires-2 c κs = search needs
 
 distance-requires : tie.Need-distance-requires Inv-loop μ-loop
-distance-requires c κs = search thread-above
+distance-requires c κs = search chain-above
 
 line-parent-requires : tie.Need-line-parent-requires Inv-loop μ-loop
 line-parent-requires c κs = search (driver-fits, thread-reach, distance-is)

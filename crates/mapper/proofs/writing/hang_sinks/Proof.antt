@@ -2,7 +2,9 @@
 use Prim.Native.Nat.{_-_}
 use mathlib.Core.Path.{_≡_}
 use Rattle.netlist.specs.Records.{netlist, recordAt}
-use Rattle.mapper.proofs.Hanging.{Hanging, hang-start, hang-above, hang-near, hang-parent, hang-fits, hang-less, hang-more, hang-hooked, hang-noded}
+use Rattle.mapper.proofs.Following.{distance-is, chain-above, chain-near}
+use Rattle.mapper.proofs.Threading.{thread-less, thread-end}
+use Rattle.mapper.proofs.Hanging.{Hanging, hang-start, hang-parent, hang-fits, hang-more, hang-noded}
 use borrow.Author.Needs.{needs}
 use Rattle.mapper.proofs.writing.hang_sinks.Statement.{statement}
 use Rattle.mapper.proofs.writing.hang_sinks.Tie as tie
@@ -38,31 +40,31 @@ index-requires-2 : tie.Need-index-requires-2 Inv-loop μ-loop
 index-requires-2 c κs = search needs
 
 distance-requires : tie.Need-distance-requires Inv-loop μ-loop
-distance-requires c κs = search hang-above
+distance-requires c κs = search chain-above
 
 mul-q : tie.Need-mul-q Inv-loop μ-loop
 mul-q c = search needs
 
 element-copy-out-q : tie.Need-element-copy-out-q Inv-loop μ-loop
-element-copy-out-q c = search hang-near
+element-copy-out-q c = search (chain-near, distance-is)
 
 add-row : tie.Need-add-row Inv-loop μ-loop
-add-row c = search hang-fits
+add-row c = search (hang-fits, distance-is)
 
 mul-row : tie.Need-mul-row Inv-loop μ-loop
 mul-row c = search needs
 
 element-write-row : tie.Need-element-write-row Inv-loop μ-loop
-element-write-row c = search hang-near
+element-write-row c = search (chain-near, distance-is)
 
 mul-parent-of : tie.Need-mul-parent-of Inv-loop μ-loop
 mul-parent-of c = search needs
 
 element-copy-out-parent-of : tie.Need-element-copy-out-parent-of Inv-loop μ-loop
-element-copy-out-parent-of c = search hang-near
+element-copy-out-parent-of c = search (chain-near, distance-is)
 
 parent-of-requires : tie.Need-parent-of-requires Inv-loop μ-loop
-parent-of-requires c κs = (search needs, search hang-parent)
+parent-of-requires c κs = (search needs, search (hang-parent, distance-is))
 
 mul-next : tie.Need-mul-next Inv-loop μ-loop
 mul-next c = search needs
@@ -71,13 +73,13 @@ element-write-next : tie.Need-element-write-next Inv-loop μ-loop
 element-write-next c = search needs
 
 loop-less : tie.Need-loop-less Inv-loop μ-loop
-loop-less c = search hang-less
+loop-less c = search thread-less
 
 loop-again : tie.Need-loop-again Inv-loop μ-loop
-loop-again c = (search needs, search hang-more)
+loop-again c = (search needs, search (hang-more, distance-is))
 
 returns : tie.Need-returns Inv-loop μ-loop
-returns c = (search hang-hooked, search hang-noded)
+returns c = (search thread-end, search hang-noded)
 
 pub hang-sinks-spec : {M : Type 1} → statement M
 hang-sinks-spec =

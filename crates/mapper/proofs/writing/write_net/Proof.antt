@@ -1,5 +1,5 @@
 -- `write_net` meets its contract: no sink, a line, or a tree.
-use Rattle.mapper.proofs.ShortChains.{no-sink, few-sinks, few-above}
+use Rattle.mapper.proofs.ShortChains.{no-sink, few-sinks}
 use Rattle.mapper.proofs.Netting.{net-none, line-start, line-room, line-fits, line-levels, line-next, net-line}
 use Rattle.mapper.proofs.Threading.{driver-fits}
 use borrow.Author.Needs.{needs}
@@ -18,8 +18,7 @@ enum-known-chain c = search needs
 sub-n : tie.Need-sub-n
 sub-n c =
     let b = c .before in
-    let few = few-sinks _ _ _ _ _ (b .before .before .chain-of .ensures) (b .chain .given .1) in
-    few-above _ _ _ _ few
+    few-sinks _ _ _ _ _ (b .before .before .chain-of .ensures) (b .chain .given .1) .above
 
 hang-line-requires : tie.Need-hang-line-requires
 hang-line-requires c κs = (search needs, (search needs, search line-start))
