@@ -107,70 +107,69 @@ module _ (n : Netlist) (s d : ℕ) (first before : List ℕ) (end : ℕ) (counts
       }
 
   module _ (p : ℕ) (next counts : List ℕ) (f : Hanging n s d before p next counts) where
-    module _ (l : p < end) where
+    module _ (l : p < end) (k : ℕ) (ek : k ≡ slotDistance n d p) where
       inside : p < slotEnd n
       inside = chain-inside n first before end d (h .hung .chained) p (f .threading .chain) l
 
       names : namesSlot n d p ≡ true
       names = chain-names n first before end d (h .hung .chained) p (f .threading .chain) l
 
-      module _ (k : ℕ) (ek : k ≡ slotDistance n d p) where
-        near : k < suc topLevel
-        near = chain-near n first before end d (h .hung .chained) p (f .threading .chain) l k ek
+      near : k < suc topLevel
+      near = chain-near n first before end d (h .hung .chained) p (f .threading .chain) l k ek
 
-        number-is : getD counts k 0 ≡ buffersOf n s d k + sinksBelow n d k p
-        number-is =
-            f .counted k (chain-apart n first before end d (h .hung .chained) p (f .threading .chain) l k ek) (omega (arith, near))
+      number-is : getD counts k 0 ≡ buffersOf n s d k + sinksBelow n d k p
+      number-is =
+          f .counted k (chain-apart n first before end d (h .hung .chained) p (f .threading .chain) l k ek) (omega (arith, near))
 
-        node : IsNode n s (h .ready) d k (getD counts k 0)
-        node = rw (number-is, ek) (sink-node n s (h .ready) d p inside names)
+      node : IsNode n s (h .ready) d k (getD counts k 0)
+      node = rw (number-is, ek) (sink-node n s (h .ready) d p inside names)
 
-        on-base : parent n s d k (getD counts k 0) ≡ getD base k 0 + behind s k (getD counts k 0)
-        on-base =
-            parent-from n s d k (getD counts k 0)
-            ∙ ap (λ (x : ℕ). x + behind s k (getD counts k 0)) (sym (h .based .at k (node .above) (omega (arith, node .number))))
+      on-base : parent n s d k (getD counts k 0) ≡ getD base k 0 + behind s k (getD counts k 0)
+      on-base =
+          parent-from n s d k (getD counts k 0)
+          ∙ ap (λ (x : ℕ). x + behind s k (getD counts k 0)) (sym (h .based .at k (node .above) (omega (arith, node .number))))
 
-        hangs-on : onParent n s p ≡ getD base k 0 + behind s k (getD counts k 0)
-        hangs-on = sink-parent n s (h .ready) d p inside names ∙ by-level ∙ on-base
-          where
-            by-level : parent n s d (slotDistance n d p) (flatNumbered n s p d) ≡ parent n s d k (getD counts k 0)
-            by-level = rw (number-is, ek) refl
+      hangs-on : onParent n s p ≡ getD base k 0 + behind s k (getD counts k 0)
+      hangs-on = sink-parent n s (h .ready) d p inside names ∙ by-level ∙ on-base
+        where
+          by-level : parent n s d (slotDistance n d p) (flatNumbered n s p d) ≡ parent n s d k (getD counts k 0)
+          by-level = rw (number-is, ek) refl
 
-        pub hang-parent : getD base k 0 + behind s k (getD counts k 0) < 65536
-        hang-parent = omega (arith, on-base, parent-inside n s (h .ready) d k (getD counts k 0) node, h .ready .fits)
+      pub hang-parent : getD base k 0 + behind s k (getD counts k 0) < 65536
+      hang-parent = omega (arith, on-base, parent-inside n s (h .ready) d k (getD counts k 0) node, h .ready .fits)
 
-        pub hang-fits : Fits w32 (getD counts k 0 + 1)
-        hang-fits =
-            omega (
-              arith,
-              number-is,
-              sinks-below n d k p,
-              inside,
-              h .ready .source .few,
-              block-before (buffersOf n s d) k (suc topLevel) near,
-              tree-sum n s (pos n s (h .ready)) d,
-              block-before (treeSize n s) d (n .size) (h .driver),
-              h .ready .fits,
-            )
+      pub hang-fits : Fits w32 (getD counts k 0 + 1)
+      hang-fits =
+          omega (
+            arith,
+            number-is,
+            sinks-below n d k p,
+            inside,
+            h .ready .source .few,
+            block-before (buffersOf n s d) k (suc topLevel) near,
+            tree-sum n s (pos n s (h .ready)) d,
+            block-before (treeSize n s) d (n .size) (h .driver),
+            h .ready .fits,
+          )
 
-        pub hang-more : (q t : ℕ) → q ≡ getD next p 0 → t ≡ getD base k 0 + behind s k (getD counts k 0) →
-            Hanging n s d before q (set next p t) (set counts k (getD counts k 0 + 1))
-        hang-more q t e g =
-            record {
-              threading =
-                  thread-more n first before end d (h .hung .chained) (onParent n s) p next (f .threading) l q e t (g ∙ sym hangs-on);
-              size = length-set counts k _ ∙ f .size;
-              counted = λ x a b.
-                  omega (
-                    arith,
-                    added-at counts k x (omega (arith, f .size, near)),
-                    f .counted x a b,
-                    chain-count n first before end d (h .hung .chained) p (f .threading .chain) l q next-is k x ek,
-                  );
-            }
-          where
-            next-is : q ≡ nextSink n d (suc p)
-            next-is = thread-next n first before end d (h .hung .chained) (onParent n s) p next (f .threading) l q e
+      pub hang-more : (q t : ℕ) → q ≡ getD next p 0 → t ≡ getD base k 0 + behind s k (getD counts k 0) →
+          Hanging n s d before q (set next p t) (set counts k (getD counts k 0 + 1))
+      hang-more q t e g =
+          record {
+            threading =
+                thread-more n first before end d (h .hung .chained) (onParent n s) p next (f .threading) l q e t (g ∙ sym hangs-on);
+            size = length-set counts k _ ∙ f .size;
+            counted = λ x a b.
+                omega (
+                  arith,
+                  added-at counts k x (omega (arith, f .size, near)),
+                  f .counted x a b,
+                  chain-count n first before end d (h .hung .chained) p (f .threading .chain) l q next-is k x ek,
+                );
+          }
+        where
+          next-is : q ≡ nextSink n d (suc p)
+          next-is = thread-next n first before end d (h .hung .chained) (onParent n s) p next (f .threading) l q e
 
     pub hang-noded : end ≤ p → Noded n s d counts
     hang-noded l = record { size = f .size; at = all }

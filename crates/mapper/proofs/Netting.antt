@@ -17,19 +17,16 @@ use Rattle.fanout.specs.Nets.{row, sinks, up, buffersAt}
 use Rattle.mapper.specs.declared.trees.TreeTotals.{TreeTotals}
 use Rattle.mapper.specs.Bytes.{encoded, put, withRecords}
 use Rattle.mapper.specs.Mapped.{buffersOf, treeSize, blockStart, mappedSize, mapped, Ready}
-use Rattle.mapper.specs.Chains.{slotEnd, namesSlot, slotDistance, Filled, Walkable, Walked, Stale, ShortChain, GrownNet, Hung, Hooked, onParent, onLine, lineRecord, Noded, Writable, Wrote}
+use Rattle.mapper.specs.Chains.{slotEnd, namesSlot, slotDistance, Filled, Walked, Stale, ShortChain, GrownNet, Hung, Hooked, onParent, onLine, lineRecord, Noded, Writable, Wrote}
 use Rattle.mapper.proofs.Area.{records-none, records-more, records-length}
 use Rattle.facts.proofs.Blocks.{block-before}
 use Rattle.mapper.proofs.Nodes.{pos, nodes-none}
 use Rattle.mapper.proofs.Hanging.{named-sink}
 use Rattle.mapper.proofs.Lines.{line-size, line-written, line-hooked}
 use Rattle.mapper.proofs.Threading.{hung-next}
-use Rattle.mapper.proofs.Measuring.{walkable, net-nodes, measured-none}
+use Rattle.mapper.proofs.Measuring.{net-nodes, measured-none}
 
 module _ (n : Netlist) (s d top : ℕ) (counts : List ℕ) (r : Ready n s) (f : Filled n d counts top) where
-  pub net-walkable : Walkable s counts top
-  net-walkable = walkable n s d top counts (r .source) (r .low, r .high) f
-
   -- after the walk the row holds the tree's buffers
   rowed : (after : List ℕ) (t : TreeTotals) (w : Walked s counts true after t) → d < n .size →
       (k : ℕ) → 1 ≤ k → k ≤ topLevel → getD after k 0 ≡ buffersOf n s d k

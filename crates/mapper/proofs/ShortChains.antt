@@ -15,8 +15,8 @@ use Rattle.netlist.specs.Records.{Netlist}
 use Rattle.fanout.specs.Nets.{sinks}
 use Rattle.mapper.specs.declared.sinks.Chain.{Chain}
 use Rattle.mapper.specs.declared.sinks.Chain.the-variants.{Empty, Short, Long}
-use Rattle.mapper.specs.Chains.{nextSink, Above, slotDistance, sinksBelow, Chained, ShortChain, ChainIs}
-use Rattle.mapper.proofs.Following.{OnChain, chain-start, chain-none, chain-next, chain-all, chain-above, chain-apart, chain-near, chain-on, chain-count}
+use Rattle.mapper.specs.Chains.{nextSink, slotDistance, sinksBelow, Chained, ShortChain, ChainIs}
+use Rattle.mapper.proofs.Following.{OnChain, chain-start, chain-none, chain-next, chain-all, chain-apart, chain-near, chain-on, chain-count}
 
 -- one sink, at distance a
 one-sink : (n : Netlist) (d a : ℕ) → 1 ≤ a → a ≤ topLevel → ((k : ℕ) → sinks n d k ≡ bit (eqb a k)) → ShortChain n d a (bit (eqb a 1))
@@ -61,60 +61,52 @@ module _ (n : Netlist) (first next : List ℕ) (end d p : ℕ) (h : Chained n fi
   none-before : (k : ℕ) → sinksBelow n d k p ≡ 0
   none-before = chain-none n first next end d h p ld e
 
-  pub fans-none : end ≤ p → ChainIs n d Empty
+  pub chain-empty : end ≤ p → ChainIs n d Empty
   unfolding ChainIs
-  fans-none l k = sym (chain-all n first next end d h p on l k) ∙ none-before k
+  chain-empty l k = sym (chain-all n first next end d h p on l k) ∙ none-before k
 
-  module _ (l : p < end) where
-    pub first-above : (low : ℕ) → low ≡ n .at d .level → Above n low p
-    first-above = chain-above n first next end d h p on l
+  module _ (l : p < end) (q : ℕ) (g : q ≡ getD next p 0) (a : ℕ) (f : a ≡ slotDistance n d p) where
+    q-is : q ≡ nextSink n d (suc p)
+    q-is = chain-next n first next end d h p on l q g
 
-    module _ (q : ℕ) (g : q ≡ getD next p 0) where
-      q-is : q ≡ nextSink n d (suc p)
-      q-is = chain-next n first next end d h p on l q g
+    q-on : OnChain n d q
+    q-on = chain-on n first next end d h p on l q q-is
 
-      q-on : OnChain n d q
-      q-on = chain-on n first next end d h p on l q q-is
+    apart : 1 ≤ a
+    apart = chain-apart n first next end d h p on l a f
 
-      pub second-above : q < end → (low : ℕ) → low ≡ n .at d .level → Above n low q
-      second-above m = chain-above n first next end d h q q-on m
+    near : a ≤ topLevel
+    near = omega (arith, chain-near n first next end d h p on l a f)
 
-      module _ (a : ℕ) (f : a ≡ slotDistance n d p) where
-        apart : 1 ≤ a
-        apart = chain-apart n first next end d h p on l a f
+    one-before : (k : ℕ) → sinksBelow n d k q ≡ bit (eqb a k)
+    one-before k = omega (arith, chain-count n first next end d h p on l q q-is a k f, none-before k)
 
-        near : a ≤ topLevel
-        near = omega (arith, chain-near n first next end d h p on l a f)
+    pub chain-one : (x : ℕ) → x ≡ bit (eqb a 1) → end ≤ q → ChainIs n d (Short a x)
+    unfolding ChainIs
+    chain-one x i m =
+        rw i (one-sink n d a apart near (λ k. sym (chain-all n first next end d h q q-on m k) ∙ one-before k))
 
-        one-before : (k : ℕ) → sinksBelow n d k q ≡ bit (eqb a k)
-        one-before k = omega (arith, chain-count n first next end d h p on l q q-is a k f, none-before k)
+    pub chain-two : (b o top x y : ℕ) → q < end → b ≡ slotDistance n d q → o ≡ getD next q 0 → end ≤ o →
+        top ≡ max a b → x ≡ bit (eqb a 1) → y ≡ bit (eqb b 1) → ChainIs n d (Short top (x + y))
+    unfolding ChainIs
+    chain-two b o top x y m i j r t u v =
+        rw (u, v)
+        (two-sinks n d a b top apart near (omega (arith, chain-near n first next end d h q q-on m b i)) t
+        (λ k.
+        sym (chain-all n first next end d h o (chain-on n first next end d h q q-on m o o-is) r k)
+        ∙ chain-count n first next end d h q q-on m o o-is b k i
+        ∙ ap (λ (z : ℕ). z + bit (eqb b k)) (one-before k)))
+      where
+        o-is : o ≡ nextSink n d (suc q)
+        o-is = chain-next n first next end d h q q-on m o j
 
-        pub fans-one : (x : ℕ) → x ≡ bit (eqb a 1) → end ≤ q → ChainIs n d (Short a x)
-        unfolding ChainIs
-        fans-one x i m =
-            rw i (one-sink n d a apart near (λ k. sym (chain-all n first next end d h q q-on m k) ∙ one-before k))
-
-        pub fans-two : (b o top x y : ℕ) → q < end → b ≡ slotDistance n d q → o ≡ getD next q 0 → end ≤ o →
-            top ≡ max a b → x ≡ bit (eqb a 1) → y ≡ bit (eqb b 1) → ChainIs n d (Short top (x + y))
-        unfolding ChainIs
-        fans-two b o top x y m i j r t u v =
-            rw (u, v)
-            (two-sinks n d a b top apart near (omega (arith, chain-near n first next end d h q q-on m b i)) t
-            (λ k.
-            sym (chain-all n first next end d h o (chain-on n first next end d h q q-on m o o-is) r k)
-            ∙ chain-count n first next end d h q q-on m o o-is b k i
-            ∙ ap (λ (z : ℕ). z + bit (eqb b k)) (one-before k)))
-          where
-            o-is : o ≡ nextSink n d (suc q)
-            o-is = chain-next n first next end d h q q-on m o j
-
-pub fans-many : (n : Netlist) (d : ℕ) → ChainIs n d Long
+pub chain-long : (n : Netlist) (d : ℕ) → ChainIs n d Long
 unfolding ChainIs
-fans-many n d = tt
+chain-long n d = tt
 
 -- how many of two sinks stand at distance 1
-pub fans-fit : (a b x y : ℕ) → x ≡ bit (eqb a 1) → y ≡ bit (eqb b 1) → Fits w32 (x + y)
-fans-fit a b x y e f = omega (arith, bit-le (eqb a 1), bit-le (eqb b 1))
+pub ones-fit : (a b x y : ℕ) → x ≡ bit (eqb a 1) → y ≡ bit (eqb b 1) → Fits w32 (x + y)
+ones-fit a b x y e f = omega (arith, bit-le (eqb a 1), bit-le (eqb b 1))
 
 -- what is known of d's sinks, by case
 pub no-sink : (n : Netlist) (d : ℕ) (f : Chain) → ChainIs n d f → f ≡ Empty → (k : ℕ) → sinks n d k ≡ 0

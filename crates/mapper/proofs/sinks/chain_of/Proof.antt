@@ -1,6 +1,6 @@
 -- `chain_of` meets its contract: no sink, one, two, or more.
-use Rattle.mapper.proofs.Following.{distance-is}
-use Rattle.mapper.proofs.ShortChains.{fans-none, first-above, fans-one, second-above, fans-two, fans-many, fans-fit}
+use Rattle.mapper.proofs.Following.{chain-start, chain-next, chain-above, chain-on, distance-is}
+use Rattle.mapper.proofs.ShortChains.{chain-empty, chain-one, chain-two, chain-long, ones-fit}
 use borrow.Author.Needs.{needs}
 use Rattle.mapper.proofs.sinks.chain_of.Statement.{statement}
 use Rattle.mapper.proofs.sinks.chain_of.Tie as tie
@@ -15,13 +15,13 @@ index-requires : tie.Need-index-requires
 index-requires c κs = search needs
 
 returns : tie.Need-returns
-returns c = search fans-none
+returns c = search chain-empty
 
 level-at-requires : tie.Need-level-at-requires
 level-at-requires c κs = search needs
 
 distance-requires : tie.Need-distance-requires
-distance-requires c κs = search first-above
+distance-requires c κs = search (chain-above, chain-start)
 
 mul-index-2 : tie.Need-mul-index-2
 mul-index-2 c = search needs
@@ -36,7 +36,7 @@ one-if-requires : tie.Need-one-if-requires
 one-if-requires c κs = search needs
 
 returns-2 : tie.Need-returns-2
-returns-2 c = search (fans-one, distance-is)
+returns-2 c = search (chain-one, distance-is)
 
 mul-index-3 : tie.Need-mul-index-3
 mul-index-3 c = search needs
@@ -48,7 +48,7 @@ index-requires-3 : tie.Need-index-requires-3
 index-requires-3 c κs = search needs
 
 distance-requires-2 : tie.Need-distance-requires-2
-distance-requires-2 c κs = search second-above
+distance-requires-2 c κs = search (chain-above, chain-on, chain-next, chain-start)
 
 larger-requires : tie.Need-larger-requires
 larger-requires c κs = search needs
@@ -60,13 +60,13 @@ one-if-requires-3 : tie.Need-one-if-requires-3
 one-if-requires-3 c κs = search needs
 
 add-t28 : tie.Need-add-t28
-add-t28 c = search fans-fit
+add-t28 c = search ones-fit
 
 returns-3 : tie.Need-returns-3
-returns-3 c = search (fans-two, distance-is)
+returns-3 c = search (chain-two, distance-is)
 
 returns-4 : tie.Need-returns-4
-returns-4 c = search fans-many
+returns-4 c = search chain-long
 
 pub chain-of-spec : {M : Type 1} → statement M
 chain-of-spec =

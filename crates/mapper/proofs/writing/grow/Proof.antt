@@ -1,5 +1,6 @@
 -- `grow` meets its contract: the row is filled and walked.
-use Rattle.mapper.proofs.Netting.{net-walkable, net-grown}
+use Rattle.mapper.proofs.Measuring.{walkable}
+use Rattle.mapper.proofs.Netting.{net-grown}
 use borrow.Author.Needs.{needs}
 use Rattle.mapper.proofs.writing.grow.Statement.{statement}
 use Rattle.mapper.proofs.writing.grow.Tie as tie
@@ -8,7 +9,7 @@ fill-row-requires : tie.Need-fill-row-requires
 fill-row-requires c κs = search needs
 
 walk-down-requires : tie.Need-walk-down-requires
-walk-down-requires c κs = search net-walkable
+walk-down-requires c κs = search walkable
 
 returns : tie.Need-returns
 returns c = search net-grown
