@@ -2,7 +2,6 @@
 use borrow.Author.Needs.{needs}
 use Prim.Native.Nat.{_-_}
 use Rattle.facts.proofs.Loops.{NoneYet, any-start, any-more}
-use Rattle.netlist.specs.Kinds.{arity}
 use Rattle.netlist.specs.Records.{netlist}
 use Rattle.verifier.specs.Checks.{badName}
 use Rattle.verifier.proofs.Checks.{names-bad, levels-bad}
