@@ -4,8 +4,8 @@
 //! ratios; then how our time grows from N = 512 to N = 4,096, the two sizes in turns as well, since
 //! the machine's own speed drifts. Both answers are compared before a row is timed. Areas that a
 //! call writes are touched once before and not cleared between calls. A row of layered netlists
-//! goes round as many of them as have 4,096 records together, so that small sizes are not timed on
-//! one input that the processor has learnt by heart.
+//! goes round as many of them as have 65,536 records together, so that no size is timed on inputs
+//! that the processor has learnt by heart.
 
 use std::hint::black_box;
 use std::time::{Duration, Instant};
@@ -24,6 +24,8 @@ const S: usize = 2;
 const SEED: u64 = 30_001;
 const SIZES: [usize; 4] = [512, 1024, 2048, 4096];
 const RUN_ROWS: usize = 16;
+/// Records of all layered netlists of a row together.
+const LAYERED: usize = 16 * MAX_SOURCE;
 /// Samples of a row, each of at least this time.
 const SAMPLES: usize = 41;
 const SAMPLE_TIME: Duration = Duration::from_micros(400);
@@ -226,7 +228,7 @@ fn layered(seed: u64, size: usize) -> Subject {
 
 /// The rows of one size: chain, wide, layered.
 fn shapes_of(size: usize) -> [Vec<Subject>; 3] {
-    let round = (MAX_SOURCE / size) as u64;
+    let round = (LAYERED / size) as u64;
     [
         vec![Subject::new("chain", &shapes::chains(size), 0)],
         vec![Subject::new("wide", &shapes::wide(size, S), 0)],
