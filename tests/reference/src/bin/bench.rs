@@ -27,7 +27,7 @@ const RUN_ROWS: usize = 16;
 /// Records of all layered netlists of a row together.
 const LAYERED: usize = 16 * MAX_SOURCE;
 /// Samples of a row, each of at least this time.
-const SAMPLES: usize = 41;
+const SAMPLES: usize = 161;
 const SAMPLE_TIME: Duration = Duration::from_micros(400);
 
 /// One input with what the row says of it.
