@@ -23,7 +23,7 @@ use Rattle.mapper.proofs.Measuring.{row-none, net-nodes}
 use Rattle.mapper.proofs.Hanging.{sink-node, sink-parent, flatNumbered}
 
 -- d's net of one or two sinks
-module _ (n : Netlist) (s d top near : ℕ) (i : IsSource n) (two : 2 ≤ s) (ld : d < n .size) (h : ShortChain n d top near) where
+module _ (n : Netlist) (s d top atOne : ℕ) (i : IsSource n) (two : 2 ≤ s) (ld : d < n .size) (h : ShortChain n d top atOne) where
   positive : 0 < s
   positive = omega arith
 
@@ -60,7 +60,7 @@ module _ (n : Netlist) (s d top near : ℕ) (i : IsSource n) (two : 2 ≤ s) (ld
       (λ x a b. omega (arith, ltb-true (suc x) top b))
       ∙ count-all (λ x. ltb (suc x) top) (top - 1) (λ x b. lt-ltb (suc x) top (omega arith))
 
-  pub measured-few : (x : ℕ) → x ≡ bit (ltb 1 top) → Measured n s d (record { nodes = x + near; buffers = top - 1 })
+  pub measured-few : (x : ℕ) → x ≡ bit (ltb 1 top) → Measured n s d (record { nodes = x + atOne; buffers = top - 1 })
   measured-few x e =
       record {
         nodes =
@@ -76,12 +76,12 @@ module _ (n : Netlist) (s d top near : ℕ) (i : IsSource n) (two : 2 ≤ s) (ld
       }
 
 -- d's line as it is written
-module _ (n : Netlist) (s d top near : ℕ) (r : Ready n s) (ld : d < n .size) (h : ShortChain n d top near) where
+module _ (n : Netlist) (s d top atOne : ℕ) (r : Ready n s) (ld : d < n .size) (h : ShortChain n d top atOne) where
   below : (k : ℕ) → k < top → sum (buffersOf n s d) (suc k) ≡ k
-  below = line-below n s d top near (r .source) (r .low) ld h
+  below = line-below n s d top atOne (r .source) (r .low) ld h
 
   at : (k : ℕ) → buffersOf n s d (suc k) ≡ bit (ltb (suc k) top)
-  at = line-at n s d top near (r .source) (r .low) ld h
+  at = line-at n s d top atOne (r .source) (r .low) ld h
 
   -- what a node hangs on
   line-node : (k q : ℕ) → IsNode n s r d k q → parent n s d k q ≡ lineParent d (blockStart n s d) k
@@ -115,7 +115,7 @@ module _ (n : Netlist) (s d top near : ℕ) (r : Ready n s) (ld : d < n .size) (
   line-written area =
       ap (put area (width * blockStart n s d))
       (encoded-cong _ _ (top - 1) line-record
-      ∙ ap (encoded (λ j. mappedAt n s (blockStart n s d + j))) (sym (line-size n s d top near (r .source) (r .low) ld h)))
+      ∙ ap (encoded (λ j. mappedAt n s (blockStart n s d + j))) (sym (line-size n s d top atOne (r .source) (r .low) ld h)))
 
   pub line-hooked : (before after : List ℕ) → Hooked n d (onLine n d (blockStart n s d)) before after → Hooked n d (onParent n s) before after
   unfolding onLine

@@ -102,9 +102,9 @@ module _ (n : Netlist) (s d at : ℕ) (first next : List ℕ) (end : ℕ) (count
   line-start = omega (arith, w .start, w .ready .fits, block-before (treeSize n s) d (n .size) (w .driver))
 
   -- of one or two it is a line
-  module _ (top near : ℕ) (f : ShortChain n d top near) where
+  module _ (top atOne : ℕ) (f : ShortChain n d top atOne) where
     size : treeSize n s d ≡ top - 1
-    size = line-size n s d top near (w .ready .source) (w .ready .low) (w .driver) f
+    size = line-size n s d top atOne (w .ready .source) (w .ready .low) (w .driver) f
 
     inside : at + (top - 1) ≤ mappedSize n s
     inside = omega (arith, w .start, size, block-before (treeSize n s) d (n .size) (w .driver))
@@ -128,8 +128,8 @@ module _ (n : Netlist) (s d at : ℕ) (first next : List ℕ) (end : ℕ) (count
         wrote (at + (top - 1)) next′ counts base area′
         (omega (arith, size, next-start))
         (w .clear) (w .room)
-        (line-hooked n s d top near (w .ready) (w .driver) f next next′ (subst (λ (x : ℕ). Hooked n d (onLine n d x) next next′) (w .start) k))
-        (a ∙ rw (e, w .start) (line-written n s d top near (w .ready) (w .driver) f area))
+        (line-hooked n s d top atOne (w .ready) (w .driver) f next next′ (subst (λ (x : ℕ). Hooked n d (onLine n d x) next next′) (w .start) k))
+        (a ∙ rw (e, w .start) (line-written n s d top atOne (w .ready) (w .driver) f area))
 
 -- the nets of the drivers below d are written
 pub record Netting (n : Netlist) (s : ℕ) (first : List ℕ) (end : ℕ) (area₀ : List ℕ) (d at : ℕ) (next counts base area : List ℕ) : Type 0 where

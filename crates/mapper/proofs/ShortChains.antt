@@ -113,16 +113,16 @@ pub no-sink : (n : Netlist) (d : ℕ) (f : Chain) → ChainIs n d f → f ≡ Em
 unfolding ChainIs
 no-sink n d f h e = subst (ChainIs n d) e h
 
-pub few-sinks : (n : Netlist) (d : ℕ) (f : Chain) (top near : ℕ) → ChainIs n d f → f ≡ Short top near → ShortChain n d top near
+pub few-sinks : (n : Netlist) (d : ℕ) (f : Chain) (top atOne : ℕ) → ChainIs n d f → f ≡ Short top atOne → ShortChain n d top atOne
 unfolding ChainIs
-few-sinks n d f top near h e = subst (ChainIs n d) e h
+few-sinks n d f top atOne h e = subst (ChainIs n d) e h
 
 -- the numbers of one or two sinks are small
-module _ (n : Netlist) (d top near : ℕ) (h : ShortChain n d top near) where
+module _ (n : Netlist) (d top atOne : ℕ) (h : ShortChain n d top atOne) where
   pub few-cast : Fits w32 top
   few-cast = omega (arith, h .near)
 
-  pub few-fit : (x : ℕ) → x ≡ bit (ltb 1 top) → Fits w32 (x + near)
+  pub few-fit : (x : ℕ) → x ≡ bit (ltb 1 top) → Fits w32 (x + atOne)
   few-fit x e = omega (arith, h .ones, most (decLt 1 top), bit-le (ltb 1 top))
     where
       most : Dec (1 < top) → sinks n d 1 ≤ 2

@@ -1,4 +1,4 @@
--- Laws of going along the chain of one driver and giving each of its sinks a number: those below slot p have theirs.
+-- Laws of going along the chain of one driver and giving each of its sinks a parent: those below slot p have theirs.
 use Prim.Native.Nat.{ℕ, suc, _+_, _-_, _≤_, _<_}
 use mathlib.Core.Path.{_≡_, refl, sym, _∙_, ap}
 use mathlib.Core.Bool.{true, false}

@@ -236,7 +236,7 @@ pub record Counted (bytes : List ℕ) (s size : ℕ) (first next : List ℕ) (en
   pub records : size ≡ recordCount bytes
   pub buffers : total ≡ bufferTotal (netlist bytes) s
 
--- a source whose trees are counted and that is not too large; capacity and trees follow from the first, for the search
+-- a source whose trees are counted and that is not too large; capacity and trees follow from `maps`
 pub record Mappable (bytes : List ℕ) (s size : ℕ) (first next : List ℕ) (end : ℕ) : Type 0 where
   pub maps : sourceMaps bytes s ≡ Passed
   pub capacity : (2 ≤ s) × (s ≤ 4)
