@@ -1,35 +1,27 @@
 -- Laws of a record's value, with premises as the code has them.
 use Prim.Native.Nat.{ℕ, zero, suc, _+_, _/_, _%_, _^_, _<_, _≤_}
 use mathlib.Core.Path.{_≡_, refl, sym, _∙_, ap}
-use mathlib.Core.Bool.{Bool, false, not}
+use mathlib.Core.Bool.{Bool, true, false, cond, not}
 use mathlib.Core.List.{List}
 use native.Mathlib.Omega.{arith}
-use native.Mathlib.Nat.{div-one, div-div-eq-div-mul, pow-suc}
+use native.Mathlib.Nat.{add-zero, zero-add}
 use native.Mathlib.Numerals.{add-one}
 use lib.ListN.{length, getD, List·getD-eq-default}
 use lib.Dec.{leb, eqb}
-use borrow.Author.Tests.{eq-eqb, ne-eqb}
+use borrow.Author.Tests.{leb-true, eq-eqb, ne-eqb}
 use Rattle.facts.specs.Sums.{bit, sum, count}
+use Rattle.facts.proofs.Bools.{and-r, true-false}
 use Rattle.facts.proofs.Sums.{bit-le}
 use Rattle.netlist.specs.declared.Record.{Record}
-use Rattle.netlist.specs.Kinds.{arity, input, and, majority}
+use Rattle.netlist.specs.Kinds.{arity, input, and, or, majority, isGate}
 use Rattle.netlist.specs.Records.{Netlist, slot}
+use Rattle.netlist.proofs.Checks.{arity-slots}
 use Rattle.simulator.specs.Shape.{Wired}
-use Rattle.simulator.specs.Logic.{on, ofKind, turned, threshold, onesBelow, gate, functionIn, valueIn}
+use Rattle.simulator.specs.Logic.{on, ofKind, turned, onesBelow, gate, functionIn, valueIn}
 
 -- past its end an area holds 0
 pub off-past : (area : List ℕ) (i : ℕ) → length area ≤ i → false ≡ on area i
 off-past area i h = sym (ap (λ (x : ℕ). not (eqb x 0)) (List·getD-eq-default area 0 h))
-
--- AND and MAJ want two slots, all others one
-pub threshold-one : (kind : ℕ) → (kind ≡ and → ⊥) → (kind ≡ majority → ⊥) → 1 ≡ threshold kind
-threshold-one zero a m = refl
-threshold-one (suc zero) a m = absurd (a refl)
-threshold-one (suc (suc zero)) a m = refl
-threshold-one (suc (suc (suc zero))) a m = absurd (m refl)
-threshold-one (suc (suc (suc (suc zero)))) a m = refl
-threshold-one (suc (suc (suc (suc (suc zero))))) a m = refl
-threshold-one (suc (suc (suc (suc (suc (suc k)))))) a m = refl
 
 pub turned-odd : (bits : ℕ) (value : Bool) → bits % 2 ≡ 1 → not value ≡ turned bits value
 turned-odd bits value e = rw (eq-eqb (bits % 2) 1 e)
@@ -65,48 +57,120 @@ module _ (m : Netlist) (kind n : ℕ) where
   pub counting-fits : (total i x one : ℕ) → KindCounting m kind n total i → one ≡ bit (eqb x kind) → i < n → n < 2 ^ 64 → total + one < 2 ^ 64
   counting-fits total i x one c f h l = omega (arith, c .few, bit-le (eqb x kind))
 
--- the slots below j that are 1 are counted; bits are the inversion bits from j on
-pub record Summing (r : Record) (held : List ℕ) (used bits total j : ℕ) : Type 0 where
-  pub within : j ≤ used
-  pub few : total ≤ j
-  pub left : bits ≡ r .inversion / 2 ^ j
-  pub so-far : total ≡ onesBelow (r .inversion) (λ j. on held (slot r j)) j
+-- a used slot reads a byte within the end
+module _ (r : Record) (held : List ℕ) (j : ℕ) (h : j < arity (r .kind)) where
+  pub shift-fits : j < 2 ^ 8
+  shift-fits = omega (arith, arity-slots (r .kind))
 
-module _ (r : Record) (held : List ℕ) (used : ℕ) where
-  pub summing-start : Summing r held used (r .inversion) 0 0
-  unfolding onesBelow count sum
-  summing-start =
-      record { within = omega arith; few = omega arith; left = sym (div-one (r .inversion)); so-far = refl }
+  pub shift-short : j < 8
+  shift-short = omega (arith, arity-slots (r .kind))
 
-  pub slot-inside : (j x : ℕ) → Wired r (length held) → used ≡ arity (r .kind) → j < used → x ≡ slot r j → x < length held
-  slot-inside j x w q h e = rw e (w .below j (rw q at h))
+  pub slot-inside : (x : ℕ) → Wired r (length held) → x ≡ slot r j → x < length held
+  slot-inside x w e = rw e (w .below j h)
 
-  pub summing-more : (bits total j x y one : ℕ) (t : Bool) → Summing r held used bits total j → j < used → x ≡ slot r j → y ≡ getD held x 0 → t ≡ turned bits (not (eqb y 0)) → one ≡ bit t → Summing r held used (bits / 2) (total + one) (j + 1)
-  unfolding onesBelow count sum
-  summing-more bits total j x y one t s h e f g k =
-      record {
-        within = omega arith;
-        few = omega (arith, s .few, bit-le t);
-        left = rw (add-one j, pow-suc 2 j, ← div-div-eq-div-mul (r .inversion) (2 ^ j) 2, ← s .left);
-        so-far = rw (add-one j, ← s .left, ← e, ← f, ← g) (omega (arith, s .so-far));
-      }
-
-  pub summing-end : (bits total j : ℕ) → Summing r held used bits total j → used ≤ j → used ≡ arity (r .kind) → total ≡ onesBelow (r .inversion) (λ j. on held (slot r j)) (arity (r .kind))
-  summing-end bits total j s h e =
-      let q : j ≡ arity (r .kind) = omega (arith, s .within) in
-      s .so-far ∙ ap (onesBelow (r .inversion) (λ j. on held (slot r j))) q
-
-  pub summing-fits : (bits total j one : ℕ) (t : Bool) → Summing r held used bits total j → one ≡ bit t → j < used → used < 2 ^ 64 → total + one < 2 ^ 64
-  summing-fits bits total j one t s e h l = omega (arith, s .few, bit-le t)
+pub reading-is : (r : Record) (held : List ℕ) (j x y : ℕ) (v : Bool) → x ≡ slot r j → y ≡ getD held x 0 → v ≡ turned (r .inversion / 2 ^ j) (not (eqb y 0)) → v ≡ turned (r .inversion / 2 ^ j) (on held (slot r j))
+reading-is r held j x y v e f g = g ∙ rw (f, e)
 
 pub wired-same : (r q : Record) (n : ℕ) → r ≡ q → Wired q n → Wired r n
 wired-same r q n e w = rw e w
 
--- what a record holds next
-pub function-is :
-    (r : Record) (held : List ℕ) (least total : ℕ) → least ≡ threshold (r .kind) → total ≡ onesBelow (r .inversion) (λ j. on held (slot r j)) (arity (r .kind)) → leb least total ≡ functionIn r held
-unfolding functionIn gate
-function-is r held least total f g = rw (f, g)
+-- at least two of three values
+module _ (a b c : Bool) (x y z : ℕ) (e : x ≡ bit a) (f : y ≡ bit b) where
+  pub two-fit : x + y < 2 ^ 64
+  two-fit = omega (arith, bit-le a, bit-le b)
+
+  pub three-fit : z ≡ bit c → x + y + z < 2 ^ 64
+  three-fit g = omega (arith, bit-le a, bit-le b, bit-le c)
+
+  pub majority-is : z ≡ bit c → leb 2 (x + y + z) ≡ leb 2 (bit a + bit b + bit c)
+  majority-is g = rw (e, f, g)
+
+-- a gate's third value: MAJ's third slot, 0 for AND, 1 for OR
+module _ (kind : ℕ) where
+  pub third-used : kind ≡ majority → 2 < arity kind
+  third-used e = rw e (omega arith)
+
+  pub third-read : (v read : Bool) → kind ≡ majority → v ≡ read → v ≡ cond (eqb kind majority) read (eqb kind or)
+  third-read v read k e = rw (eq-eqb kind majority k) e
+
+  pub third-fixed : (read : Bool) → (kind ≡ majority → ⊥) → eqb kind or ≡ cond (eqb kind majority) read (eqb kind or)
+  third-fixed read k = rw (ne-eqb kind majority k)
+
+and-two : (a b : Bool) → leb 2 (bit a + bit b + 0) ≡ leb 2 (0 + bit a + bit b)
+and-two a b = rw (add-zero (bit a + bit b), zero-add (bit a)) refl
+
+or-two : (a b : Bool) → leb 2 (bit a + bit b + 1) ≡ leb 1 (0 + bit a + bit b)
+or-two true true = refl
+or-two true false = refl
+or-two false true = refl
+or-two false false = refl
+
+alone : (a : Bool) → a ≡ leb 1 (0 + bit a)
+alone true = refl
+alone false = refl
+
+no-gate-above : (k : ℕ) → isGate (suc (suc (suc (suc k)))) ≡ true → ⊥
+no-gate-above k g = omega (arith, leb-true (suc (suc (suc (suc k)))) majority (and-r (leb and (suc (suc (suc (suc k))))) (leb (suc (suc (suc (suc k)))) majority) g))
+
+-- a gate is the majority of its first two slots and the third value; other kinds copy their slot, or use none and are 0
+module _ (inversion : ℕ) (fanins : ℕ → Bool) where
+  -- what slot j reads
+  abbrev reads : ℕ → Bool
+  reads j = turned (inversion / 2 ^ j) (fanins j)
+
+  gate-majority : (kind : ℕ) → isGate kind ≡ true → leb 2 (bit (reads 0) + bit (reads 1) + bit (cond (eqb kind majority) (reads 2) (eqb kind or))) ≡ gate kind inversion fanins
+  unfolding gate onesBelow count sum
+  gate-majority zero g = cc
+  gate-majority (suc zero) g = and-two (reads 0) (reads 1)
+  gate-majority (suc (suc zero)) g = or-two (reads 0) (reads 1)
+  gate-majority (suc (suc (suc zero))) g = rw (zero-add (bit (reads 0))) refl
+  gate-majority (suc (suc (suc (suc k)))) g = absurd (no-gate-above k g)
+
+  gate-none : (kind : ℕ) → arity kind ≡ 0 → false ≡ gate kind inversion fanins
+  unfolding gate onesBelow count sum
+  gate-none zero e = refl
+  gate-none (suc zero) e = absurd (omega (arith, e))
+  gate-none (suc (suc zero)) e = absurd (omega (arith, e))
+  gate-none (suc (suc (suc zero))) e = absurd (omega (arith, e))
+  gate-none (suc (suc (suc (suc zero)))) e = absurd (omega (arith, e))
+  gate-none (suc (suc (suc (suc (suc zero))))) e = absurd (omega (arith, e))
+  gate-none (suc (suc (suc (suc (suc (suc k)))))) e = refl
+
+  gate-copy : (kind : ℕ) → isGate kind ≡ false → (arity kind ≡ 0 → ⊥) → reads 0 ≡ gate kind inversion fanins
+  unfolding gate onesBelow count sum
+  gate-copy zero g u = absurd (u refl)
+  gate-copy (suc zero) g u = cc
+  gate-copy (suc (suc zero)) g u = cc
+  gate-copy (suc (suc (suc zero))) g u = cc
+  gate-copy (suc (suc (suc (suc zero)))) g u = alone (reads 0)
+  gate-copy (suc (suc (suc (suc (suc zero))))) g u = alone (reads 0)
+  gate-copy (suc (suc (suc (suc (suc (suc k)))))) g u = absurd (u refl)
+
+module _ (r : Record) (held : List ℕ) (g : Bool) (is : g ≡ isGate (r .kind)) where
+  pub function-majority : (a b c v : Bool) → g ≡ true → a ≡ turned (r .inversion / 2 ^ 0) (on held (slot r 0)) → b ≡ turned (r .inversion / 2 ^ 1) (on held (slot r 1)) → c ≡ cond (eqb (r .kind) majority) (turned (r .inversion / 2 ^ 2) (on held (slot r 2))) (eqb (r .kind) or) → v ≡ leb 2 (bit a + bit b + bit c) → v ≡ functionIn r held
+  unfolding functionIn
+  function-majority a b c v t e f h q = q ∙ rw (e, f, h) (gate-majority (r .inversion) (λ j. on held (slot r j)) (r .kind) (sym is ∙ t))
+
+  pub function-none : (n : ℕ) → n ≡ arity (r .kind) → n ≡ 0 → false ≡ functionIn r held
+  unfolding functionIn
+  function-none n e z = gate-none (r .inversion) (λ j. on held (slot r j)) (r .kind) (sym e ∙ z)
+
+  pub function-copy : (v : Bool) (n : ℕ) → g ≡ false → n ≡ arity (r .kind) → (n ≡ 0 → ⊥) → v ≡ turned (r .inversion / 2 ^ 0) (on held (slot r 0)) → v ≡ functionIn r held
+  unfolding functionIn
+  function-copy v n t e u q = q ∙ gate-copy (r .inversion) (λ j. on held (slot r j)) (r .kind) (sym is ∙ t) (λ z. u (e ∙ z))
+
+  pub gate-uses : g ≡ true → 1 < arity (r .kind)
+  gate-uses t = two-used (r .kind) (sym is ∙ t)
+    where
+      two-used : (kind : ℕ) → isGate kind ≡ true → 1 < arity kind
+      two-used zero h = absurd (true-false false h refl)
+      two-used (suc zero) h = omega arith
+      two-used (suc (suc zero)) h = omega arith
+      two-used (suc (suc (suc zero))) h = omega arith
+      two-used (suc (suc (suc (suc k)))) h = absurd (no-gate-above k h)
+
+  pub gate-uses-one : g ≡ true → 0 < arity (r .kind)
+  gate-uses-one t = omega (arith, gate-uses t)
 
 module _ (r q : Record) (row held : List ℕ) (given b : ℕ) (e : r ≡ q) where
   pub value-input : (v : Bool) → r .kind ≡ input → v ≡ on row given → b ≡ bit v → b ≡ bit (valueIn q (on row given) held)

@@ -1,21 +1,22 @@
 // The plain evaluator, one step and the phase run (checks 18 and 19).
 ghost use mathlib.Core.Path.{_≡_};
+ghost use mathlib.Core.Bool.{cond};
 ghost use mathlib.Core.List.{_++_};
-ghost use Prim.Native.Nat.{_+_, _-_, _*_, _<_, _≤_, _^_};
+ghost use Prim.Native.Nat.{_+_, _-_, _*_, _/_, _<_, _≤_, _^_};
 ghost use lib.ListN.{length, take, drop, getD, replicate};
+ghost use lib.Dec.{leb, eqb};
 ghost use Rattle.facts.specs.Sums.{count, bit};
-ghost use Rattle.netlist.specs.Kinds.{sourceLimit, arity};
+ghost use Rattle.netlist.specs.Kinds.{sourceLimit, or, majority, arity};
 ghost use Rattle.netlist.specs.Records.{netlist, recordCount, recordAt, slot};
 ghost use Rattle.netlist.specs.Checks.{sourceChecks};
 ghost use Rattle.netlist.specs.Source.{IsSource};
 ghost use Rattle.verifier.specs.Legal.{Named};
-ghost use Rattle.simulator.specs.Logic.{on, ofKind, onesBelow, functionIn, valueIn, values, inputs, outputs, outputRow};
+ghost use Rattle.simulator.specs.Logic.{on, ofKind, turned, functionIn, valueIn, values, inputs, outputs, outputRow};
 ghost use Rattle.simulator.specs.Evaluate.{bitChecks, badAreas, evaluateChecks, evaluateAnswer, evaluateArea};
 ghost use Rattle.simulator.specs.Step.{rowLimit, renewedBelow, older, stepped, Buffered, copied, badRows, stepChecks, stepAnswer, stepArea};
 ghost use Rattle.simulator.specs.Run.{rowAt, OutputRoom, putOutput, after, steps, outputRows, badOutputs, runChecks, runAnswer, runArea, runOutputs};
 ghost use Rattle.simulator.specs.Waves.{IsRun};
 ghost use Rattle.simulator.specs.Shape.{Wired, Steppable, ShapeOf, Playable};
-ghost use Rattle.simulator.specs.Logic;
 use facts::Checked;
 use netlist::Record;
 
@@ -68,19 +69,9 @@ fn count_kind(bytes: &[u8], kind: u8) -> usize
 
 // A value turned over where the lowest bit is 1.
 fn turn(bits: u8, value: bool) -> bool
-    ensures { λ r. ⌜ r ≡ Logic.turned bits value ⌝ }
+    ensures { λ r. ⌜ r ≡ turned bits value ⌝ }
 {
     if bits % 2 == 1 { !value } else { value }
-}
-
-// How many of its used slots must be 1 for a record to be 1: two for AND and MAJ, else one.
-fn threshold(kind: u8) -> usize
-    ensures { λ r. ⌜ r ≡ Logic.threshold kind ⌝ }
-{
-    if kind == netlist::AND {
-        return 2;
-    }
-    if kind == netlist::MAJORITY { 2 } else { 1 }
 }
 
 // Byte i of an area, within the end.
@@ -91,21 +82,35 @@ fn held_at(area: &[u8], i: usize) -> u8
     area[i]
 }
 
-// How many used slots of a record are 1.
-fn ones(r: Record, held: &[u8]) -> usize
+// What used slot j of a record reads, turned over where its inversion bit is 1.
+fn read_slot(r: Record, held: &[u8], j: usize) -> bool
     requires { ⌜ Wired r (length (now held)) ⌝ }
-    ensures { λ n. ⌜ n ≡ onesBelow (r .inversion) (λ j. on (now (held .entry)) (slot r j)) (arity (r .kind)) ⌝ }
+    requires { ⌜ j < arity (r .kind) ⌝ }
+    ensures { λ v. ⌜ v ≡ turned (r .inversion / 2 ^ j) (on (now (held .entry)) (slot r j)) ⌝ }
 {
-    let used = netlist::arity(r.kind);
-    let mut bits = r.inversion;
-    let mut total: usize = 0;
-    let mut j: usize = 0;
-    while j < used {
-        total += one_if(turn(bits, held_at(held, netlist::slot(r, j) as usize) != 0));
-        bits = bits / 2;
-        j += 1;
+    turn(
+        r.inversion >> j,
+        held_at(held, netlist::slot(r, j) as usize) != 0,
+    )
+}
+
+// Whether at least two of three values are 1.
+fn majority(a: bool, b: bool, c: bool) -> bool
+    ensures { λ v. ⌜ v ≡ leb 2 (bit a + bit b + bit c) ⌝ }
+{
+    2 <= one_if(a) + one_if(b) + one_if(c)
+}
+
+// The third of a gate's values: MAJ reads it; AND and OR are the majority of two slots and a constant.
+fn third(r: Record, held: &[u8]) -> bool
+    requires { ⌜ Wired r (length (now held)) ⌝ }
+    ensures { λ v. ⌜ v ≡ cond (eqb (r .kind) majority) (turned (r .inversion / 2 ^ 2) (on (now (held .entry)) (slot r 2))) (eqb (r .kind) or) ⌝ }
+{
+    if r.kind == netlist::MAJORITY {
+        read_slot(r, held, 2)
+    } else {
+        r.kind == netlist::OR
     }
-    total
 }
 
 // A record's function of what an area holds.
@@ -113,7 +118,13 @@ fn function_of(r: Record, held: &[u8]) -> bool
     requires { ⌜ Wired r (length (now held)) ⌝ }
     ensures { λ v. ⌜ v ≡ functionIn r (now (held .entry)) ⌝ }
 {
-    threshold(r.kind) <= ones(r, held)
+    if netlist::is_gate(r.kind) {
+        return majority(read_slot(r, held, 0), read_slot(r, held, 1), third(r, held));
+    }
+    if netlist::arity(r.kind) == 0 {
+        return false;
+    }
+    read_slot(r, held, 0)
 }
 
 // What record i holds next, as a byte: an input byte `given` of the row, every other record its function.

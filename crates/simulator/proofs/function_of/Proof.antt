@@ -1,17 +1,50 @@
--- `function_of` meets its contract: enough of the used slots are 1.
-use Rattle.simulator.proofs.Values.{function-is}
+-- `function_of` meets its contract: a gate is a majority, an output and a buffer copy.
+use Rattle.simulator.proofs.Values.{gate-uses, gate-uses-one, function-majority, function-none, function-copy}
 use borrow.Author.Needs.{needs}
 use Rattle.simulator.proofs.function_of.Statement.{statement}
 use Rattle.simulator.proofs.function_of.Tie as tie
 
-threshold-requires : tie.Need-threshold-requires
-threshold-requires c κs = search needs
+is-gate-requires : tie.Need-is-gate-requires
+is-gate-requires c κs = search needs
 
-ones-requires : tie.Need-ones-requires
-ones-requires c κs = search needs
+read-slot-requires : tie.Need-read-slot-requires
+read-slot-requires c κs = search (needs, gate-uses-one)
+
+read-slot-requires-2 : tie.Need-read-slot-requires-2
+read-slot-requires-2 c κs = search (needs, gate-uses)
+
+third-requires : tie.Need-third-requires
+third-requires c κs = search needs
+
+majority-requires : tie.Need-majority-requires
+majority-requires c κs = search needs
 
 returns : tie.Need-returns
-returns c = search function-is
+returns c = search function-majority
+
+arity-requires : tie.Need-arity-requires
+arity-requires c κs = search needs
+
+returns-2 : tie.Need-returns-2
+returns-2 c = search function-none
+
+read-slot-requires-3 : tie.Need-read-slot-requires-3
+read-slot-requires-3 c κs = search needs
+
+returns-3 : tie.Need-returns-3
+returns-3 c = search function-copy
 
 pub function-of-spec : {M : Type 1} → statement M
-function-of-spec = tie.close (tie.spec threshold-requires ones-requires returns)
+function-of-spec =
+    tie.close
+    (tie.spec
+    is-gate-requires
+    read-slot-requires
+    read-slot-requires-2
+    third-requires
+    majority-requires
+    returns
+    arity-requires
+    returns-2
+    read-slot-requires-3
+    returns-3)
