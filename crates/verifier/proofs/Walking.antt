@@ -18,8 +18,9 @@ use Rattle.facts.proofs.Reflect.{reflect}
 use Rattle.facts.proofs.Sums.{any-none}
 use Rattle.facts.proofs.Loops.{NoneYet, any-start, any-more, any-found, any-end, Scanning, scan-start, scan-more, scan-stop, scan-end}
 use Rattle.netlist.specs.declared.Record.{Record}
-use Rattle.netlist.specs.Kinds.{buffer, arity}
+use Rattle.netlist.specs.Kinds.{slots, buffer, arity}
 use Rattle.netlist.specs.Records.{Netlist, netlist, recordAt, recordCount, slot}
+use Rattle.netlist.proofs.Checks.{arity-slots}
 use Rattle.verifier.specs.Trace.{walk, driver}
 use Rattle.verifier.specs.Walking.{Sized, Driven, Buffering, unknown, Known, knownDriver, PlacesPassed, Traceable, Traced, SlotsTraceable, SlotsTraced}
 use Rattle.verifier.specs.Feeding.{stop, badFanin, bufferChecks, Fed, Tallied, TalliedIfPassed}
@@ -161,13 +162,13 @@ pub record NoneStrayed (m : Netlist) (a r : Record) (n : ℕ) (drivers : List �
   pub none : NoneYet (strays m a r) n j
   pub known : Known m drivers
 
-module _ (m : Netlist) (before : List ℕ) (a r : Record) (n : ℕ) (u : n ≡ arity (a .kind)) (w : SlotsTraceable m before r (arity (a .kind))) where
+module _ (m : Netlist) (before : List ℕ) (a r : Record) (n : ℕ) (w : SlotsTraceable m before r n) where
   pub strayed-start : NoneStrayed m a r n before 0
   strayed-start = record { none = any-start (strays m a r) n; known = w .known }
 
   module _ (drivers : List ℕ) (j : ℕ) (i : NoneStrayed m a r n drivers j) where
-    pub strayed-end : n ≤ j → SlotsTraced m false (any (strays m a r) (arity (a .kind))) drivers
-    strayed-end l = record { answer = rw (← u) (any-end (strays m a r) n j (i .none) l); known = i .known }
+    pub strayed-end : n ≤ j → SlotsTraced m false (any (strays m a r) n) drivers
+    strayed-end l = record { answer = any-end (strays m a r) n j (i .none) l; known = i .known }
 
     module _ (l : j < n) (x : ℕ) (e : x ≡ slot r j) where
       pub strayed-traceable : Traceable m drivers (m .at x .level) x
@@ -175,7 +176,7 @@ module _ (m : Netlist) (before : List ℕ) (a r : Record) (n : ℕ) (u : n ≡ a
           record {
             named = w .named;
             balanced = w .balanced;
-            here = rw e (w .slots j (rw u at l));
+            here = rw e (w .slots j l);
             stands = refl;
             known = i .known;
           }
@@ -184,13 +185,33 @@ module _ (m : Netlist) (before : List ℕ) (a r : Record) (n : ℕ) (u : n ≡ a
       here : y ≡ slot a j → strays m a r j ≡ not (eqb d y)
       here g = rw (← e, ← g, f .ends)
 
-      pub strayed-found : d ≢ y → y ≡ slot a j → SlotsTraced m true (any (strays m a r) (arity (a .kind))) after
+      pub strayed-found : d ≢ y → y ≡ slot a j → SlotsTraced m true (any (strays m a r) n) after
       strayed-found t g =
-          record { answer = rw (← u) (any-found (strays m a r) n j true l (sym (here g ∙ rw (ne-eqb d y t))) refl); known = f .known }
+          record { answer = any-found (strays m a r) n j true l (sym (here g ∙ rw (ne-eqb d y t))) refl; known = f .known }
 
       pub strayed-more : d ≡ y → y ≡ slot a j → NoneStrayed m a r n after (j + 1)
       strayed-more t g =
           record { none = any-more (strays m a r) n j false (i .none) l (sym (here g ∙ rw (eq-eqb d y t))) refl; known = f .known }
+
+-- the used slots of a source record are its first 0, 1, 2 or 3
+module _ (m : Netlist) (a r : Record) (used : ℕ) (u : used ≡ arity (a .kind)) (drivers : List ℕ) where
+  module _ (w : SlotsTraceable m drivers r (arity (a .kind))) where
+    pub traced-none : used ≡ 0 → SlotsTraced m false (any (strays m a r) (arity (a .kind))) drivers
+    unfolding any
+    traced-none e = rw (← u, e) (record { answer = refl; known = w .known })
+
+    pub traceable-some : (n : ℕ) → used ≡ n → SlotsTraceable m drivers r n
+    traceable-some n e = rw (← u, e) at w
+
+    pub traceable-all : used ≢ 0 → used ≢ 1 → used ≢ 2 → SlotsTraceable m drivers r slots
+    traceable-all o p q = traceable-some slots (omega (arith, arity-slots (a .kind)))
+
+  module _ (b : Bool) where
+    pub traced-some : (n : ℕ) → used ≡ n → SlotsTraced m b (any (strays m a r) n) drivers → SlotsTraced m b (any (strays m a r) (arity (a .kind))) drivers
+    traced-some n e f = rw (← u, e) f
+
+    pub traced-all : used ≢ 0 → used ≢ 1 → used ≢ 2 → SlotsTraced m b (any (strays m a r) slots) drivers → SlotsTraced m b (any (strays m a r) (arity (a .kind))) drivers
+    traced-all o p q f = traced-some slots (omega (arith, arity-slots (a .kind))) f
 
 -- the answer from k on is the answer, and what is known is right
 pub record Tracing (n m : Netlist) (drivers : List ℕ) (k : ℕ) : Type 0 where

@@ -326,13 +326,12 @@ fn driver_of(mapped: &[u8], n: u32, drivers: &mut [u16], x: u16) -> u16
     walk(mapped, drivers, netlist::level_at(mapped, x as usize), x)
 }
 
-// Check 16 of the used slots of a source record a that stands mapped as r: one is traced to another driver.
-fn any_strays(mapped: &[u8], n: u32, drivers: &mut [u16], a: Record, r: Record) -> bool
-    requires { ⌜ SlotsTraceable (netlist (now mapped)) (now drivers) r (Kinds.arity (a .kind)) ⌝ }
+// Check 16 of the first `used` slots of a source record a that stands mapped as r: one is traced to another driver.
+fn any_strays(mapped: &[u8], n: u32, drivers: &mut [u16], a: Record, r: Record, used: usize) -> bool
+    requires { ⌜ SlotsTraceable (netlist (now mapped)) (now drivers) r used ⌝ }
     requires { ⌜ Driven n (netlist (now mapped)) ⌝ }
-    ensures { λ b. ⌜ SlotsTraced (netlist (now (mapped .entry))) b (any (strays (netlist (now (mapped .entry))) a r) (Kinds.arity (a .kind))) (now (drivers .exit)) ⌝ }
+    ensures { λ b. ⌜ SlotsTraced (netlist (now (mapped .entry))) b (any (strays (netlist (now (mapped .entry))) a r) used) (now (drivers .exit)) ⌝ }
 {
-    let used = arity(a.kind);
     let mut j: usize = 0;
     while j < used {
         if driver_of(mapped, n, drivers, slot(r, j)) != slot(a, j) {
@@ -341,6 +340,21 @@ fn any_strays(mapped: &[u8], n: u32, drivers: &mut [u16], a: Record, r: Record) 
         j += 1;
     }
     false
+}
+
+// The same of all used slots, by a path for each number of them.
+fn used_strays(mapped: &[u8], n: u32, drivers: &mut [u16], a: Record, r: Record) -> bool
+    requires { ⌜ SlotsTraceable (netlist (now mapped)) (now drivers) r (Kinds.arity (a .kind)) ⌝ }
+    requires { ⌜ Driven n (netlist (now mapped)) ⌝ }
+    ensures { λ b. ⌜ SlotsTraced (netlist (now (mapped .entry))) b (any (strays (netlist (now (mapped .entry))) a r) (Kinds.arity (a .kind))) (now (drivers .exit)) ⌝ }
+{
+    let used = arity(a.kind);
+    match used {
+        0 => false,
+        1 => any_strays(mapped, n, drivers, a, r, 1),
+        2 => any_strays(mapped, n, drivers, a, r, 2),
+        _ => any_strays(mapped, n, drivers, a, r, netlist::SLOTS),
+    }
 }
 
 // Check 16 of every source record, rising.
@@ -353,7 +367,7 @@ fn check_traces(source: &[u8], mapped: &[u8], n: u32, drivers: &mut [u16]) -> Ch
 {
     let mut k: u32 = 0;
     while k < n {
-        if any_strays(
+        if used_strays(
             mapped,
             n,
             drivers,

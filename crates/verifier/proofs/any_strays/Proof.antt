@@ -14,9 +14,6 @@ Inv-loop mapped n drivers₀ a r used j₀ drivers j = NoneStrayed (netlist mapp
 abbrev μ-loop : tie.MeasureT-loop
 μ-loop mapped n drivers₀ a r used j₀ drivers j = used - j
 
-arity-requires : tie.Need-arity-requires Inv-loop μ-loop
-arity-requires c κs = search needs
-
 loop-holds : tie.Need-loop-holds Inv-loop μ-loop
 loop-holds c = search (needs, strayed-start)
 
@@ -56,7 +53,6 @@ any-strays-spec =
     (tie.spec
     Inv-loop
     μ-loop
-    arity-requires
     loop-holds
     slot-requires
     driver-of-requires

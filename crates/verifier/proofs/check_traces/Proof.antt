@@ -29,8 +29,8 @@ cast-record-at-2 c = search needs
 record-at-requires-2 : tie.Need-record-at-requires-2 Inv-loop μ-loop
 record-at-requires-2 c κs = search needs
 
-any-strays-requires : tie.Need-any-strays-requires Inv-loop μ-loop
-any-strays-requires c κs = search (needs, tracing-slots)
+used-strays-requires : tie.Need-used-strays-requires Inv-loop μ-loop
+used-strays-requires c κs = search (needs, tracing-slots)
 
 same-length : tie.Need-same-length Inv-loop μ-loop
 same-length c = search needs
@@ -64,7 +64,7 @@ check-traces-spec =
     record-at-requires
     cast-record-at-2
     record-at-requires-2
-    any-strays-requires
+    used-strays-requires
     same-length
     returns
     add-k
