@@ -6,8 +6,8 @@ use mathlib.Core.List.{List}
 use native.Mathlib.Omega.{arith}
 use native.Mathlib.Numerals.{add-one}
 use mir.Val.{Fits}
-use mir.Syntax.{w16, w32, w64}
-use lib.ListN.{length, replicate}
+use mir.Syntax.{w32, w64}
+use lib.ListN.{length}
 use borrow.Author.Tests.{eq-eqb, ne-eqb, lt-ltb, le-ltb, not-false}
 use Rattle.facts.specs.declared.Checked.{Checked}
 use Rattle.facts.specs.declared.Checked.the-variants.{Passed, Refused}
@@ -26,8 +26,8 @@ use Rattle.mapper.specs.Mapped.{treeSize, bufferTotal, mappedSize, mappe
 use Rattle.mapper.specs.Answer.{gatePrice, bufferPrice, gates, share, junctions, figures, answerOf, areaOf, refusal, noTree, treeCheck, treesBelow, treeChecks, tooLarge, tooShort, sourceMaps, mapChecks, mapAnswer, mapArea}
 use Rattle.mapper.specs.declared.trees.Sizing.{Sizing}
 use Rattle.mapper.specs.declared.trees.Sizing.the-variants.{Total, Stops}
-use Rattle.mapper.specs.Chains.{Linked, Chained, Hung, sizingOf, slotEnd, Counted}
-use Rattle.mapper.proofs.Chains.{link-start, chained-all}
+use Rattle.mapper.specs.Chains.{Linked, Chained, Hung, sizingOf, Counted}
+use Rattle.mapper.proofs.Chains.{chained-all}
 use Rattle.mapper.proofs.Counting.{total-small, refusing, counting}
 
 -- the share, where the whole is 0 and where it is not
@@ -139,14 +139,6 @@ module _ (bytes : List ℕ) (s : ℕ) (i : inputChecks s bytes ≡ Passed) where
 
   -- the chains before any slot is linked
   module _ (N : ℕ) (size : N ≡ recordCount bytes) where
-    pub input-end : Fits w16 (slots * N)
-    input-end = omega (arith, input-source .few)
-
-    pub input-unlinked : (next : List ℕ) → length next ≡ slots * sourceLimit →
-        Linked (netlist bytes) (replicate sourceLimit (slots * N)) next (slots * N)
-    input-unlinked next l =
-        rw size (link-start (netlist bytes) (replicate sourceLimit (slotEnd (netlist bytes))) next refl l (input-source .few))
-
     pub input-chained : (first next : List ℕ) (end : ℕ) → end ≡ slots * N → Linked (netlist bytes) first next 0 →
         Chained (netlist bytes) first next 0 end
     input-chained first next end e l =

@@ -4,12 +4,13 @@ use mathlib.Core.Path.{_≡_, refl, sym, _∙_, ap, ap₂}
 use mathlib.Core.List.{List, [], _∷_, _++_, append-assoc, append-nil}
 use native.Mathlib.Omega.{arith}
 use native.Mathlib.Nat.{add-zero, add-suc, add-assoc, zero-add}
-use lib.ListN.{length, take, drop, length-append, length-drop, take-append-drop, drop-of-length-le}
-use lib.Seq.{sets, sets-eq, take-at, drop-at, drop-append-add, drop-drop, length-take-le, take-append-le, take-take}
+use native.Mathlib.Numerals.{add-one}
+use lib.ListN.{length, take, drop, set, length-append, length-drop, take-append-drop, drop-of-length-le}
+use lib.Seq.{sets, sets-eq, take-at, drop-at, drop-append-add, drop-drop, length-take-le, take-append-le, take-append-add, drop-append-le, take-take}
 use Rattle.netlist.specs.declared.Record.{Record}
 use Rattle.netlist.specs.Kinds.{width}
 use Rattle.netlist.specs.Records.{Netlist, slot}
-use Rattle.mapper.specs.Bytes.{joined, encode, encoded, recs, bytesOf, put, withRecords, onto}
+use Rattle.mapper.specs.Bytes.{twoBytes, joined, encode, encoded, recs, bytesOf, put, withRecords, onto}
 use Rattle.mapper.proofs.Bytes.{length-joined, length-encode}
 
 module _ (xs : List ℕ) (a : ℕ) (bs : List ℕ) where
@@ -58,6 +59,35 @@ module _ (xs : List ℕ) (a : ℕ) (bs : List ℕ) where
     where
       both : b + length cs ≡ a + length (bs ++ cs)
       both = omega (arith, length-append bs cs)
+
+-- bytes in the place of some of those that were put
+pub put-within : (xs : List ℕ) (a : ℕ) (bs : List ℕ) (k : ℕ) (cs : List ℕ) → a + length bs ≤ length xs → k + length cs ≤ length bs →
+    put (put xs a bs) (a + k) cs ≡ put xs a (put bs k cs)
+put-within xs a bs k cs l h =
+    ap₂ (λ (u v : List ℕ). u ++ (cs ++ v))
+    (ap (λ (x : ℕ). take (x + k) (P ++ (bs ++ R))) (sym long)
+    ∙ take-append-add P (bs ++ R) k
+    ∙ ap (λ (u : List ℕ). P ++ u) (take-append-le k bs R (omega arith)))
+    (ap (λ (x : ℕ). drop x (P ++ (bs ++ R))) far
+    ∙ drop-append-add P (bs ++ R) (k + length cs)
+    ∙ drop-append-le (k + length cs) bs R h)
+    ∙ append-assoc P (take k bs) (cs ++ (drop (k + length cs) bs ++ R))
+    ∙ ap (λ (u : List ℕ). P ++ u)
+    (ap (λ (u : List ℕ). take k bs ++ u) (sym (append-assoc cs (drop (k + length cs) bs) R))
+    ∙ sym (append-assoc (take k bs) (cs ++ drop (k + length cs) bs) R)
+    ∙ ap (λ (x : ℕ). put bs k cs ++ drop (a + x) xs) (sym (length-put bs k cs h)))
+  where
+    P : List ℕ
+    P = take a xs
+
+    R : List ℕ
+    R = drop (a + length bs) xs
+
+    long : length P ≡ a
+    long = length-take-le a xs (omega arith)
+
+    far : a + k + length cs ≡ length P + (k + length cs)
+    far = omega (arith, long)
 
 -- equal records below n, encoded
 pub encoded-cong : (f g : ℕ → Record) (n : ℕ) → ((i : ℕ) → i < n → f i ≡ g i) → encoded f n ≡ encoded g n
@@ -130,3 +160,11 @@ stored part r x y z l₁ l₂ x₁ x₂ y₁ y₂ z₁ z₂ p a b c d e f g h i 
     let bytes : List ℕ = r .kind ∷ r .inversion ∷ l₁ ∷ l₂ ∷ x₁ ∷ x₂ ∷ y₁ ∷ y₂ ∷ z₁ ∷ z₂ ∷ [] in
     let same : bytes ≡ encode r = cc in
     stored-whole part bytes p refl ∙ same
+
+-- a slot's two bytes, stored one by one
+pub slot-stored : (area : List ℕ) (at v x y : ℕ) → at + 1 < length area → x ≡ v % 256 → y ≡ v / 256 % 256 → set (set area at x) (at + 1) y ≡ put area at (twoBytes v)
+slot-stored area at v x y l e f =
+    ap (λ (k : ℕ). set (set area at x) k y) (add-one at)
+    ∙ sets-eq (x ∷ y ∷ []) area at (omega arith)
+    ∙ append-assoc (take at area) (x ∷ y ∷ []) (drop (at + 2) area)
+    ∙ ap₂ (λ (x y : ℕ). put area at (x ∷ y ∷ [])) e f

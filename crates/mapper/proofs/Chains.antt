@@ -7,7 +7,9 @@ use native.Mathlib.Omega.{arith}
 use native.Mathlib.Nat.{add-zero}
 use native.Mathlib.Numerals.{add-one}
 use native.Mathlib.Decide.{decLt, ℕ-discrete}
-use lib.ListN.{length, getD, set, replicate, length-set, length-replicate, getD-replicate}
+use mir.Val.{Fits}
+use mir.Syntax.{w16}
+use lib.ListN.{length, getD, set, length-set}
 use lib.Seq.{getD-set-same, getD-set-other}
 use borrow.Author.Tests.{lt-ltb, le-ltb, eq-eqb, ne-eqb}
 use Rattle.facts.specs.Sums.{count, seek}
@@ -17,7 +19,7 @@ use Rattle.netlist.specs.Kinds.{slots, sourceLimit, arity}
 use Rattle.netlist.specs.Records.{Netlist, fanin}
 use Rattle.netlist.specs.Source.{IsSource}
 use Rattle.netlist.proofs.Checks.{arity-slots}
-use Rattle.mapper.specs.Chains.{slotEnd, usedSlot, faninSlot, namesSlot, nextSink, Linked, Chained}
+use Rattle.mapper.specs.Chains.{slotEnd, usedSlot, faninSlot, namesSlot, nextSink, Ended, Linked, Chained}
 
 -- what holds only where p does is counted nowhere on the way to the first p
 seek-count : (p q : ℕ → Bool) (y m : ℕ) → ((z : ℕ) → q z ≡ true → p z ≡ true) → count q (seek p y m) ≡ count q y
@@ -93,16 +95,44 @@ module _ (n : Netlist) (d : ℕ) where
         count-more (namesSlot n d) y z a,
       )
 
+-- the first d chains are ended
+module _ (n end : ℕ) (first : List ℕ) where
+  pub ended-none : length first ≡ sourceLimit → Ended 0 end first
+  ended-none l = record { size = l; at = λ d h. absurd (omega arith) }
+
+  pub ended-more : (d : ℕ) → Ended d end first → d < n → n ≤ sourceLimit → Ended (d + 1) end (set first d end)
+  ended-more d h l room =
+      record {
+        size = length-set first d end ∙ h .size;
+        at = λ x b.
+            elim (ℕ-discrete x d) [
+              | yes e ↦ rw e (getD-set-same first d end 0 (omega (arith, h .size)))
+              | no e ↦ getD-set-other first d x end 0 e ∙ h .at x (omega (arith, e))
+            ];
+      }
+
+  pub ended-all : (d : ℕ) → Ended d end first → d ≤ n → n ≤ d → Ended n end first
+  ended-all d h l g = let e : d ≡ n = omega arith in rw e at h
+
 module _ (n : Netlist) (first next : List ℕ) where
   -- no slot is linked yet: every first sink is the end
-  pub link-start : first ≡ replicate sourceLimit (slotEnd n) → length next ≡ slots * sourceLimit → n .size ≤ sourceLimit → Linked n first next (slotEnd n)
-  link-start e f l =
-      record {
-        firsts = λ d ld. rw e (getD-replicate sourceLimit d (slotEnd n) 0 (omega arith) ∙ sym (next-end n d));
-        nexts = λ y a b u. absurd (omega arith);
-        firstLong = ap length e ∙ length-replicate sourceLimit (slotEnd n);
-        nextLong = f;
-      }
+  module _ (N : ℕ) (e : N ≡ n .size) where
+    pub chains-few : IsSource n → N ≤ sourceLimit
+    chains-few s = omega (arith, s .few)
+
+    pub chains-end : IsSource n → Fits w16 (slots * N)
+    chains-end s = omega (arith, s .few)
+
+    pub link-start : Ended N (slots * N) first → length next ≡ slots * sourceLimit → Linked n first next (slots * N)
+    link-start h f =
+        rw e (
+        record {
+          firsts = λ d l. (rw e at h) .at d l ∙ sym (next-end n d);
+          nexts = λ y a b u. absurd (omega arith);
+          firstLong = h .size;
+          nextLong = f;
+        }
+        )
 
   -- an unused slot links nothing
   pub link-unused : (x : ℕ) → Linked n first next (x + 1) → x < slotEnd n → usedSlot n x ≡ false → Linked n first next x

@@ -1,24 +1,22 @@
 -- Laws of writing records one after the other: the first j of n are written.
 use Prim.Native.Nat.{ℕ, zero, suc, _+_, _-_, _*_, _≤_, _<_, _/_}
 use mathlib.Core.Path.{_≡_, refl, sym, _∙_, ap, ap₂}
-use mathlib.Core.Bool.{cond}
 use mathlib.Core.List.{List, _++_}
 use native.Mathlib.Omega.{arith}
 use native.Mathlib.Nat.{add-zero, zero-add, div-le-self}
 use native.Mathlib.Numerals.{add-one}
 use mir.Val.{Fits}
 use mir.Syntax.{w16}
-use lib.ListN.{length, take, drop, take-append-drop}
-use lib.Dec.{ltb}
-use borrow.Author.Tests.{lt-ltb, le-ltb}
+use lib.ListN.{length, take, drop, getD, take-append-drop}
 use Rattle.netlist.specs.declared.Record.{Record}
-use Rattle.netlist.specs.Kinds.{width, arity}
+use Rattle.netlist.specs.Kinds.{width, slots, arity}
 use Rattle.netlist.specs.Records.{recordAt}
-use Rattle.mapper.specs.Bytes.{joined, encode, encoded, put}
+use Rattle.netlist.proofs.Checks.{arity-slots}
+use Rattle.mapper.specs.Bytes.{twoBytes, joined, encode, encoded, put}
 use Rattle.mapper.specs.Mapped.{bufferOf}
 use Rattle.mapper.specs.Chains.{behind, levelRecord, lineParent, lineRecord, relinked, relinkedAt}
 use Rattle.mapper.proofs.Bytes.{length-joined, length-encode}
-use Rattle.mapper.proofs.Area.{length-put, put-behind}
+use Rattle.mapper.proofs.Area.{length-put, put-behind, put-within}
 
 -- records f 0 to f (j - 1) are written from record at on
 pub record Joining (area₀ : List ℕ) (at : ℕ) (f : ℕ → Record) (n : ℕ) (area : List ℕ) (j : ℕ) : Type 0 where
@@ -131,23 +129,87 @@ line-more area₀ d start low n area j h fanin r after room l e f g =
     (f ∙ ap₂ bufferOf (ap (λ (k : ℕ). low + k) (add-one j)) (e ∙ ap (lineParent d start) (add-one j))) g
 
 -- record i of the source: read, rewired and written
-pub new-used : (j a kind x y : ℕ) → a ≡ arity kind → j < a → x ≡ cond (ltb j (arity kind)) x y
-new-used j a kind x y e l = rw (← e, lt-ltb j a l) refl
+-- a record whose first slots are written anew
+module _ (r : Record) (parents : List ℕ) (i : ℕ) where
+  -- what slot j then holds
+  abbrev anew : ℕ → List ℕ
+  anew j = twoBytes (getD parents (slots * i + j) 0)
 
-pub new-kept : (j a kind x y z : ℕ) → a ≡ arity kind → a ≤ j → z ≡ y → z ≡ cond (ltb j (arity kind)) x y
-new-kept j a kind x y z e l f = rw (← e, le-ltb j a l) f
+  unfoldable renewed : ℕ → List ℕ
+  renewed zero = encode r
+  renewed (suc j) = put (renewed j) (4 + 2 * j) (anew j)
+
+  renewed-length : (j : ℕ) → j ≤ slots → length (renewed j) ≡ width
+  unfolding renewed
+  renewed-length zero l = length-encode r
+  renewed-length (suc j) l =
+      let e : length (renewed j) ≡ width = renewed-length j (omega arith) in
+      length-put (renewed j) (4 + 2 * j) (anew j) (omega (arith, e)) ∙ e
+
+  -- all used slots are written
+  renewed-all : (j : ℕ) → j ≡ arity (r .kind) → renewed j ≡ encode (relinked r parents i)
+  unfolding renewed encode joined
+  renewed-all zero e = rw (← e) refl
+  renewed-all (suc zero) e = rw (← e) refl
+  renewed-all (suc (suc zero)) e = rw (← e) refl
+  renewed-all (suc (suc (suc zero))) e = rw (← e) refl
+  renewed-all (suc (suc (suc (suc j)))) e = absurd (omega (arith, arity-slots (r .kind)))
+
+  module _ (area₀ : List ℕ) (room : width * i + width ≤ length area₀) where
+    renewed-more : (area after : List ℕ) (j : ℕ) → area ≡ put area₀ (width * i) (renewed j) → j < slots →
+        after ≡ put area (width * i + (4 + 2 * j)) (anew j) → after ≡ put area₀ (width * i) (renewed (suc j))
+    unfolding renewed
+    renewed-more area after j e l g =
+        let long : length (renewed j) ≡ width = renewed-length j (omega arith) in
+        g
+        ∙ rw e (put-within area₀ (width * i) (renewed j) (4 + 2 * j) (anew j) (omega (arith, long)) (omega (arith, long)))
+
+    -- the record as it is, then slot by slot
+    module _ (used : ℕ) (u : used ≡ arity (r .kind)) (area : List ℕ) (e : area ≡ put area₀ (width * i) (encode r)) where
+      abbrev Done : List ℕ → Type 0
+      Done after = after ≡ put area₀ (width * i) (encode (relinked r parents i))
+
+      done : (j : ℕ) (after : List ℕ) → after ≡ put area₀ (width * i) (renewed j) → used ≡ j → Done after
+      done j after f h = f ∙ ap (put area₀ (width * i)) (renewed-all j (sym h ∙ u))
+
+      start : area ≡ put area₀ (width * i) (renewed 0)
+      unfolding renewed
+      start = e
+
+      pub relinked-none : used < 1 → Done area
+      relinked-none h = done 0 area start (omega arith)
+
+      module _ (one : List ℕ) (e₁ : one ≡ put area (width * i + (4 + 2 * 0)) (twoBytes (getD parents (slots * i) 0))) where
+        after-one : one ≡ put area₀ (width * i) (renewed 1)
+        after-one =
+            renewed-more area one 0 start (omega arith)
+            (e₁ ∙ ap (λ (k : ℕ). put area (width * i + (4 + 2 * 0)) (twoBytes (getD parents k 0))) (sym (add-zero (slots * i))))
+
+        pub relinked-one : 1 ≤ used → used < 2 → Done one
+        relinked-one l h = done 1 one after-one (omega arith)
+
+        module _ (two : List ℕ) (e₂ : two ≡ put one (width * i + (4 + 2 * 1)) (anew 1)) where
+          after-two : two ≡ put area₀ (width * i) (renewed 2)
+          after-two = renewed-more one two 1 after-one (omega arith) e₂
+
+          pub relinked-two : 2 ≤ used → used < 3 → Done two
+          relinked-two l h = done 2 two after-two (omega arith)
+
+          pub relinked-three : (three : List ℕ) → three ≡ put two (width * i + (4 + 2 * 2)) (anew 2) → 3 ≤ used → Done three
+          relinked-three three e₃ l =
+              done 3 three (renewed-more two three 2 after-two (omega arith) e₃) (omega (arith, arity-slots (r .kind)))
 
 module _ (bytes parents area₀ : List ℕ) (n : ℕ) (area : List ℕ) (i : ℕ) (h : Joining area₀ 0 (relinkedAt bytes parents) n area i) where
   pub source-room : width * n ≤ length area₀ → i < n → width * i + width ≤ length area
   source-room room l = omega (arith, h .long)
 
-  pub source-more : (r t : Record) (after : List ℕ) → width * n ≤ length area₀ → i < n → r ≡ recordAt bytes i → t ≡ relinked r parents i →
-      after ≡ put area (width * i) (encode t) → Joining area₀ 0 (relinkedAt bytes parents) n after (i + 1)
+  pub source-more : (r : Record) (after : List ℕ) → width * n ≤ length area₀ → i < n → r ≡ recordAt bytes i →
+      after ≡ put area (width * i) (encode (relinked r parents i)) → Joining area₀ 0 (relinkedAt bytes parents) n after (i + 1)
   unfolding relinkedAt
-  source-more r t after room l e f g =
-      join-more area₀ 0 (relinkedAt bytes parents) n area i h t after (omega arith) l
-      (f ∙ ap (λ (r : Record). relinked r parents i) e)
-      (g ∙ ap (λ (k : ℕ). put area (width * k) (encode t)) (sym (zero-add i)))
+  source-more r after room l e g =
+      join-more area₀ 0 (relinkedAt bytes parents) n area i h (relinked r parents i) after (omega arith) l
+      (ap (λ (r : Record). relinked r parents i) e)
+      (g ∙ ap (λ (k : ℕ). put area (width * k) (encode (relinked r parents i))) (sym (zero-add i)))
 
   pub source-end : (N : ℕ) → N ≡ n → N ≤ i → area ≡ put area₀ 0 (encoded (relinkedAt bytes parents) n)
   source-end N e l = join-end area₀ 0 (relinkedAt bytes parents) n area i h (omega arith)

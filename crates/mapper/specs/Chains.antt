@@ -53,6 +53,11 @@ slotDistance n d y = n .at (y / slots) .level - n .at d .level
 unfoldable pub sinksBelow : Netlist → ℕ → ℕ → ℕ → ℕ
 sinksBelow n d k y = count (λ z. sinkAt n d k (z / slots) (z % slots)) y
 
+-- the chains of the first n drivers, all empty: each ends where it begins
+pub record Ended (n end : ℕ) (first : List ℕ) : Type 0 where
+  pub size : length first ≡ sourceLimit
+  pub at : (d : ℕ) → d < n → getD first d 0 ≡ end
+
 -- the chains of the slots from x on: each driver's first sink, and after each sink its driver's next
 pub record Linked (n : Netlist) (first next : List ℕ) (x : ℕ) : Type 0 where
   pub firsts : (d : ℕ) → d < n .size → getD first d 0 ≡ nextSink n d x

@@ -9,6 +9,7 @@ ghost use Rattle.mapper.specs.Chains.{Counted, Mappable};
 use crate::Ends;
 use crate::RECORDS;
 use crate::SINKS;
+use crate::sinks;
 use crate::trees;
 use crate::trees::Sizing;
 use facts::Checked;
@@ -96,7 +97,8 @@ fn source_ends(source: &[u8], s: u32, d: usize) -> Ends
 {
     let n = netlist::record_count(source);
     let end = SLOTS * n;
-    let mut first = [end as u16; RECORDS];
+    let mut first = [0u16; RECORDS];
+    sinks::end_chains(n, end as u16, &mut first);
     let mut next = [0u16; SINKS];
     let mut row = [0u32; DISTANCES];
     let sizing = trees::size_trees(source, s, n, end, &mut first, &mut next, &mut row);

@@ -145,7 +145,8 @@ fn map_source(source: &[u8], s: u32, area: &mut [u8]) -> Mapping
 {
     let n = netlist::record_count(source);
     let end = SLOTS * n;
-    let mut first = [end as u16; RECORDS];
+    let mut first = [0u16; RECORDS];
+    sinks::end_chains(n, end as u16, &mut first);
     let mut next = [0u16; SINKS];
     let mut row = [0u32; DISTANCES];
     let sizing = trees::size_trees(source, s, n, end, &mut first, &mut next, &mut row);

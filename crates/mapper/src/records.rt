@@ -1,12 +1,10 @@
 // Records written into the area.
 ghost use mathlib.Core.Path.{_≡_};
 ghost use Prim.Native.Nat.{_+_, _*_, _/_, _%_, _<_, _≤_};
-ghost use mathlib.Core.Bool.{cond};
-ghost use lib.ListN.{length, getD};
-ghost use lib.Dec.{ltb};
-ghost use Rattle.netlist.specs.Kinds.{width, slots, sourceLimit, arity};
-ghost use Rattle.netlist.specs.Records.{slot, recordCount};
-ghost use Rattle.mapper.specs.Bytes.{encode, encoded, put};
+ghost use lib.ListN.{length};
+ghost use Rattle.netlist.specs.Kinds.{width, slots, sourceLimit};
+ghost use Rattle.netlist.specs.Records.{recordCount};
+ghost use Rattle.mapper.specs.Bytes.{twoBytes, encode, encoded, put};
 ghost use Rattle.mapper.specs.Mapped.{bufferOf};
 ghost use Rattle.mapper.specs.Chains.{relinked, relinkedAt};
 use crate::SINKS;
@@ -72,32 +70,36 @@ pub(crate) fn buffer_of(level: u16, fanin: u16) -> Record
     }
 }
 
-// Slot j of record i as it is written: a used one as the array of parents has it.
-fn new_slot(r: Record, i: usize, parents: &[u16; SINKS], j: usize) -> u16
-    requires { ⌜ (i < sourceLimit) × (j < slots) ⌝ }
-    ensures { λ t. ⌜ t ≡ cond (ltb j (arity (r .kind))) (getD (now (parents .entry)) (slots * i + j) 0) (slot r j) ⌝ }
+// Slot j of the record at index x of the area.
+fn write_slot(area: &mut [u8], x: usize, j: usize, v: u16)
+    requires { ⌜ (width * x + width ≤ length (now area)) × (j < slots) ⌝ }
+    ensures { λ _. ⌜ now (area .exit) ≡ put (now (area .entry)) (width * x + (4 + 2 * j)) (twoBytes v) ⌝ }
 {
-    if j < netlist::arity(r.kind) {
-        return parents[SLOTS * i + j];
-    }
-    netlist::slot(r, j)
+    let at = WIDTH * x + (4 + 2 * j);
+    area[at] = low_byte(v);
+    area[at + 1] = high_byte(v);
 }
 
-// Record r of index i as it is written.
-fn rewire(r: Record, i: usize, parents: &[u16; SINKS]) -> Record
-    requires { ⌜ i < sourceLimit ⌝ }
-    ensures { λ t. ⌜ t ≡ relinked r (now (parents .entry)) i ⌝ }
+// Record r at its place i in the area, its used slots as the array of parents has them.
+fn write_relinked(area: &mut [u8], i: usize, r: Record, parents: &[u16; SINKS])
+    requires { ⌜ (width * i + width ≤ length (now area)) × (i < sourceLimit) ⌝ }
+    ensures { λ _. ⌜ now (area .exit) ≡ put (now (area .entry)) (width * i) (encode (relinked r (now (parents .entry)) i)) ⌝ }
 {
-    Record {
-        kind: r.kind,
-        inversion: r.inversion,
-        level: r.level,
-        slots: [
-            new_slot(r, i, parents, 0),
-            new_slot(r, i, parents, 1),
-            new_slot(r, i, parents, 2),
-        ],
+    write_record(area, i, r);
+    let used = netlist::arity(r.kind);
+    if used < 1 {
+        return;
     }
+    let at = SLOTS * i;
+    write_slot(area, i, 0, parents[at]);
+    if used < 2 {
+        return;
+    }
+    write_slot(area, i, 1, parents[at + 1]);
+    if used < 3 {
+        return;
+    }
+    write_slot(area, i, 2, parents[at + 2]);
 }
 
 // The source's records at their old indices.
@@ -108,7 +110,7 @@ pub(crate) fn write_source(source: &[u8], parents: &[u16; SINKS], area: &mut [u8
 {
     let mut i: usize = 0;
     while i < netlist::record_count(source) {
-        write_record(area, i, rewire(netlist::record_at(source, i), i, parents));
+        write_relinked(area, i, netlist::record_at(source, i), parents);
         i += 1;
     }
 }

@@ -1,11 +1,11 @@
 // The chains of sinks: each driver's first sink, and after each sink its driver's next.
 ghost use mathlib.Core.Path.{_≡_};
-ghost use Prim.Native.Nat.{suc, _+_, _-_, _*_, _/_, _<_};
-ghost use lib.ListN.{replicate};
-ghost use Rattle.netlist.specs.Kinds.{slots, topLevel, arity};
+ghost use Prim.Native.Nat.{suc, _+_, _-_, _*_, _/_, _<_, _≤_};
+ghost use lib.ListN.{length, replicate};
+ghost use Rattle.netlist.specs.Kinds.{slots, topLevel, sourceLimit, arity};
 ghost use Rattle.netlist.specs.Records.{netlist, recordCount};
 ghost use Rattle.netlist.specs.Source.{IsSource};
-ghost use Rattle.mapper.specs.Chains.{Above, Linked, Chained, Filled, ChainIs};
+ghost use Rattle.mapper.specs.Chains.{Above, Ended, Linked, Chained, Filled, ChainIs};
 use crate::RECORDS;
 use crate::SINKS;
 use crate::numbers;
@@ -17,6 +17,18 @@ pub(crate) enum Chain {
     Empty,
     Short(usize, u32),
     Long,
+}
+
+// The chains of n drivers, all empty: each ends where it begins.
+pub(crate) fn end_chains(n: usize, end: u16, first: &mut [u16; RECORDS])
+    requires { ⌜ (n ≤ sourceLimit) × (length (now first) ≡ sourceLimit) ⌝ }
+    ensures { λ _. ⌜ Ended n end (now (first .exit)) ⌝ }
+{
+    let mut d: usize = 0;
+    while d < n {
+        first[d] = end;
+        d += 1;
+    }
 }
 
 // The used slots of record i, from the last one down: each comes before what its driver had first.

@@ -1,5 +1,6 @@
 -- `map_source` meets its contract: the chains, the trees, then 8 or what follows it.
-use Rattle.mapper.proofs.Answering.{input-end, input-unlinked, counted-all, refused-tree, kept-tree}
+use Rattle.mapper.proofs.Answering.{input-source, counted-all, refused-tree, kept-tree}
+use Rattle.mapper.proofs.Chains.{chains-few, chains-end, link-start}
 use borrow.Author.Needs.{needs}
 use Rattle.mapper.proofs.map_source.Statement.{statement}
 use Rattle.mapper.proofs.map_source.Tie as tie
@@ -10,11 +11,14 @@ record-count-requires c κs = search needs
 mul-end : tie.Need-mul-end
 mul-end c = search needs
 
-cast-first : tie.Need-cast-first
-cast-first c = search input-end
+cast-end-chains : tie.Need-cast-end-chains
+cast-end-chains c = search (needs, input-source, chains-end)
+
+end-chains-requires : tie.Need-end-chains-requires
+end-chains-requires c κs = search (needs, input-source, chains-few)
 
 size-trees-requires : tie.Need-size-trees-requires
-size-trees-requires c κs = (search needs, (search needs, (search needs, (search (needs, input-unlinked), search needs))))
+size-trees-requires c κs = (search needs, (search needs, (search needs, (search (needs, link-start), search needs))))
 
 enum-known-sizing : tie.Need-enum-known-sizing
 enum-known-sizing c = search needs
@@ -44,7 +48,8 @@ map-source-spec =
     (tie.spec
     record-count-requires
     mul-end
-    cast-first
+    cast-end-chains
+    end-chains-requires
     size-trees-requires
     enum-known-sizing
     map-trees-requires

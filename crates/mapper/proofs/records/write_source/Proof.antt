@@ -22,11 +22,8 @@ record-count-requires c κs = search needs
 record-at-requires : tie.Need-record-at-requires Inv-loop μ-loop
 record-at-requires c κs = search needs
 
-rewire-requires : tie.Need-rewire-requires Inv-loop μ-loop
-rewire-requires c κs = search needs
-
-write-record-requires : tie.Need-write-record-requires Inv-loop μ-loop
-write-record-requires c κs = search (needs, source-room)
+write-relinked-requires : tie.Need-write-relinked-requires Inv-loop μ-loop
+write-relinked-requires c κs = search (needs, source-room)
 
 add-i : tie.Need-add-i Inv-loop μ-loop
 add-i c = search needs
@@ -37,9 +34,9 @@ loop-less c = search needs
 loop-again : tie.Need-loop-again Inv-loop μ-loop
 loop-again c =
     let w = c .before .before in
-    let l = w .before .before .before .before .before .before in
-    source-more _ _ _ _ _ _ (l .loop .inv) _ _ _ (l .before .before .before .pre .1) (search needs)
-    (w .before .before .record-at .ensures) (w .before .rewire .ensures) (w .write-record .ensures)
+    let l = w .before .before .before .before .before in
+    source-more _ _ _ _ _ _ (l .loop .inv) _ _ (l .before .before .before .pre .1) (search needs)
+    (w .before .record-at .ensures) (w .write-relinked .ensures)
 
 same-length : tie.Need-same-length Inv-loop μ-loop
 same-length c = search needs
@@ -56,8 +53,7 @@ write-source-spec =
     loop-holds
     record-count-requires
     record-at-requires
-    rewire-requires
-    write-record-requires
+    write-relinked-requires
     add-i
     loop-less
     loop-again

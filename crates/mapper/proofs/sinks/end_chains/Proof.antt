@@ -1,0 +1,48 @@
+-- `end_chains` meets its contract: the first d chains are ended.
+use borrow.Author.Needs.{needs}
+use Prim.Native.Nat.{_-_, _≤_}
+use Rattle.mapper.specs.Chains.{Ended}
+use Rattle.mapper.proofs.Chains.{ended-none, ended-more, ended-all}
+use Rattle.mapper.proofs.sinks.end_chains.Statement.{statement}
+use Rattle.mapper.proofs.sinks.end_chains.Tie as tie
+
+abbrev Inv-loop : tie.InvT-loop
+Inv-loop n end first₀ d₀ first d = (d ≤ n) × Ended d end first
+
+abbrev μ-loop : tie.MeasureT-loop
+μ-loop n end first₀ d₀ first d = n - d
+
+loop-holds : tie.Need-loop-holds Inv-loop μ-loop
+loop-holds c = search (needs, ended-none)
+
+mul-first : tie.Need-mul-first Inv-loop μ-loop
+mul-first c = search needs
+
+element-write-first : tie.Need-element-write-first Inv-loop μ-loop
+element-write-first c = search needs
+
+add-d : tie.Need-add-d Inv-loop μ-loop
+add-d c = search needs
+
+loop-less : tie.Need-loop-less Inv-loop μ-loop
+loop-less c = search needs
+
+loop-again : tie.Need-loop-again Inv-loop μ-loop
+loop-again c = search (needs, ended-more)
+
+returns : tie.Need-returns Inv-loop μ-loop
+returns c = search (needs, ended-all)
+
+pub end-chains-spec : {M : Type 1} → statement M
+end-chains-spec =
+    tie.close
+    (tie.spec
+    Inv-loop
+    μ-loop
+    loop-holds
+    mul-first
+    element-write-first
+    add-d
+    loop-less
+    loop-again
+    returns)
