@@ -97,16 +97,16 @@ module _ (n : Netlist) (d : ℕ) where
 
 -- the first d chains are ended
 module _ (n end : ℕ) (first : List ℕ) where
-  pub ended-none : length first ≡ sourceLimit → Ended 0 end first
-  ended-none l = record { size = l; at = λ d h. absurd (omega arith) }
+  pub ended-none : Ended 0 end first
+  ended-none = record { long = omega arith; at = λ d h. absurd (omega arith) }
 
-  pub ended-more : (d : ℕ) → Ended d end first → d < n → n ≤ sourceLimit → Ended (d + 1) end (set first d end)
-  ended-more d h l room =
+  pub ended-more : (d : ℕ) (first₀ : List ℕ) → Ended d end first → d < n → n ≤ length first₀ → length first ≡ length first₀ → Ended (d + 1) end (set first d end)
+  ended-more d first₀ h l room same =
       record {
-        size = length-set first d end ∙ h .size;
+        long = omega (arith, length-set first d end);
         at = λ x b.
             elim (ℕ-discrete x d) [
-              | yes e ↦ rw e (getD-set-same first d end 0 (omega (arith, h .size)))
+              | yes e ↦ rw e (getD-set-same first d end 0 (omega arith))
               | no e ↦ getD-set-other first d x end 0 e ∙ h .at x (omega (arith, e))
             ];
       }
@@ -120,17 +120,20 @@ module _ (n : Netlist) (first next : List ℕ) where
     pub chains-few : IsSource n → N ≤ sourceLimit
     chains-few s = omega (arith, s .few)
 
+    pub chains-short : IsSource n → slots * N ≤ slots * sourceLimit
+    chains-short s = omega (arith, s .few)
+
     pub chains-end : IsSource n → Fits w16 (slots * N)
     chains-end s = omega (arith, s .few)
 
-    pub link-start : Ended N (slots * N) first → length next ≡ slots * sourceLimit → Linked n first next (slots * N)
+    pub link-start : Ended N (slots * N) first → slots * N ≤ length next → Linked n first next (slots * N)
     link-start h f =
         rw e (
         record {
           firsts = λ d l. (rw e at h) .at d l ∙ sym (next-end n d);
           nexts = λ y a b u. absurd (omega arith);
-          firstLong = h .size;
-          nextLong = f;
+          firstLong = omega (arith, h .long);
+          nextLong = omega arith;
         }
         )
 
@@ -152,14 +155,14 @@ module _ (n : Netlist) (first next : List ℕ) where
           ]
 
   -- a used slot comes before what its driver had first
-  pub link-used : (x t : ℕ) → Linked n first next (x + 1) → x < slotEnd n → n .size ≤ sourceLimit → t ≡ faninSlot n x → t < n .size →
+  pub link-used : (x t : ℕ) → Linked n first next (x + 1) → x < slotEnd n → t ≡ faninSlot n x → t < n .size →
       usedSlot n x ≡ true → Linked n (set first t x) (set next x (getD first t 0)) x
-  link-used x t h l few e ld u =
+  link-used x t h l e ld u =
       record {
         firsts = λ d m. at-driver d m (ℕ-discrete d t);
         nexts = λ y a b v. at-slot y a b v (ℕ-discrete y x);
-        firstLong = length-set first t x ∙ h .firstLong;
-        nextLong = length-set next x (getD first t 0) ∙ h .nextLong;
+        firstLong = omega (arith, length-set first t x, h .firstLong);
+        nextLong = omega (arith, length-set next x (getD first t 0), h .nextLong);
       }
     where
       at-driver : (d : ℕ) → d < n .size → Dec (d ≡ t) → getD (set first t x) d 0 ≡ nextSink n d x
@@ -218,13 +221,16 @@ module _ (n : Netlist) (i : ℕ) (first next : List ℕ) where
   -- slot j - 1 names the driver t
   module _ (used j t : ℕ) (s : IsSource n) (l : i < n .size) (e : used ≡ arity (n .at i .kind)) (b : 0 < j) (c : j ≤ used)
       (f : t ≡ fanin n i (j - 1)) where
-    pub link-room : t < sourceLimit
-    link-room = omega (arith, s .earlier i (j - 1) l (omega arith), s .few)
+    pub first-room : Linked n first next (slots * i + j) → t < length first
+    first-room h = omega (arith, s .earlier i (j - 1) l (omega arith), h .firstLong)
+
+    pub next-room : Linked n first next (slots * i + j) → slots * i + (j - 1) < length next
+    next-room h = omega (arith, record-slots (n .at i .kind) used e, h .nextLong)
 
     pub record-more : Linked n first next (slots * i + j) →
         Linked n (set first t (slots * i + (j - 1))) (set next (slots * i + (j - 1)) (getD first t 0)) (slots * i + (j - 1))
     record-more h =
-        link-used n first next (slots * i + (j - 1)) t (subst (λ (y : ℕ). Linked n first next y) here h) (omega (arith, fits)) (s .few)
+        link-used n first next (slots * i + (j - 1)) t (subst (λ (y : ℕ). Linked n first next y) here h) (omega (arith, fits))
         (f ∙ sym (ap₂ (fanin n) record-of slot-of))
         (omega (arith, s .earlier i (j - 1) l (omega arith)))
         (ap₂ (Rattle.netlist.specs.Records.used n) record-of slot-of ∙ lt-ltb (j - 1) (arity (n .at i .kind)) (omega arith))
@@ -260,6 +266,7 @@ module _ (n : Netlist) (first next : List ℕ) (end : ℕ) where
         source = s;
         firsts = h .firsts;
         nexts = λ y l u d. h .nexts y (omega arith) l u;
+        firstLong = h .firstLong;
         nextLong = h .nextLong;
         stop = e;
       }
@@ -270,6 +277,7 @@ module _ (n : Netlist) (first next : List ℕ) (end : ℕ) where
         source = h .source;
         firsts = h .firsts;
         nexts = λ y a u b. h .nexts y a u (omega arith);
+        firstLong = h .firstLong;
         nextLong = h .nextLong;
         stop = h .stop;
       }

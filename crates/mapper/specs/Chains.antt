@@ -55,7 +55,7 @@ sinksBelow n d k y = count (λ z. sinkAt n d k (z / slots) (z % slots)) y
 
 -- the chains of the first n drivers, all empty: each ends where it begins
 pub record Ended (n end : ℕ) (first : List ℕ) : Type 0 where
-  pub size : length first ≡ sourceLimit
+  pub long : n ≤ length first
   pub at : (d : ℕ) → d < n → getD first d 0 ≡ end
 
 -- the chains of the slots from x on: each driver's first sink, and after each sink its driver's next
@@ -63,8 +63,8 @@ pub record Linked (n : Netlist) (first next : List ℕ) (x : ℕ) : Type 0 where
   pub firsts : (d : ℕ) → d < n .size → getD first d 0 ≡ nextSink n d x
   pub nexts : (y : ℕ) → x ≤ y → y < slotEnd n → usedSlot n y ≡ true →
       getD next y 0 ≡ nextSink n (faninSlot n y) (suc y)
-  pub firstLong : length first ≡ sourceLimit
-  pub nextLong : length next ≡ slots * sourceLimit
+  pub firstLong : n .size ≤ length first
+  pub nextLong : slotEnd n ≤ length next
 
 -- the chains of a source's drivers from d on, with the slot where they end
 pub record Chained (n : Netlist) (first next : List ℕ) (d end : ℕ) : Type 0 where
@@ -72,7 +72,8 @@ pub record Chained (n : Netlist) (first next : List ℕ) (d end : ℕ) : Type 0 
   pub firsts : (x : ℕ) → x < n .size → getD first x 0 ≡ nextSink n x 0
   pub nexts : (y : ℕ) → y < slotEnd n → usedSlot n y ≡ true → d ≤ faninSlot n y →
       getD next y 0 ≡ nextSink n (faninSlot n y) (suc y)
-  pub nextLong : length next ≡ slots * sourceLimit
+  pub firstLong : n .size ≤ length first
+  pub nextLong : slotEnd n ≤ length next
   pub stop : end ≡ slotEnd n
 
 -- the row of d's net, and a distance beyond which it has no sinks

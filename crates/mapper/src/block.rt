@@ -30,8 +30,8 @@ fn start_of(
     s: u32,
     n: usize,
     end: usize,
-    first: &[u16; RECORDS],
-    next: &[u16; SINKS],
+    first: &[u16],
+    next: &[u16],
     m: usize,
 ) -> usize
     requires { ⌜ Mappable (now source) s n (now first) (now next) end ⌝ }
@@ -52,8 +52,8 @@ fn ends_of(
     s: u32,
     n: usize,
     end: usize,
-    first: &[u16; RECORDS],
-    next: &[u16; SINKS],
+    first: &[u16],
+    next: &[u16],
     d: usize,
 ) -> Ends
     requires { ⌜ Mappable (now source) s n (now first) (now next) end ⌝ }
@@ -76,8 +76,8 @@ fn counted_ends(
     s: u32,
     n: usize,
     end: usize,
-    first: &[u16; RECORDS],
-    next: &[u16; SINKS],
+    first: &[u16],
+    next: &[u16],
     total: usize,
     d: usize,
 ) -> Ends

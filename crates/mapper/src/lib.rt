@@ -1,8 +1,8 @@
 // The mapper: checks 8 to 10 and the mapped netlist, written record by record.
 ghost use mathlib.Core.Path.{_≡_};
-ghost use Prim.Native.Nat.{suc, _≤_};
-ghost use lib.ListN.{replicate};
-ghost use Rattle.netlist.specs.Kinds.{topLevel, sourceLimit, mappedLimit};
+ghost use Prim.Native.Nat.{suc, _*_, _≤_};
+ghost use lib.ListN.{length, replicate};
+ghost use Rattle.netlist.specs.Kinds.{slots, topLevel, sourceLimit, mappedLimit};
 ghost use Rattle.netlist.specs.Records.{netlist, recordCount};
 ghost use Rattle.netlist.specs.Checks.{inputChecks};
 ghost use Rattle.mapper.specs.Mapped.{mapped};
@@ -27,6 +27,11 @@ mod writing;
 const RECORDS: usize = netlist::SOURCE_LIMIT;
 
 const SINKS: usize = SLOTS * RECORDS;
+
+// Up to how many records short arrays serve, and their slots.
+const SMALL: usize = 1024;
+
+const SMALL_SINKS: usize = SLOTS * SMALL;
 
 // Junctions of a gate and of a buffer.
 const GATE_PRICE: u32 = 6;
@@ -115,8 +120,8 @@ fn map_trees(
     s: u32,
     n: usize,
     end: usize,
-    first: &[u16; RECORDS],
-    next: &mut [u16; SINKS],
+    first: &[u16],
+    next: &mut [u16],
     total: usize,
     row: &mut [u32; DISTANCES],
     area: &mut [u8],
@@ -137,33 +142,46 @@ fn map_trees(
     accept(source, n, total as u32)
 }
 
-// Checks 8 to 10 of a source that passes 1 to 7, and the mapping.
+// Checks 8 to 10 of a source that passes 1 to 7, and the mapping, with arrays that its chains fit.
+fn map_with(
+    source: &[u8],
+    s: u32,
+    n: usize,
+    first: &mut [u16],
+    next: &mut [u16],
+    area: &mut [u8],
+) -> Mapping
+    requires { ⌜ inputChecks s (now source) ≡ Checked.Passed ⌝ }
+    requires { ⌜ n ≡ recordCount (now source) ⌝ }
+    requires { ⌜ (n ≤ length (now first)) × (slots * n ≤ length (now next)) ⌝ }
+    ensures { λ r. ⌜ r ≡ mapAnswer (now (source .entry)) s (now (area .entry)) ⌝ }
+    ensures { λ _. ⌜ now (area .exit) ≡ mapArea (now (source .entry)) s (now (area .entry)) ⌝ }
+{
+    let end = SLOTS * n;
+    let mut row = [0u32; DISTANCES];
+    sinks::end_chains(n, end as u16, first);
+    let sizing = trees::size_trees(source, s, n, end, first, next, &mut row);
+    match sizing {
+        Sizing::Total(total) => map_trees(source, s, n, end, first, next, total, &mut row, area),
+        Sizing::Stops(number, place) => refuse(number, place),
+    }
+}
+
+// Checks 8 to 10 of a source that passes 1 to 7, and the mapping. A source of few records takes short arrays, which are sooner cleared.
 fn map_source(source: &[u8], s: u32, area: &mut [u8]) -> Mapping
     requires { ⌜ inputChecks s (now source) ≡ Checked.Passed ⌝ }
     ensures { λ r. ⌜ r ≡ mapAnswer (now (source .entry)) s (now (area .entry)) ⌝ }
     ensures { λ _. ⌜ now (area .exit) ≡ mapArea (now (source .entry)) s (now (area .entry)) ⌝ }
 {
     let n = netlist::record_count(source);
-    let end = SLOTS * n;
-    let mut first = [0u16; RECORDS];
-    sinks::end_chains(n, end as u16, &mut first);
-    let mut next = [0u16; SINKS];
-    let mut row = [0u32; DISTANCES];
-    let sizing = trees::size_trees(source, s, n, end, &mut first, &mut next, &mut row);
-    match sizing {
-        Sizing::Total(total) => map_trees(
-            source,
-            s,
-            n,
-            end,
-            &first,
-            &mut next,
-            total,
-            &mut row,
-            area,
-        ),
-        Sizing::Stops(number, place) => refuse(number, place),
+    if n <= SMALL {
+        let mut first = [0u16; SMALL];
+        let mut next = [0u16; SMALL_SINKS];
+        return map_with(source, s, n, &mut first, &mut next, area);
     }
+    let mut first = [0u16; RECORDS];
+    let mut next = [0u16; SINKS];
+    map_with(source, s, n, &mut first, &mut next, area)
 }
 
 // The mapper: the mapped netlist of a source into the area, and its seven numbers; or a refusal that leaves the area as it was.

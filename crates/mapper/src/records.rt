@@ -2,12 +2,11 @@
 ghost use mathlib.Core.Path.{_≡_};
 ghost use Prim.Native.Nat.{_+_, _*_, _/_, _%_, _<_, _≤_};
 ghost use lib.ListN.{length};
-ghost use Rattle.netlist.specs.Kinds.{width, slots, sourceLimit};
+ghost use Rattle.netlist.specs.Kinds.{width, slots};
 ghost use Rattle.netlist.specs.Records.{recordCount};
 ghost use Rattle.mapper.specs.Bytes.{twoBytes, encode, encoded, put};
 ghost use Rattle.mapper.specs.Mapped.{bufferOf};
 ghost use Rattle.mapper.specs.Chains.{relinked, relinkedAt};
-use crate::SINKS;
 use netlist::BUFFER;
 use netlist::Record;
 use netlist::SLOTS;
@@ -81,8 +80,8 @@ fn write_slot(area: &mut [u8], x: usize, j: usize, v: u16)
 }
 
 // Record r at its place i in the area, its used slots as the array of parents has them.
-fn write_relinked(area: &mut [u8], i: usize, r: Record, parents: &[u16; SINKS])
-    requires { ⌜ (width * i + width ≤ length (now area)) × (i < sourceLimit) ⌝ }
+fn write_relinked(area: &mut [u8], i: usize, r: Record, parents: &[u16])
+    requires { ⌜ (width * i + width ≤ length (now area)) × (slots * i + slots ≤ length (now parents)) ⌝ }
     ensures { λ _. ⌜ now (area .exit) ≡ put (now (area .entry)) (width * i) (encode (relinked r (now (parents .entry)) i)) ⌝ }
 {
     write_record(area, i, r);
@@ -103,8 +102,8 @@ fn write_relinked(area: &mut [u8], i: usize, r: Record, parents: &[u16; SINKS])
 }
 
 // The source's records at their old indices.
-pub(crate) fn write_source(source: &[u8], parents: &[u16; SINKS], area: &mut [u8])
-    requires { ⌜ recordCount (now source) ≤ sourceLimit ⌝ }
+pub(crate) fn write_source(source: &[u8], parents: &[u16], area: &mut [u8])
+    requires { ⌜ slots * recordCount (now source) ≤ length (now parents) ⌝ }
     requires { ⌜ width * recordCount (now source) ≤ length (now area) ⌝ }
     ensures { λ _. ⌜ now (area .exit) ≡ put (now (area .entry)) 0 (encoded (relinkedAt (now (source .entry)) (now (parents .entry))) (recordCount (now (source .entry)))) ⌝ }
 {

@@ -2,12 +2,10 @@
 ghost use mathlib.Core.Path.{_≡_};
 ghost use Prim.Native.Nat.{suc, _+_, _-_, _*_, _/_, _<_, _≤_};
 ghost use lib.ListN.{length, replicate};
-ghost use Rattle.netlist.specs.Kinds.{slots, topLevel, sourceLimit, arity};
+ghost use Rattle.netlist.specs.Kinds.{slots, topLevel, arity};
 ghost use Rattle.netlist.specs.Records.{netlist, recordCount};
 ghost use Rattle.netlist.specs.Source.{IsSource};
 ghost use Rattle.mapper.specs.Chains.{Above, Ended, Linked, Chained, Filled, ChainIs};
-use crate::RECORDS;
-use crate::SINKS;
 use crate::numbers;
 use fanout::DISTANCES;
 use netlist::SLOTS;
@@ -20,8 +18,8 @@ pub(crate) enum Chain {
 }
 
 // The chains of n drivers, all empty: each ends where it begins.
-pub(crate) fn end_chains(n: usize, end: u16, first: &mut [u16; RECORDS])
-    requires { ⌜ (n ≤ sourceLimit) × (length (now first) ≡ sourceLimit) ⌝ }
+pub(crate) fn end_chains(n: usize, end: u16, first: &mut [u16])
+    requires { ⌜ n ≤ length (now first) ⌝ }
     ensures { λ _. ⌜ Ended n end (now (first .exit)) ⌝ }
 {
     let mut d: usize = 0;
@@ -32,13 +30,7 @@ pub(crate) fn end_chains(n: usize, end: u16, first: &mut [u16; RECORDS])
 }
 
 // The used slots of record i, from the last one down: each comes before what its driver had first.
-fn link_slots(
-    source: &[u8],
-    i: usize,
-    used: usize,
-    first: &mut [u16; RECORDS],
-    next: &mut [u16; SINKS],
-)
+fn link_slots(source: &[u8], i: usize, used: usize, first: &mut [u16], next: &mut [u16])
     requires { ⌜ IsSource (netlist (now source)) ⌝ }
     requires { ⌜ i < netlist (now source) .size ⌝ }
     requires { ⌜ used ≡ arity (netlist (now source) .at i .kind) ⌝ }
@@ -56,7 +48,7 @@ fn link_slots(
 }
 
 // The chains of all slots, from the last record down.
-pub(crate) fn link_all(source: &[u8], n: usize, first: &mut [u16; RECORDS], next: &mut [u16; SINKS])
+pub(crate) fn link_all(source: &[u8], n: usize, first: &mut [u16], next: &mut [u16])
     requires { ⌜ IsSource (netlist (now source)) ⌝ }
     requires { ⌜ n ≡ recordCount (now source) ⌝ }
     requires { ⌜ Linked (netlist (now source)) (now first) (now next) (slots * n) ⌝ }
@@ -87,8 +79,8 @@ pub(crate) fn distance(source: &[u8], low: u16, p: usize) -> usize
 pub(crate) fn fill_row(
     source: &[u8],
     end: usize,
-    first: &[u16; RECORDS],
-    next: &[u16; SINKS],
+    first: &[u16],
+    next: &[u16],
     d: usize,
     row: &mut [u32; DISTANCES],
 ) -> usize
@@ -110,13 +102,7 @@ pub(crate) fn fill_row(
 }
 
 // The sinks of d, along its chain.
-pub(crate) fn chain_of(
-    source: &[u8],
-    end: usize,
-    first: &[u16; RECORDS],
-    next: &[u16; SINKS],
-    d: usize,
-) -> Chain
+pub(crate) fn chain_of(source: &[u8], end: usize, first: &[u16], next: &[u16], d: usize) -> Chain
     requires { ⌜ Chained (netlist (now source)) (now first) (now next) d end ⌝ }
     requires { ⌜ d < netlist (now source) .size ⌝ }
     ensures { λ r. ⌜ ChainIs (netlist (now (source .entry))) d r ⌝ }

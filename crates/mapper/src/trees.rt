@@ -12,8 +12,6 @@ ghost use Rattle.mapper.specs.Mapped.{treeSize, bufferTotal};
 ghost use Rattle.mapper.specs.Answer.{treesBelow, treeChecks};
 ghost use Rattle.mapper.specs.Chains.{Linked, Chained, Walkable, Walked, Measured, sizingOf};
 ghost use Rattle.facts.specs.declared.Checked.{Checked};
-use crate::RECORDS;
-use crate::SINKS;
 use crate::numbers;
 use crate::sinks;
 use crate::sinks::Chain;
@@ -71,8 +69,8 @@ fn measure(
     source: &[u8],
     s: u32,
     end: usize,
-    first: &[u16; RECORDS],
-    next: &[u16; SINKS],
+    first: &[u16],
+    next: &[u16],
     d: usize,
     row: &mut [u32; DISTANCES],
 ) -> TreeTotals
@@ -106,8 +104,8 @@ pub(crate) fn count_trees(
     s: u32,
     m: usize,
     end: usize,
-    first: &[u16; RECORDS],
-    next: &[u16; SINKS],
+    first: &[u16],
+    next: &[u16],
     row: &mut [u32; DISTANCES],
 ) -> Sizing
     requires { ⌜ Chained (netlist (now source)) (now first) (now next) 0 end ⌝ }
@@ -136,8 +134,8 @@ pub(crate) fn size_trees(
     s: u32,
     n: usize,
     end: usize,
-    first: &mut [u16; RECORDS],
-    next: &mut [u16; SINKS],
+    first: &mut [u16],
+    next: &mut [u16],
     row: &mut [u32; DISTANCES],
 ) -> Sizing
     requires { ⌜ inputChecks s (now source) ≡ Checked.Passed ⌝ }

@@ -8,8 +8,6 @@ ghost use Rattle.netlist.specs.Records.{netlist, recordCount};
 ghost use Rattle.mapper.specs.Bytes.{encoded, put, withRecords, bytesOf, onto};
 ghost use Rattle.mapper.specs.Mapped.{treeSize, blockStart, mappedSize, mapped, Ready};
 ghost use Rattle.mapper.specs.Chains.{Chained, Stale, behind, levelRecord, lineParent, lineRecord, GrownNet, Based, Hung, Hooked, onParent, onLine, Hangable, Noded, Writable, Wrote};
-use crate::RECORDS;
-use crate::SINKS;
 use crate::numbers;
 use crate::records;
 use crate::sinks;
@@ -96,8 +94,8 @@ fn hang_sinks(
     source: &[u8],
     s: u32,
     end: usize,
-    first: &[u16; RECORDS],
-    next: &mut [u16; SINKS],
+    first: &[u16],
+    next: &mut [u16],
     d: usize,
     base: &[u16; DISTANCES],
     row: &mut [u32; DISTANCES],
@@ -123,8 +121,8 @@ fn grow(
     source: &[u8],
     s: u32,
     end: usize,
-    first: &[u16; RECORDS],
-    next: &[u16; SINKS],
+    first: &[u16],
+    next: &[u16],
     d: usize,
     row: &mut [u32; DISTANCES],
 ) -> usize
@@ -144,8 +142,8 @@ fn write_tree(
     source: &[u8],
     s: u32,
     end: usize,
-    first: &[u16; RECORDS],
-    next: &mut [u16; SINKS],
+    first: &[u16],
+    next: &mut [u16],
     d: usize,
     start: usize,
     row: &mut [u32; DISTANCES],
@@ -192,14 +190,7 @@ fn write_line(area: &mut [u8], d: usize, start: usize, low: u16, n: usize)
 }
 
 // The sinks of d, each hung on its line one level nearer, at distance 1 on d itself: its parent takes the place of its next sink.
-fn hang_line(
-    source: &[u8],
-    end: usize,
-    first: &[u16; RECORDS],
-    next: &mut [u16; SINKS],
-    d: usize,
-    start: usize,
-)
+fn hang_line(source: &[u8], end: usize, first: &[u16], next: &mut [u16], d: usize, start: usize)
     requires { ⌜ Chained (netlist (now source)) (now first) (now next) d end ⌝ }
     requires { ⌜ d < netlist (now source) .size ⌝ }
     requires { ⌜ start ≤ mappedLimit ⌝ }
@@ -219,8 +210,8 @@ fn write_net(
     source: &[u8],
     s: u32,
     end: usize,
-    first: &[u16; RECORDS],
-    next: &mut [u16; SINKS],
+    first: &[u16],
+    next: &mut [u16],
     d: usize,
     start: usize,
     row: &mut [u32; DISTANCES],
@@ -249,8 +240,8 @@ fn write_nets(
     s: u32,
     n: usize,
     end: usize,
-    first: &[u16; RECORDS],
-    next: &mut [u16; SINKS],
+    first: &[u16],
+    next: &mut [u16],
     row: &mut [u32; DISTANCES],
     area: &mut [u8],
 )
@@ -277,8 +268,8 @@ pub(crate) fn write_mapped(
     s: u32,
     n: usize,
     end: usize,
-    first: &[u16; RECORDS],
-    next: &mut [u16; SINKS],
+    first: &[u16],
+    next: &mut [u16],
     row: &mut [u32; DISTANCES],
     area: &mut [u8],
 )

@@ -1,6 +1,6 @@
--- `map_source` meets its contract: the chains, the trees, then 8 or what follows it.
-use Rattle.mapper.proofs.Answering.{input-source, counted-all, refused-tree, kept-tree}
-use Rattle.mapper.proofs.Chains.{chains-few, chains-end, link-start}
+-- `map_source` meets its contract: the arrays are long enough.
+use Rattle.mapper.proofs.Answering.{input-source}
+use Rattle.mapper.proofs.Chains.{chains-few, chains-short}
 use borrow.Author.Needs.{needs}
 use Rattle.mapper.proofs.map_source.Statement.{statement}
 use Rattle.mapper.proofs.map_source.Tie as tie
@@ -8,30 +8,14 @@ use Rattle.mapper.proofs.map_source.Tie as tie
 record-count-requires : tie.Need-record-count-requires
 record-count-requires c κs = search needs
 
-mul-end : tie.Need-mul-end
-mul-end c = search needs
+slice-aggregate-map-with : tie.Need-slice-aggregate-map-with
+slice-aggregate-map-with c = search needs
 
-cast-end-chains : tie.Need-cast-end-chains
-cast-end-chains c = search (needs, input-source, chains-end)
+slice-aggregate-map-with-2 : tie.Need-slice-aggregate-map-with-2
+slice-aggregate-map-with-2 c = search needs
 
-end-chains-requires : tie.Need-end-chains-requires
-end-chains-requires c κs = search (needs, input-source, chains-few)
-
-size-trees-requires : tie.Need-size-trees-requires
-size-trees-requires c κs = (search needs, (search needs, (search needs, (search (needs, link-start), search needs))))
-
-enum-known-sizing : tie.Need-enum-known-sizing
-enum-known-sizing c = search needs
-
-map-trees-requires : tie.Need-map-trees-requires
-map-trees-requires c κs =
-    (counted-all _ _ (search needs) _ (search needs) _ _ (search needs) (c .before .before .before .before .before .sizing .given .1) _ _ _ (search needs), search needs)
-
-enum-known-sizing-2 : tie.Need-enum-known-sizing-2
-enum-known-sizing-2 c = search needs
-
-refuse-requires : tie.Need-refuse-requires
-refuse-requires c κs = search needs
+map-with-requires : tie.Need-map-with-requires
+map-with-requires c κs = (search needs, (search needs, (search needs, search needs)))
 
 same-length : tie.Need-same-length
 same-length c = search needs
@@ -39,22 +23,33 @@ same-length c = search needs
 returns : tie.Need-returns
 returns c = search needs
 
+slice-aggregate-map-with-3 : tie.Need-slice-aggregate-map-with-3
+slice-aggregate-map-with-3 c = search needs
+
+slice-aggregate-map-with-4 : tie.Need-slice-aggregate-map-with-4
+slice-aggregate-map-with-4 c = search needs
+
+map-with-requires-2 : tie.Need-map-with-requires-2
+map-with-requires-2 c κs = (search needs, (search needs, (search (input-source, chains-few), search (input-source, chains-short))))
+
+same-length-2 : tie.Need-same-length-2
+same-length-2 c = search needs
+
 returns-2 : tie.Need-returns-2
-returns-2 c = (search refused-tree, search kept-tree)
+returns-2 c = search needs
 
 pub map-source-spec : {M : Type 1} → statement M
 map-source-spec =
     tie.close
     (tie.spec
     record-count-requires
-    mul-end
-    cast-end-chains
-    end-chains-requires
-    size-trees-requires
-    enum-known-sizing
-    map-trees-requires
-    enum-known-sizing-2
-    refuse-requires
+    slice-aggregate-map-with
+    slice-aggregate-map-with-2
+    map-with-requires
     same-length
     returns
+    slice-aggregate-map-with-3
+    slice-aggregate-map-with-4
+    map-with-requires-2
+    same-length-2
     returns-2)

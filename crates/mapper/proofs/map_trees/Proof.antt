@@ -34,6 +34,9 @@ accept-requires c κs = search needs
 same-length : tie.Need-same-length
 same-length c = search needs
 
+same-length-2 : tie.Need-same-length-2
+same-length-2 c = search needs
+
 returns-3 : tie.Need-returns-3
 returns-3 c = (search mapped-answer, search mapped-area)
 
@@ -51,4 +54,5 @@ map-trees-spec =
     cast-accept
     accept-requires
     same-length
+    same-length-2
     returns-3)

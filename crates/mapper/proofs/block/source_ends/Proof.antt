@@ -1,6 +1,6 @@
 -- `source_ends` meets its contract: the chains, the trees, then 8 or what follows it.
 use Rattle.mapper.proofs.Answering.{input-source, counted-all}
-use Rattle.mapper.proofs.Chains.{chains-few, chains-end, link-start}
+use Rattle.mapper.proofs.Chains.{chains-few, chains-short, chains-end, link-start}
 use Rattle.mapper.proofs.View.{ends-tree}
 use borrow.Author.Needs.{needs}
 use Rattle.mapper.proofs.block.source_ends.Statement.{statement}
@@ -15,14 +15,29 @@ mul-end c = search needs
 cast-end-chains : tie.Need-cast-end-chains
 cast-end-chains c = search (needs, input-source, chains-end)
 
+slice-aggregate-end-chains : tie.Need-slice-aggregate-end-chains
+slice-aggregate-end-chains c = search needs
+
 end-chains-requires : tie.Need-end-chains-requires
 end-chains-requires c κs = search (needs, input-source, chains-few)
 
+slice-aggregate-size-trees : tie.Need-slice-aggregate-size-trees
+slice-aggregate-size-trees c = search needs
+
+slice-aggregate-size-trees-2 : tie.Need-slice-aggregate-size-trees-2
+slice-aggregate-size-trees-2 c = search needs
+
 size-trees-requires : tie.Need-size-trees-requires
-size-trees-requires c κs = (search needs, (search needs, (search needs, (search (needs, link-start), search needs))))
+size-trees-requires c κs = (search needs, (search needs, (search needs, (search (needs, input-source, chains-short, link-start), search needs))))
 
 enum-known-sizing : tie.Need-enum-known-sizing
 enum-known-sizing c = search needs
+
+slice-aggregate-counted-ends : tie.Need-slice-aggregate-counted-ends
+slice-aggregate-counted-ends c = search needs
+
+slice-aggregate-counted-ends-2 : tie.Need-slice-aggregate-counted-ends-2
+slice-aggregate-counted-ends-2 c = search needs
 
 counted-ends-requires : tie.Need-counted-ends-requires
 counted-ends-requires c κs = counted-all _ _ (search needs) _ (search needs) _ _ (search needs) (c .before .before .before .sizing .given .1) _ _ _ (search needs)
@@ -46,9 +61,14 @@ source-ends-spec =
     record-count-requires
     mul-end
     cast-end-chains
+    slice-aggregate-end-chains
     end-chains-requires
+    slice-aggregate-size-trees
+    slice-aggregate-size-trees-2
     size-trees-requires
     enum-known-sizing
+    slice-aggregate-counted-ends
+    slice-aggregate-counted-ends-2
     counted-ends-requires
     enum-told
     no-ends-requires

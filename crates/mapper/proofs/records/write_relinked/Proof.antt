@@ -22,8 +22,8 @@ mul-at c = search needs
 mul-write-slot : tie.Need-mul-write-slot
 mul-write-slot c = search needs
 
-element-copy-out-write-slot : tie.Need-element-copy-out-write-slot
-element-copy-out-write-slot c = search needs
+shared-slice-read-write-slot : tie.Need-shared-slice-read-write-slot
+shared-slice-read-write-slot c = search needs
 
 write-slot-requires : tie.Need-write-slot-requires
 write-slot-requires c κs = search needs
@@ -34,7 +34,7 @@ same-length-2 c = search needs
 returns-2 : tie.Need-returns-2
 returns-2 c =
     let w = c .before .before .before .before .before .before .before .before .before .before in
-    let a = w .before .before .before in
+    let a = w .before .before .before .before in
     relinked-one (a .args .r) (a .args .parents .now) (a .args .i) (a .args .area .now) (a .pre .0)
     _ (c .before .before .before .before .before .before .before .arity .ensures) _ (w .write-record .ensures)
     _ (c .before .before .before .write-slot .ensures) (search needs) (search needs)
@@ -45,8 +45,8 @@ add-write-slot c = search needs
 mul-write-slot-2 : tie.Need-mul-write-slot-2
 mul-write-slot-2 c = search needs
 
-element-copy-out-write-slot-2 : tie.Need-element-copy-out-write-slot-2
-element-copy-out-write-slot-2 c = search needs
+shared-slice-read-write-slot-2 : tie.Need-shared-slice-read-write-slot-2
+shared-slice-read-write-slot-2 c = search needs
 
 write-slot-requires-2 : tie.Need-write-slot-requires-2
 write-slot-requires-2 c κs = search needs
@@ -57,7 +57,7 @@ same-length-3 c = search needs
 returns-3 : tie.Need-returns-3
 returns-3 c =
     let w = c .before .before .before .before .before .before .before .before .before .before .before .before .before .before .before .before in
-    let a = w .before .before .before in
+    let a = w .before .before .before .before in
     relinked-two (a .args .r) (a .args .parents .now) (a .args .i) (a .args .area .now) (a .pre .0)
     _ (c .before .before .before .before .before .before .before .before .before .before .before .before .before .arity .ensures) _ (w .write-record .ensures)
     _ (c .before .before .before .before .before .before .before .before .before .write-slot .ensures)
@@ -69,8 +69,8 @@ add-write-slot-2 c = search needs
 mul-write-slot-3 : tie.Need-mul-write-slot-3
 mul-write-slot-3 c = search needs
 
-element-copy-out-write-slot-3 : tie.Need-element-copy-out-write-slot-3
-element-copy-out-write-slot-3 c = search needs
+shared-slice-read-write-slot-3 : tie.Need-shared-slice-read-write-slot-3
+shared-slice-read-write-slot-3 c = search needs
 
 write-slot-requires-3 : tie.Need-write-slot-requires-3
 write-slot-requires-3 c κs = search needs
@@ -81,7 +81,7 @@ same-length-4 c = search needs
 returns-4 : tie.Need-returns-4
 returns-4 c =
     let w = c .before .before .before .before .before .before .before .before .before .before .before .before .before .before .before .before .before .before .before .before .before in
-    let a = w .before .before .before in
+    let a = w .before .before .before .before in
     relinked-three (a .args .r) (a .args .parents .now) (a .args .i) (a .args .area .now) (a .pre .0)
     _ (c .before .before .before .before .before .before .before .before .before .before .before .before .before .before .before .before .before .before .arity .ensures) _ (w .write-record .ensures)
     _ (c .before .before .before .before .before .before .before .before .before .before .before .before .before .before .write-slot .ensures)
@@ -98,19 +98,19 @@ write-relinked-spec =
     returns
     mul-at
     mul-write-slot
-    element-copy-out-write-slot
+    shared-slice-read-write-slot
     write-slot-requires
     same-length-2
     returns-2
     add-write-slot
     mul-write-slot-2
-    element-copy-out-write-slot-2
+    shared-slice-read-write-slot-2
     write-slot-requires-2
     same-length-3
     returns-3
     add-write-slot-2
     mul-write-slot-3
-    element-copy-out-write-slot-3
+    shared-slice-read-write-slot-3
     write-slot-requires-3
     same-length-4
     returns-4)

@@ -35,7 +35,7 @@ loop-again : tie.Need-loop-again Inv-loop μ-loop
 loop-again c =
     let w = c .before .before in
     let l = w .before .before .before .before .before in
-    source-more _ _ _ _ _ _ (l .loop .inv) _ _ (l .before .before .before .pre .1) (search needs)
+    source-more _ _ _ _ _ _ (l .loop .inv) _ _ (l .before .before .before .before .pre .1) (search needs)
     (w .before .record-at .ensures) (w .write-relinked .ensures)
 
 same-length : tie.Need-same-length Inv-loop μ-loop

@@ -1,5 +1,5 @@
 -- `chain_of` meets its contract: no sink, one, two, or more.
-use Rattle.mapper.proofs.Following.{chain-start, chain-next, chain-above, chain-on, distance-is}
+use Rattle.mapper.proofs.Following.{first-inside, next-inside, chain-start, chain-next, chain-above, chain-on, distance-is}
 use Rattle.mapper.proofs.ShortChains.{chain-empty, chain-one, chain-two, chain-long, ones-fit}
 use borrow.Author.Needs.{needs}
 use Rattle.mapper.proofs.sinks.chain_of.Statement.{statement}
@@ -8,8 +8,8 @@ use Rattle.mapper.proofs.sinks.chain_of.Tie as tie
 mul-index : tie.Need-mul-index
 mul-index c = search needs
 
-element-copy-out-index : tie.Need-element-copy-out-index
-element-copy-out-index c = search needs
+shared-slice-read-index : tie.Need-shared-slice-read-index
+shared-slice-read-index c = search first-inside
 
 index-requires : tie.Need-index-requires
 index-requires c κs = search needs
@@ -26,8 +26,8 @@ distance-requires c κs = search (chain-above, chain-start)
 mul-index-2 : tie.Need-mul-index-2
 mul-index-2 c = search needs
 
-element-copy-out-index-2 : tie.Need-element-copy-out-index-2
-element-copy-out-index-2 c = search needs
+shared-slice-read-index-2 : tie.Need-shared-slice-read-index-2
+shared-slice-read-index-2 c = search next-inside
 
 index-requires-2 : tie.Need-index-requires-2
 index-requires-2 c κs = search needs
@@ -41,8 +41,8 @@ returns-2 c = search (chain-one, distance-is)
 mul-index-3 : tie.Need-mul-index-3
 mul-index-3 c = search needs
 
-element-copy-out-index-3 : tie.Need-element-copy-out-index-3
-element-copy-out-index-3 c = search needs
+shared-slice-read-index-3 : tie.Need-shared-slice-read-index-3
+shared-slice-read-index-3 c = search next-inside
 
 index-requires-3 : tie.Need-index-requires-3
 index-requires-3 c κs = search needs
@@ -59,8 +59,8 @@ one-if-requires-2 c κs = search needs
 one-if-requires-3 : tie.Need-one-if-requires-3
 one-if-requires-3 c κs = search needs
 
-add-t28 : tie.Need-add-t28
-add-t28 c = search ones-fit
+add-t25 : tie.Need-add-t25
+add-t25 c = search ones-fit
 
 returns-3 : tie.Need-returns-3
 returns-3 c = search (chain-two, distance-is)
@@ -73,23 +73,23 @@ chain-of-spec =
     tie.close
     (tie.spec
     mul-index
-    element-copy-out-index
+    shared-slice-read-index
     index-requires
     returns
     level-at-requires
     distance-requires
     mul-index-2
-    element-copy-out-index-2
+    shared-slice-read-index-2
     index-requires-2
     one-if-requires
     returns-2
     mul-index-3
-    element-copy-out-index-3
+    shared-slice-read-index-3
     index-requires-3
     distance-requires-2
     larger-requires
     one-if-requires-2
     one-if-requires-3
-    add-t28
+    add-t25
     returns-3
     returns-4)

@@ -1,13 +1,15 @@
 -- `end_chains` meets its contract: the first d chains are ended.
 use borrow.Author.Needs.{needs}
 use Prim.Native.Nat.{_-_, _≤_}
+use mathlib.Core.Path.{_≡_}
+use lib.ListN.{length}
 use Rattle.mapper.specs.Chains.{Ended}
 use Rattle.mapper.proofs.Chains.{ended-none, ended-more, ended-all}
 use Rattle.mapper.proofs.sinks.end_chains.Statement.{statement}
 use Rattle.mapper.proofs.sinks.end_chains.Tie as tie
 
 abbrev Inv-loop : tie.InvT-loop
-Inv-loop n end first₀ d₀ first d = (d ≤ n) × Ended d end first
+Inv-loop n end first₀ d₀ first d = (d ≤ n) × ((length first ≡ length first₀) × Ended d end first)
 
 abbrev μ-loop : tie.MeasureT-loop
 μ-loop n end first₀ d₀ first d = n - d
@@ -18,8 +20,8 @@ loop-holds c = search (needs, ended-none)
 mul-first : tie.Need-mul-first Inv-loop μ-loop
 mul-first c = search needs
 
-element-write-first : tie.Need-element-write-first Inv-loop μ-loop
-element-write-first c = search needs
+slice-write-first : tie.Need-slice-write-first Inv-loop μ-loop
+slice-write-first c = search needs
 
 add-d : tie.Need-add-d Inv-loop μ-loop
 add-d c = search needs
@@ -28,7 +30,10 @@ loop-less : tie.Need-loop-less Inv-loop μ-loop
 loop-less c = search needs
 
 loop-again : tie.Need-loop-again Inv-loop μ-loop
-loop-again c = search (needs, ended-more)
+loop-again c = (search needs, (search needs, search ended-more))
+
+same-length : tie.Need-same-length Inv-loop μ-loop
+same-length c = search needs
 
 returns : tie.Need-returns Inv-loop μ-loop
 returns c = search (needs, ended-all)
@@ -41,8 +46,9 @@ end-chains-spec =
     μ-loop
     loop-holds
     mul-first
-    element-write-first
+    slice-write-first
     add-d
     loop-less
     loop-again
+    same-length
     returns)

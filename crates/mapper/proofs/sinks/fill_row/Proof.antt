@@ -2,7 +2,7 @@
 use Prim.Native.Nat.{_-_}
 use mathlib.Core.Path.{_≡_}
 use Rattle.netlist.specs.Records.{netlist, recordAt}
-use Rattle.mapper.proofs.Following.{distance-is, chain-above, chain-near, chain-next, chain-less}
+use Rattle.mapper.proofs.Following.{first-inside, next-inside, distance-is, chain-above, chain-near, chain-next, chain-less}
 use Rattle.mapper.proofs.Filling.{Filling, fill-start, fill-fits, fill-more, fill-end}
 use borrow.Author.Needs.{needs}
 use Rattle.mapper.proofs.sinks.fill_row.Statement.{statement}
@@ -20,8 +20,8 @@ level-at-requires c κs = search needs
 mul-index : tie.Need-mul-index Inv-loop μ-loop
 mul-index c = search needs
 
-element-copy-out-index : tie.Need-element-copy-out-index Inv-loop μ-loop
-element-copy-out-index c = search needs
+shared-slice-read-index : tie.Need-shared-slice-read-index Inv-loop μ-loop
+shared-slice-read-index c = search first-inside
 
 index-requires : tie.Need-index-requires Inv-loop μ-loop
 index-requires c κs = search needs
@@ -35,8 +35,8 @@ distance-requires c κs = search chain-above
 mul-index-2 : tie.Need-mul-index-2 Inv-loop μ-loop
 mul-index-2 c = search needs
 
-element-copy-out-index-2 : tie.Need-element-copy-out-index-2 Inv-loop μ-loop
-element-copy-out-index-2 c = search needs
+shared-slice-read-index-2 : tie.Need-shared-slice-read-index-2 Inv-loop μ-loop
+shared-slice-read-index-2 c = search next-inside
 
 index-requires-2 : tie.Need-index-requires-2 Inv-loop μ-loop
 index-requires-2 c κs = search needs
@@ -73,12 +73,12 @@ fill-row-spec =
     μ-loop
     level-at-requires
     mul-index
-    element-copy-out-index
+    shared-slice-read-index
     index-requires
     loop-holds
     distance-requires
     mul-index-2
-    element-copy-out-index-2
+    shared-slice-read-index-2
     index-requires-2
     mul-row
     element-copy-out-row

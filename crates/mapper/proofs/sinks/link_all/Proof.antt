@@ -1,5 +1,7 @@
 -- `link_all` meets its contract: the slots of records from i on are linked.
 use Prim.Native.Nat.{_*_, _≤_}
+use mathlib.Core.Path.{_≡_}
+use lib.ListN.{length}
 use Rattle.netlist.specs.Kinds.{slots}
 use Rattle.netlist.specs.Records.{netlist}
 use Rattle.mapper.specs.Chains.{Linked}
@@ -9,7 +11,7 @@ use Rattle.mapper.proofs.sinks.link_all.Statement.{statement}
 use Rattle.mapper.proofs.sinks.link_all.Tie as tie
 
 abbrev Inv-loop : tie.InvT-loop
-Inv-loop source n first₀ next₀ i₀ first next i = (i ≤ n) × Linked (netlist source) first next (slots * i)
+Inv-loop source n first₀ next₀ i₀ first next i = (i ≤ n) × (Linked (netlist source) first next (slots * i) × ((length first ≡ length first₀) × (length next ≡ length next₀)))
 
 abbrev μ-loop : tie.MeasureT-loop
 μ-loop source n first₀ next₀ i₀ first next i = i
@@ -33,7 +35,13 @@ loop-less : tie.Need-loop-less Inv-loop μ-loop
 loop-less c = search needs
 
 loop-again : tie.Need-loop-again Inv-loop μ-loop
-loop-again c = search needs
+loop-again c = (search needs, (search needs, (search needs, search needs)))
+
+same-length : tie.Need-same-length Inv-loop μ-loop
+same-length c = search needs
+
+same-length-2 : tie.Need-same-length-2 Inv-loop μ-loop
+same-length-2 c = search needs
 
 returns : tie.Need-returns Inv-loop μ-loop
 returns c = search linked-end
@@ -51,4 +59,6 @@ link-all-spec =
     link-slots-requires
     loop-less
     loop-again
+    same-length
+    same-length-2
     returns)

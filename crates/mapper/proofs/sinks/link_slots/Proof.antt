@@ -1,22 +1,24 @@
 -- `link_slots` meets its contract: slots of record i from j on are linked.
 use Prim.Native.Nat.{_+_, _*_, _≤_}
+use mathlib.Core.Path.{_≡_}
+use lib.ListN.{length}
 use Rattle.netlist.specs.Kinds.{slots}
 use Rattle.netlist.specs.Records.{netlist}
 use Rattle.mapper.specs.Chains.{Linked}
-use Rattle.mapper.proofs.Chains.{record-slots, record-start, record-more, record-end, link-room}
+use Rattle.mapper.proofs.Chains.{record-slots, record-start, record-more, record-end, first-room, next-room}
 use borrow.Author.Needs.{needs}
 use Rattle.mapper.proofs.sinks.link_slots.Statement.{statement}
 use Rattle.mapper.proofs.sinks.link_slots.Tie as tie
 
 abbrev Inv-loop : tie.InvT-loop
 Inv-loop source i used first₀ next₀ j₀ first next j =
-    (j ≤ used) × ((used ≤ slots) × Linked (netlist source) first next (slots * i + j))
+    (j ≤ used) × ((used ≤ slots) × (Linked (netlist source) first next (slots * i + j) × ((length first ≡ length first₀) × (length next ≡ length next₀))))
 
 abbrev μ-loop : tie.MeasureT-loop
 μ-loop source i used first₀ next₀ j₀ first next j = j
 
 loop-holds : tie.Need-loop-holds Inv-loop μ-loop
-loop-holds c = (search needs, (search record-slots, search record-start))
+loop-holds c = (search needs, (search record-slots, (search record-start, search needs)))
 
 sub-j : tie.Need-sub-j Inv-loop μ-loop
 sub-j c = search needs
@@ -36,14 +38,14 @@ add-x c = search needs
 mul-next : tie.Need-mul-next Inv-loop μ-loop
 mul-next c = search needs
 
-element-copy-out-next : tie.Need-element-copy-out-next Inv-loop μ-loop
-element-copy-out-next c = search link-room
+slice-read-next : tie.Need-slice-read-next Inv-loop μ-loop
+slice-read-next c = search first-room
 
 mul-next-2 : tie.Need-mul-next-2 Inv-loop μ-loop
 mul-next-2 c = search needs
 
-element-write-next : tie.Need-element-write-next Inv-loop μ-loop
-element-write-next c = search needs
+slice-write-next : tie.Need-slice-write-next Inv-loop μ-loop
+slice-write-next c = search next-room
 
 cast-first : tie.Need-cast-first Inv-loop μ-loop
 cast-first c = search needs
@@ -51,14 +53,20 @@ cast-first c = search needs
 mul-first : tie.Need-mul-first Inv-loop μ-loop
 mul-first c = search needs
 
-element-write-first : tie.Need-element-write-first Inv-loop μ-loop
-element-write-first c = search link-room
+slice-write-first : tie.Need-slice-write-first Inv-loop μ-loop
+slice-write-first c = search first-room
 
 loop-less : tie.Need-loop-less Inv-loop μ-loop
 loop-less c = search needs
 
 loop-again : tie.Need-loop-again Inv-loop μ-loop
-loop-again c = (search needs, (search needs, search record-more))
+loop-again c = (search needs, (search needs, (search record-more, search needs)))
+
+same-length : tie.Need-same-length Inv-loop μ-loop
+same-length c = search needs
+
+same-length-2 : tie.Need-same-length-2 Inv-loop μ-loop
+same-length-2 c = search needs
 
 returns : tie.Need-returns Inv-loop μ-loop
 returns c = search record-end
@@ -76,12 +84,14 @@ link-slots-spec =
     mul-x
     add-x
     mul-next
-    element-copy-out-next
+    slice-read-next
     mul-next-2
-    element-write-next
+    slice-write-next
     cast-first
     mul-first
-    element-write-first
+    slice-write-first
     loop-less
     loop-again
+    same-length
+    same-length-2
     returns)

@@ -2,8 +2,8 @@
 use Prim.Native.Nat.{_-_}
 use mathlib.Core.Path.{_≡_}
 use Rattle.netlist.specs.Records.{netlist, recordAt}
-use Rattle.mapper.proofs.Following.{distance-is, chain-above, chain-near}
-use Rattle.mapper.proofs.Threading.{thread-less, thread-end}
+use Rattle.mapper.proofs.Following.{first-inside, distance-is, chain-above, chain-near}
+use Rattle.mapper.proofs.Threading.{thread-room, thread-less, thread-end}
 use Rattle.mapper.proofs.Hanging.{Hanging, hang-start, hang-parent, hang-fits, hang-more, hang-noded}
 use borrow.Author.Needs.{needs}
 use Rattle.mapper.proofs.writing.hang_sinks.Statement.{statement}
@@ -21,8 +21,8 @@ level-at-requires c κs = search needs
 mul-index : tie.Need-mul-index Inv-loop μ-loop
 mul-index c = search needs
 
-element-copy-out-index : tie.Need-element-copy-out-index Inv-loop μ-loop
-element-copy-out-index c = search needs
+shared-slice-read-index : tie.Need-shared-slice-read-index Inv-loop μ-loop
+shared-slice-read-index c = search first-inside
 
 index-requires : tie.Need-index-requires Inv-loop μ-loop
 index-requires c κs = search needs
@@ -33,8 +33,8 @@ loop-holds c = (search needs, search hang-start)
 mul-index-2 : tie.Need-mul-index-2 Inv-loop μ-loop
 mul-index-2 c = search needs
 
-element-copy-out-index-2 : tie.Need-element-copy-out-index-2 Inv-loop μ-loop
-element-copy-out-index-2 c = search needs
+slice-read-index : tie.Need-slice-read-index Inv-loop μ-loop
+slice-read-index c = search thread-room
 
 index-requires-2 : tie.Need-index-requires-2 Inv-loop μ-loop
 index-requires-2 c κs = search needs
@@ -69,14 +69,17 @@ parent-of-requires c κs = (search needs, search (hang-parent, distance-is))
 mul-next : tie.Need-mul-next Inv-loop μ-loop
 mul-next c = search needs
 
-element-write-next : tie.Need-element-write-next Inv-loop μ-loop
-element-write-next c = search needs
+slice-write-next : tie.Need-slice-write-next Inv-loop μ-loop
+slice-write-next c = search thread-room
 
 loop-less : tie.Need-loop-less Inv-loop μ-loop
 loop-less c = search thread-less
 
 loop-again : tie.Need-loop-again Inv-loop μ-loop
 loop-again c = (search needs, search (hang-more, distance-is))
+
+same-length : tie.Need-same-length Inv-loop μ-loop
+same-length c = search needs
 
 returns : tie.Need-returns Inv-loop μ-loop
 returns c = (search thread-end, search hang-noded)
@@ -89,11 +92,11 @@ hang-sinks-spec =
     μ-loop
     level-at-requires
     mul-index
-    element-copy-out-index
+    shared-slice-read-index
     index-requires
     loop-holds
     mul-index-2
-    element-copy-out-index-2
+    slice-read-index
     index-requires-2
     distance-requires
     mul-q
@@ -105,7 +108,8 @@ hang-sinks-spec =
     element-copy-out-parent-of
     parent-of-requires
     mul-next
-    element-write-next
+    slice-write-next
     loop-less
     loop-again
+    same-length
     returns)

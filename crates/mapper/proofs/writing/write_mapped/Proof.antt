@@ -14,9 +14,12 @@ write-source-requires c κs = search needs
 same-length : tie.Need-same-length
 same-length c = search needs
 
+same-length-2 : tie.Need-same-length-2
+same-length-2 c = search needs
+
 returns : tie.Need-returns
 returns c = search whole-area
 
 pub write-mapped-spec : {M : Type 1} → statement M
 write-mapped-spec =
-    tie.close (tie.spec write-nets-requires write-source-requires same-length returns)
+    tie.close (tie.spec write-nets-requires write-source-requires same-length same-length-2 returns)

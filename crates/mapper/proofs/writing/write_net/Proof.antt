@@ -28,13 +28,13 @@ level-at-requires c κs = search needs
 
 write-line-requires : tie.Need-write-line-requires
 write-line-requires c κs =
-    let b = c .before .before .before .before .before in
+    let b = c .before .before .before .before .before .before .before in
     let few = few-sinks _ _ _ _ _ (b .before .before .chain-of .ensures) (b .chain .given .1) in
     (search (line-room, few), (search (needs, driver-fits), search (line-fits, few), search (line-levels, few)))
 
 add-result : tie.Need-add-result
 add-result c =
-    let b = c .before .before .before .before .before .before .before .before in
+    let b = c .before .before .before .before .before .before .before .before .before .before in
     let few = few-sinks _ _ _ _ _ (b .before .before .chain-of .ensures) (b .chain .given .1) in
     search (line-next, few)
 
@@ -44,20 +44,29 @@ enum-told-2 c = search needs
 write-tree-requires : tie.Need-write-tree-requires
 write-tree-requires c κs = search needs
 
-returns : tie.Need-returns
-returns c = search (net-none, no-sink)
-
 same-length : tie.Need-same-length
 same-length c = search needs
 
-returns-2 : tie.Need-returns-2
-returns-2 c =
-    let b = c .before .before .before .before .before .before .before .before in
-    let few = few-sinks _ _ _ _ _ (b .before .before .chain-of .ensures) (b .chain .given .1) in
-    search (net-line, few)
+returns : tie.Need-returns
+returns c = search (net-none, no-sink)
 
 same-length-2 : tie.Need-same-length-2
 same-length-2 c = search needs
+
+same-length-3 : tie.Need-same-length-3
+same-length-3 c = search needs
+
+returns-2 : tie.Need-returns-2
+returns-2 c =
+    let b = c .before .before .before .before .before .before .before .before .before .before in
+    let few = few-sinks _ _ _ _ _ (b .before .before .chain-of .ensures) (b .chain .given .1) in
+    search (net-line, few)
+
+same-length-4 : tie.Need-same-length-4
+same-length-4 c = search needs
+
+same-length-5 : tie.Need-same-length-5
+same-length-5 c = search needs
 
 returns-3 : tie.Need-returns-3
 returns-3 c = search needs
@@ -76,8 +85,11 @@ write-net-spec =
     add-result
     enum-told-2
     write-tree-requires
-    returns
     same-length
-    returns-2
+    returns
     same-length-2
+    same-length-3
+    returns-2
+    same-length-4
+    same-length-5
     returns-3)

@@ -19,6 +19,9 @@ clear-row-requires c κs = search net-stale
 same-length : tie.Need-same-length
 same-length c = search needs
 
+same-length-2 : tie.Need-same-length-2
+same-length-2 c = search needs
+
 returns : tie.Need-returns
 returns c = search wrote
 
@@ -31,4 +34,5 @@ write-tree-spec =
     hang-sinks-requires
     clear-row-requires
     same-length
+    same-length-2
     returns)

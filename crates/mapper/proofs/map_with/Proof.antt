@@ -1,0 +1,72 @@
+-- `map_with` meets its contract: the chains, the trees, then 8 or what follows it.
+use Rattle.mapper.proofs.Answering.{input-source, counted-all, refused-tree, kept-tree}
+use Rattle.mapper.proofs.Chains.{chains-end, link-start}
+use borrow.Author.Needs.{needs}
+use Rattle.mapper.proofs.map_with.Statement.{statement}
+use Rattle.mapper.proofs.map_with.Tie as tie
+
+mul-end : tie.Need-mul-end
+mul-end c = search needs
+
+cast-end-chains : tie.Need-cast-end-chains
+cast-end-chains c = search (needs, input-source, chains-end)
+
+end-chains-requires : tie.Need-end-chains-requires
+end-chains-requires c κs = search needs
+
+size-trees-requires : tie.Need-size-trees-requires
+size-trees-requires c κs = (search needs, (search needs, (search needs, (search (needs, link-start), search needs))))
+
+enum-known-sizing : tie.Need-enum-known-sizing
+enum-known-sizing c = search needs
+
+map-trees-requires : tie.Need-map-trees-requires
+map-trees-requires c κs =
+    (counted-all _ _ (search needs) _ (search needs) _ _ (search needs) (c .before .before .before .before .before .sizing .given .1) _ _ _ (search needs), search needs)
+
+enum-known-sizing-2 : tie.Need-enum-known-sizing-2
+enum-known-sizing-2 c = search needs
+
+refuse-requires : tie.Need-refuse-requires
+refuse-requires c κs = search needs
+
+same-length : tie.Need-same-length
+same-length c = search needs
+
+same-length-2 : tie.Need-same-length-2
+same-length-2 c = search needs
+
+same-length-3 : tie.Need-same-length-3
+same-length-3 c = search needs
+
+returns : tie.Need-returns
+returns c = search needs
+
+same-length-4 : tie.Need-same-length-4
+same-length-4 c = search needs
+
+same-length-5 : tie.Need-same-length-5
+same-length-5 c = search needs
+
+returns-2 : tie.Need-returns-2
+returns-2 c = (search refused-tree, search kept-tree)
+
+pub map-with-spec : {M : Type 1} → statement M
+map-with-spec =
+    tie.close
+    (tie.spec
+    mul-end
+    cast-end-chains
+    end-chains-requires
+    size-trees-requires
+    enum-known-sizing
+    map-trees-requires
+    enum-known-sizing-2
+    refuse-requires
+    same-length
+    same-length-2
+    same-length-3
+    returns
+    same-length-4
+    same-length-5
+    returns-2)
