@@ -82,8 +82,8 @@ module _ (a b c : Bool) (x y z : ℕ) (e : x ≡ bit a) (f : y ≡ bit b) where
   pub three-fit : z ≡ bit c → x + y + z < 2 ^ 64
   three-fit g = omega (arith, bit-le a, bit-le b, bit-le c)
 
-  pub majority-is : z ≡ bit c → leb 2 (x + y + z) ≡ leb 2 (bit a + bit b + bit c)
-  majority-is g = rw (e, f, g)
+  pub two-of-three : z ≡ bit c → leb 2 (x + y + z) ≡ leb 2 (bit a + bit b + bit c)
+  two-of-three g = rw (e, f, g)
 
 -- a gate's third value: MAJ's third slot, 0 for AND, 1 for OR
 module _ (kind : ℕ) where

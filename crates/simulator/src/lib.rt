@@ -95,7 +95,7 @@ fn read_slot(r: Record, held: &[u8], j: usize) -> bool
 }
 
 // Whether at least two of three values are 1.
-fn majority(a: bool, b: bool, c: bool) -> bool
+fn at_least_two(a: bool, b: bool, c: bool) -> bool
     ensures { λ v. ⌜ v ≡ leb 2 (bit a + bit b + bit c) ⌝ }
 {
     2 <= one_if(a) + one_if(b) + one_if(c)
@@ -119,7 +119,7 @@ fn function_of(r: Record, held: &[u8]) -> bool
     ensures { λ v. ⌜ v ≡ functionIn r (now (held .entry)) ⌝ }
 {
     if netlist::is_gate(r.kind) {
-        return majority(read_slot(r, held, 0), read_slot(r, held, 1), third(r, held));
+        return at_least_two(read_slot(r, held, 0), read_slot(r, held, 1), third(r, held));
     }
     if netlist::arity(r.kind) == 0 {
         return false;

@@ -16,8 +16,8 @@ read-slot-requires-2 c κs = search (needs, gate-uses)
 third-requires : tie.Need-third-requires
 third-requires c κs = search needs
 
-majority-requires : tie.Need-majority-requires
-majority-requires c κs = search needs
+at-least-two-requires : tie.Need-at-least-two-requires
+at-least-two-requires c κs = search needs
 
 returns : tie.Need-returns
 returns c = search function-majority
@@ -42,7 +42,7 @@ function-of-spec =
     read-slot-requires
     read-slot-requires-2
     third-requires
-    majority-requires
+    at-least-two-requires
     returns
     arity-requires
     returns-2

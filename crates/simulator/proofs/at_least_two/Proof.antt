@@ -1,8 +1,8 @@
--- `majority` meets its contract: the values that are 1 are counted.
-use Rattle.simulator.proofs.Values.{two-fit, three-fit, majority-is}
+-- `at_least_two` meets its contract: the values that are 1 are counted.
+use Rattle.simulator.proofs.Values.{two-fit, three-fit, two-of-three}
 use borrow.Author.Needs.{needs}
-use Rattle.simulator.proofs.majority.Statement.{statement}
-use Rattle.simulator.proofs.majority.Tie as tie
+use Rattle.simulator.proofs.at_least_two.Statement.{statement}
+use Rattle.simulator.proofs.at_least_two.Tie as tie
 
 one-if-requires : tie.Need-one-if-requires
 one-if-requires c κs = search needs
@@ -20,9 +20,9 @@ add-result-2 : tie.Need-add-result-2
 add-result-2 c = record { fits = search three-fit }
 
 returns : tie.Need-returns
-returns c = search majority-is
+returns c = search two-of-three
 
-pub majority-spec : {M : Type 1} → statement M
-majority-spec =
+pub at-least-two-spec : {M : Type 1} → statement M
+at-least-two-spec =
     tie.close
     (tie.spec one-if-requires one-if-requires-2 add-result one-if-requires-3 add-result-2 returns)
