@@ -137,7 +137,7 @@ module _ (bytes : List ℕ) (s : ℕ) (i : inputChecks s bytes ≡ Passed) where
   pub input-capacity : (2 ≤ s) × (s ≤ 4)
   input-capacity = (input-passed s bytes i .low, input-passed s bytes i .high)
 
-  -- the chains before any slot is linked
+  -- the chains once all slots are linked
   module _ (N : ℕ) (size : N ≡ recordCount bytes) where
     pub input-chained : (first next : List ℕ) (end : ℕ) → end ≡ slots * N → Linked (netlist bytes) first next 0 →
         Chained (netlist bytes) first next 0 end

@@ -60,7 +60,7 @@ module _ (xs : List ℕ) (a : ℕ) (bs : List ℕ) where
       both : b + length cs ≡ a + length (bs ++ cs)
       both = omega (arith, length-append bs cs)
 
--- bytes in the place of some of those that were put
+-- bytes put within bytes that were put
 pub put-within : (xs : List ℕ) (a : ℕ) (bs : List ℕ) (k : ℕ) (cs : List ℕ) → a + length bs ≤ length xs → k + length cs ≤ length bs →
     put (put xs a bs) (a + k) cs ≡ put xs a (put bs k cs)
 put-within xs a bs k cs l h =

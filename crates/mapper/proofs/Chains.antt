@@ -19,7 +19,7 @@ use Rattle.netlist.specs.Kinds.{slots, sourceLimit, arity}
 use Rattle.netlist.specs.Records.{Netlist, fanin}
 use Rattle.netlist.specs.Source.{IsSource}
 use Rattle.netlist.proofs.Checks.{arity-slots}
-use Rattle.mapper.specs.Chains.{slotEnd, usedSlot, faninSlot, namesSlot, nextSink, Ended, Linked, Chained}
+use Rattle.mapper.specs.Chains.{slotEnd, usedSlot, faninSlot, namesSlot, nextSink, Emptied, Linked, Chained}
 
 -- what holds only where p does is counted nowhere on the way to the first p
 seek-count : (p q : ℕ → Bool) (y m : ℕ) → ((z : ℕ) → q z ≡ true → p z ≡ true) → count q (seek p y m) ≡ count q y
@@ -95,13 +95,13 @@ module _ (n : Netlist) (d : ℕ) where
         count-more (namesSlot n d) y z a,
       )
 
--- the first d chains are ended
-module _ (n end : ℕ) (first : List ℕ) where
-  pub ended-none : Ended 0 end first
-  ended-none = record { long = omega arith; at = λ d h. absurd (omega arith) }
+-- the first d chains are empty
+module _ (end : ℕ) (first : List ℕ) where
+  pub empty-none : Emptied 0 end first
+  empty-none = record { long = omega arith; at = λ d h. absurd (omega arith) }
 
-  pub ended-more : (d : ℕ) (first₀ : List ℕ) → Ended d end first → d < n → n ≤ length first₀ → length first ≡ length first₀ → Ended (d + 1) end (set first d end)
-  ended-more d first₀ h l room same =
+  pub empty-more : (n d : ℕ) (first₀ : List ℕ) → Emptied d end first → d < n → n ≤ length first₀ → length first ≡ length first₀ → Emptied (d + 1) end (set first d end)
+  empty-more n d first₀ h l room same =
       record {
         long = omega (arith, length-set first d end);
         at = λ x b.
@@ -111,31 +111,32 @@ module _ (n end : ℕ) (first : List ℕ) where
             ];
       }
 
-  pub ended-all : (d : ℕ) → Ended d end first → d ≤ n → n ≤ d → Ended n end first
-  ended-all d h l g = let e : d ≡ n = omega arith in rw e at h
+  pub empty-all : (n d : ℕ) → Emptied d end first → d ≤ n → n ≤ d → Emptied n end first
+  empty-all n d h l g = let e : d ≡ n = omega arith in rw e at h
+
+-- the arrays of the largest source hold every source's chains, and two bytes their end
+module _ (n : Netlist) (N : ℕ) (e : N ≡ n .size) (s : IsSource n) where
+  pub records-few : N ≤ sourceLimit
+  records-few = omega (arith, s .few)
+
+  pub slots-few : slots * N ≤ slots * sourceLimit
+  slots-few = omega (arith, s .few)
+
+  pub end-fits : Fits w16 (slots * N)
+  end-fits = omega (arith, s .few)
 
 module _ (n : Netlist) (first next : List ℕ) where
   -- no slot is linked yet: every first sink is the end
-  module _ (N : ℕ) (e : N ≡ n .size) where
-    pub chains-few : IsSource n → N ≤ sourceLimit
-    chains-few s = omega (arith, s .few)
-
-    pub chains-short : IsSource n → slots * N ≤ slots * sourceLimit
-    chains-short s = omega (arith, s .few)
-
-    pub chains-end : IsSource n → Fits w16 (slots * N)
-    chains-end s = omega (arith, s .few)
-
-    pub link-start : Ended N (slots * N) first → slots * N ≤ length next → Linked n first next (slots * N)
-    link-start h f =
-        rw e (
-        record {
-          firsts = λ d l. (rw e at h) .at d l ∙ sym (next-end n d);
-          nexts = λ y a b u. absurd (omega arith);
-          firstLong = omega (arith, h .long);
-          nextLong = omega arith;
-        }
-        )
+  pub link-start : (N : ℕ) → N ≡ n .size → Emptied N (slots * N) first → slots * N ≤ length next → Linked n first next (slots * N)
+  link-start N e h f =
+      rw e (
+      record {
+        firsts = λ d l. (rw e at h) .at d l ∙ sym (next-end n d);
+        nexts = λ y a b u. absurd (omega arith);
+        firstLong = omega (arith, h .long);
+        nextLong = omega arith;
+      }
+      )
 
   -- an unused slot links nothing
   pub link-unused : (x : ℕ) → Linked n first next (x + 1) → x < slotEnd n → usedSlot n x ≡ false → Linked n first next x
@@ -221,11 +222,11 @@ module _ (n : Netlist) (i : ℕ) (first next : List ℕ) where
   -- slot j - 1 names the driver t
   module _ (used j t : ℕ) (s : IsSource n) (l : i < n .size) (e : used ≡ arity (n .at i .kind)) (b : 0 < j) (c : j ≤ used)
       (f : t ≡ fanin n i (j - 1)) where
-    pub first-room : Linked n first next (slots * i + j) → t < length first
-    first-room h = omega (arith, s .earlier i (j - 1) l (omega arith), h .firstLong)
+    pub first-inside : Linked n first next (slots * i + j) → t < length first
+    first-inside h = omega (arith, s .earlier i (j - 1) l (omega arith), h .firstLong)
 
-    pub next-room : Linked n first next (slots * i + j) → slots * i + (j - 1) < length next
-    next-room h = omega (arith, record-slots (n .at i .kind) used e, h .nextLong)
+    pub next-inside : Linked n first next (slots * i + j) → slots * i + (j - 1) < length next
+    next-inside h = omega (arith, record-slots (n .at i .kind) used e, h .nextLong)
 
     pub record-more : Linked n first next (slots * i + j) →
         Linked n (set first t (slots * i + (j - 1))) (set next (slots * i + (j - 1)) (getD first t 0)) (slots * i + (j - 1))

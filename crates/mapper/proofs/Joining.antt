@@ -1,4 +1,4 @@
--- Laws of writing records one after the other: the first j of n are written.
+-- Laws of writing records one after the other: the first j of n are written; and of one record, slot by slot.
 use Prim.Native.Nat.{ℕ, zero, suc, _+_, _-_, _*_, _≤_, _<_, _/_}
 use mathlib.Core.Path.{_≡_, refl, sym, _∙_, ap, ap₂}
 use mathlib.Core.List.{List, _++_}
@@ -128,7 +128,6 @@ line-more area₀ d start low n area j h fanin r after room l e f g =
     join-more area₀ start (lineRecord d start low) n area j h r after room l
     (f ∙ ap₂ bufferOf (ap (λ (k : ℕ). low + k) (add-one j)) (e ∙ ap (lineParent d start) (add-one j))) g
 
--- record i of the source: read, rewired and written
 -- a record whose first slots are written anew
 module _ (r : Record) (parents : List ℕ) (i : ℕ) where
   -- what slot j then holds
@@ -199,6 +198,7 @@ module _ (r : Record) (parents : List ℕ) (i : ℕ) where
           relinked-three three e₃ l =
               done 3 three (renewed-more two three 2 after-two (omega arith) e₃) (omega (arith, arity-slots (r .kind)))
 
+-- record i of the source: read, then written with its used slots anew
 module _ (bytes parents area₀ : List ℕ) (n : ℕ) (area : List ℕ) (i : ℕ) (h : Joining area₀ 0 (relinkedAt bytes parents) n area i) where
   pub source-room : width * n ≤ length area₀ → i < n → width * i + width ≤ length area
   source-room room l = omega (arith, h .long)

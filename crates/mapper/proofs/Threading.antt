@@ -36,8 +36,8 @@ module _ (n : Netlist) (first before : List ℕ) (end d : ℕ) (h : Chained n fi
 
   module _ (p : ℕ) (after : List ℕ) (t : Threading n d f before p after) where
     module _ (l : p < end) where
-      pub thread-room : p < length after
-      thread-room = omega (arith, t .size, h .nextLong, h .stop)
+      pub thread-inside : p < length after
+      thread-inside = omega (arith, t .size, h .nextLong, h .stop)
 
       inside : p < slotEnd n
       inside = chain-inside n first before end d h p (t .chain) l
@@ -74,7 +74,7 @@ module _ (n : Netlist) (first before : List ℕ) (end d : ℕ) (h : Chained n fi
           where
             at : (y : ℕ) → y < q → y < slotEnd n → namesSlot n d y ≡ true → Dec (y ≡ p) → getD (set after p v) y 0 ≡ f y
             at y a b c (yes x) =
-                rw x (getD-set-same after p v 0 (omega (arith, t .size, h .nextLong, inside)) ∙ g)
+                rw x (getD-set-same after p v 0 thread-inside ∙ g)
             at y a b c (no x) =
                 getD-set-other after p y v 0 x
                 ∙ elim (decLt y p) [

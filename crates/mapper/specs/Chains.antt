@@ -53,8 +53,8 @@ slotDistance n d y = n .at (y / slots) .level - n .at d .level
 unfoldable pub sinksBelow : Netlist → ℕ → ℕ → ℕ → ℕ
 sinksBelow n d k y = count (λ z. sinkAt n d k (z / slots) (z % slots)) y
 
--- the chains of the first n drivers, all empty: each ends where it begins
-pub record Ended (n end : ℕ) (first : List ℕ) : Type 0 where
+-- the chains of the first n records, all empty: each begins at the end
+pub record Emptied (n end : ℕ) (first : List ℕ) : Type 0 where
   pub long : n ≤ length first
   pub at : (d : ℕ) → d < n → getD first d 0 ≡ end
 

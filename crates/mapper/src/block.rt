@@ -98,7 +98,7 @@ fn source_ends(source: &[u8], s: u32, d: usize) -> Ends
     let n = netlist::record_count(source);
     let end = SLOTS * n;
     let mut first = [0u16; RECORDS];
-    sinks::end_chains(n, end as u16, &mut first);
+    sinks::empty_chains(n, end as u16, &mut first);
     let mut next = [0u16; SINKS];
     let mut row = [0u32; DISTANCES];
     let sizing = trees::size_trees(source, s, n, end, &mut first, &mut next, &mut row);

@@ -28,7 +28,7 @@ const RECORDS: usize = netlist::SOURCE_LIMIT;
 
 const SINKS: usize = SLOTS * RECORDS;
 
-// Up to how many records short arrays serve, and their slots.
+// Up to how many records of a source short arrays serve, and the slots of so many.
 const SMALL: usize = 1024;
 
 const SMALL_SINKS: usize = SLOTS * SMALL;
@@ -142,7 +142,7 @@ fn map_trees(
     accept(source, n, total as u32)
 }
 
-// Checks 8 to 10 of a source that passes 1 to 7, and the mapping, with arrays that its chains fit.
+// Checks 8 to 10 of a source that passes 1 to 7, and the mapping, in arrays long enough for its chains.
 fn map_with(
     source: &[u8],
     s: u32,
@@ -159,7 +159,7 @@ fn map_with(
 {
     let end = SLOTS * n;
     let mut row = [0u32; DISTANCES];
-    sinks::end_chains(n, end as u16, first);
+    sinks::empty_chains(n, end as u16, first);
     let sizing = trees::size_trees(source, s, n, end, first, next, &mut row);
     match sizing {
         Sizing::Total(total) => map_trees(source, s, n, end, first, next, total, &mut row, area),

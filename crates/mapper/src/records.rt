@@ -69,7 +69,7 @@ pub(crate) fn buffer_of(level: u16, fanin: u16) -> Record
     }
 }
 
-// Slot j of the record at index x of the area.
+// The value v in slot j of the record at its place x in the area.
 fn write_slot(area: &mut [u8], x: usize, j: usize, v: u16)
     requires { ⌜ (width * x + width ≤ length (now area)) × (j < slots) ⌝ }
     ensures { λ _. ⌜ now (area .exit) ≡ put (now (area .entry)) (width * x + (4 + 2 * j)) (twoBytes v) ⌝ }

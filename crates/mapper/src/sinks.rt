@@ -5,7 +5,7 @@ ghost use lib.ListN.{length, replicate};
 ghost use Rattle.netlist.specs.Kinds.{slots, topLevel, arity};
 ghost use Rattle.netlist.specs.Records.{netlist, recordCount};
 ghost use Rattle.netlist.specs.Source.{IsSource};
-ghost use Rattle.mapper.specs.Chains.{Above, Ended, Linked, Chained, Filled, ChainIs};
+ghost use Rattle.mapper.specs.Chains.{Above, Emptied, Linked, Chained, Filled, ChainIs};
 use crate::numbers;
 use fanout::DISTANCES;
 use netlist::SLOTS;
@@ -17,10 +17,10 @@ pub(crate) enum Chain {
     Long,
 }
 
-// The chains of n drivers, all empty: each ends where it begins.
-pub(crate) fn end_chains(n: usize, end: u16, first: &mut [u16])
+// The chains of n records, all empty: each begins at the end.
+pub(crate) fn empty_chains(n: usize, end: u16, first: &mut [u16])
     requires { ⌜ n ≤ length (now first) ⌝ }
-    ensures { λ _. ⌜ Ended n end (now (first .exit)) ⌝ }
+    ensures { λ _. ⌜ Emptied n end (now (first .exit)) ⌝ }
 {
     let mut d: usize = 0;
     while d < n {

@@ -5,6 +5,7 @@ use native.Mathlib.Nat.{one-mul, mod-eq-of-lt}
 use native.Mathlib.Numerals.{add-one}
 use native.Mathlib.Omega.{arith}
 use mathlib.Core.Path.{_≡_, refl, sym, ap, _∙_}
+use mathlib.Core.Logic.{_≢_}
 use mathlib.Core.Bool.{Bool, true, false, cond, not}
 use mathlib.Core.List.{List, []}
 use lib.ListN.{length, List·getD-eq-default}
@@ -39,6 +40,10 @@ arity-slots kind =
       | yes l ↦ ltb-false slots (arity kind) (any-none wide 6 .0 refl kind l)
       | no g ↦ omega (arith, List·getD-eq-default arities 0 (let h : 6 ≤ kind = omega arith in h))
     ]
+
+-- not 0, 1 or 2 slots: all
+pub all-used : (kind used : ℕ) → used ≡ arity kind → used ≢ 0 → used ≢ 1 → used ≢ 2 → used ≡ slots
+all-used kind used e o p q = omega (arith, arity-slots kind)
 
 -- how many values an inversion byte may have: a gate one bit for each slot, the others none
 module _ (kind : ℕ) (g : Bool) (is : g ≡ isGate kind) where

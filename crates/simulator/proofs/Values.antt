@@ -6,6 +6,8 @@ use mathlib.Core.List.{List}
 use native.Mathlib.Omega.{arith}
 use native.Mathlib.Nat.{add-zero, zero-add}
 use native.Mathlib.Numerals.{add-one}
+use mir.Val.{Fits}
+use mir.Syntax.{w8}
 use lib.ListN.{length, getD, List·getD-eq-default}
 use lib.Dec.{leb, eqb}
 use borrow.Author.Tests.{leb-true, eq-eqb, ne-eqb}
@@ -16,7 +18,7 @@ use Rattle.netlist.specs.declared.Record.{Record}
 use Rattle.netlist.specs.Kinds.{arity, input, and, or, majority, isGate}
 use Rattle.netlist.specs.Records.{Netlist, slot}
 use Rattle.netlist.proofs.Checks.{arity-slots}
-use Rattle.simulator.specs.Shape.{Wired}
+use Rattle.simulator.specs.Shape.{Wired, readIn, thirdIn}
 use Rattle.simulator.specs.Logic.{on, ofKind, turned, onesBelow, gate, functionIn, valueIn}
 
 -- past its end an area holds 0
@@ -58,44 +60,46 @@ module _ (m : Netlist) (kind n : ℕ) where
   counting-fits total i x one c f h l = omega (arith, c .few, bit-le (eqb x kind))
 
 -- a used slot reads a byte within the end
-module _ (r : Record) (held : List ℕ) (j : ℕ) (h : j < arity (r .kind)) where
-  pub shift-fits : j < 2 ^ 8
-  shift-fits = omega (arith, arity-slots (r .kind))
-
+module _ (r : Record) (j : ℕ) (h : j < arity (r .kind)) where
   pub shift-short : j < 8
   shift-short = omega (arith, arity-slots (r .kind))
 
-  pub slot-inside : (x : ℕ) → Wired r (length held) → x ≡ slot r j → x < length held
-  slot-inside x w e = rw e (w .below j h)
+  pub shift-fits : Fits w8 j
+  shift-fits = omega (arith, shift-short)
 
-pub reading-is : (r : Record) (held : List ℕ) (j x y : ℕ) (v : Bool) → x ≡ slot r j → y ≡ getD held x 0 → v ≡ turned (r .inversion / 2 ^ j) (not (eqb y 0)) → v ≡ turned (r .inversion / 2 ^ j) (on held (slot r j))
+  pub slot-inside : (n x : ℕ) → Wired r n → x ≡ slot r j → x < n
+  slot-inside n x w e = rw e (w .below j h)
+
+pub reading-is : (r : Record) (held : List ℕ) (j x y : ℕ) (v : Bool) → x ≡ slot r j → y ≡ getD held x 0 → v ≡ turned (r .inversion / 2 ^ j) (not (eqb y 0)) → v ≡ readIn r held j
 reading-is r held j x y v e f g = g ∙ rw (f, e)
 
 pub wired-same : (r q : Record) (n : ℕ) → r ≡ q → Wired q n → Wired r n
 wired-same r q n e w = rw e w
 
 -- at least two of three values
-module _ (a b c : Bool) (x y z : ℕ) (e : x ≡ bit a) (f : y ≡ bit b) where
+module _ (a b : Bool) (x y : ℕ) (e : x ≡ bit a) (f : y ≡ bit b) where
   pub two-fit : x + y < 2 ^ 64
   two-fit = omega (arith, bit-le a, bit-le b)
 
-  pub three-fit : z ≡ bit c → x + y + z < 2 ^ 64
-  three-fit g = omega (arith, bit-le a, bit-le b, bit-le c)
+  module _ (c : Bool) (z : ℕ) (g : z ≡ bit c) where
+    pub three-fit : x + y + z < 2 ^ 64
+    three-fit = omega (arith, bit-le a, bit-le b, bit-le c)
 
-  pub two-of-three : z ≡ bit c → leb 2 (x + y + z) ≡ leb 2 (bit a + bit b + bit c)
-  two-of-three g = rw (e, f, g)
+    pub two-of-three : leb 2 (x + y + z) ≡ leb 2 (bit a + bit b + bit c)
+    two-of-three = rw (e, f, g)
 
--- a gate's third value: MAJ's third slot, 0 for AND, 1 for OR
-module _ (kind : ℕ) where
-  pub third-used : kind ≡ majority → 2 < arity kind
+-- a gate's third value
+module _ (r : Record) (held : List ℕ) where
+  pub third-used : r .kind ≡ majority → 2 < arity (r .kind)
   third-used e = rw e (omega arith)
 
-  pub third-read : (v read : Bool) → kind ≡ majority → v ≡ read → v ≡ cond (eqb kind majority) read (eqb kind or)
-  third-read v read k e = rw (eq-eqb kind majority k) e
+  pub third-read : (v : Bool) → r .kind ≡ majority → v ≡ readIn r held 2 → v ≡ thirdIn r held
+  third-read v k e = rw (eq-eqb (r .kind) majority k) e
 
-  pub third-fixed : (read : Bool) → (kind ≡ majority → ⊥) → eqb kind or ≡ cond (eqb kind majority) read (eqb kind or)
-  third-fixed read k = rw (ne-eqb kind majority k)
+  pub third-fixed : (r .kind ≡ majority → ⊥) → eqb (r .kind) or ≡ thirdIn r held
+  third-fixed k = rw (ne-eqb (r .kind) majority k)
 
+-- AND and OR are the majority of two values and a constant
 and-two : (a b : Bool) → leb 2 (bit a + bit b + 0) ≡ leb 2 (0 + bit a + bit b)
 and-two a b = rw (add-zero (bit a + bit b), zero-add (bit a)) refl
 
@@ -109,8 +113,15 @@ alone : (a : Bool) → a ≡ leb 1 (0 + bit a)
 alone true = refl
 alone false = refl
 
-no-gate-above : (k : ℕ) → isGate (suc (suc (suc (suc k)))) ≡ true → ⊥
-no-gate-above k g = omega (arith, leb-true (suc (suc (suc (suc k)))) majority (and-r (leb and (suc (suc (suc (suc k))))) (leb (suc (suc (suc (suc k)))) majority) g))
+gate-low : (kind : ℕ) → isGate kind ≡ true → kind ≤ majority
+gate-low kind g = leb-true kind majority (and-r (leb and kind) (leb kind majority) g)
+
+two-used : (kind : ℕ) → isGate kind ≡ true → 2 ≤ arity kind
+two-used zero g = absurd (true-false false g refl)
+two-used (suc zero) g = omega arith
+two-used (suc (suc zero)) g = omega arith
+two-used (suc (suc (suc zero))) g = omega arith
+two-used (suc (suc (suc (suc k)))) g = absurd (omega (arith, gate-low (suc (suc (suc (suc k)))) g))
 
 -- a gate is the majority of its first two slots and the third value; other kinds copy their slot, or use none and are 0
 module _ (inversion : ℕ) (fanins : ℕ → Bool) where
@@ -124,7 +135,7 @@ module _ (inversion : ℕ) (fanins : ℕ → Bool) where
   gate-majority (suc zero) g = and-two (reads 0) (reads 1)
   gate-majority (suc (suc zero)) g = or-two (reads 0) (reads 1)
   gate-majority (suc (suc (suc zero))) g = rw (zero-add (bit (reads 0))) refl
-  gate-majority (suc (suc (suc (suc k)))) g = absurd (no-gate-above k g)
+  gate-majority (suc (suc (suc (suc k)))) g = absurd (omega (arith, gate-low (suc (suc (suc (suc k)))) g))
 
   gate-none : (kind : ℕ) → arity kind ≡ 0 → false ≡ gate kind inversion fanins
   unfolding gate onesBelow count sum
@@ -146,31 +157,24 @@ module _ (inversion : ℕ) (fanins : ℕ → Bool) where
   gate-copy (suc (suc (suc (suc (suc zero))))) g u = alone (reads 0)
   gate-copy (suc (suc (suc (suc (suc (suc k)))))) g u = absurd (u refl)
 
-module _ (r : Record) (held : List ℕ) (g : Bool) (is : g ≡ isGate (r .kind)) where
-  pub function-majority : (a b c v : Bool) → g ≡ true → a ≡ turned (r .inversion / 2 ^ 0) (on held (slot r 0)) → b ≡ turned (r .inversion / 2 ^ 1) (on held (slot r 1)) → c ≡ cond (eqb (r .kind) majority) (turned (r .inversion / 2 ^ 2) (on held (slot r 2))) (eqb (r .kind) or) → v ≡ leb 2 (bit a + bit b + bit c) → v ≡ functionIn r held
-  unfolding functionIn
-  function-majority a b c v t e f h q = q ∙ rw (e, f, h) (gate-majority (r .inversion) (λ j. on held (slot r j)) (r .kind) (sym is ∙ t))
-
+-- the function of a record, as the code has it
+module _ (r : Record) (held : List ℕ) where
   pub function-none : (n : ℕ) → n ≡ arity (r .kind) → n ≡ 0 → false ≡ functionIn r held
   unfolding functionIn
   function-none n e z = gate-none (r .inversion) (λ j. on held (slot r j)) (r .kind) (sym e ∙ z)
 
-  pub function-copy : (v : Bool) (n : ℕ) → g ≡ false → n ≡ arity (r .kind) → (n ≡ 0 → ⊥) → v ≡ turned (r .inversion / 2 ^ 0) (on held (slot r 0)) → v ≡ functionIn r held
-  unfolding functionIn
-  function-copy v n t e u q = q ∙ gate-copy (r .inversion) (λ j. on held (slot r j)) (r .kind) (sym is ∙ t) (λ z. u (e ∙ z))
+  module _ (g : Bool) (is : g ≡ isGate (r .kind)) where
+    pub function-majority : (a b c v : Bool) → g ≡ true → a ≡ readIn r held 0 → b ≡ readIn r held 1 → c ≡ thirdIn r held → v ≡ leb 2 (bit a + bit b + bit c) → v ≡ functionIn r held
+    unfolding functionIn
+    function-majority a b c v t e f h q = q ∙ rw (e, f, h) (gate-majority (r .inversion) (λ j. on held (slot r j)) (r .kind) (sym is ∙ t))
 
-  pub gate-uses : g ≡ true → 1 < arity (r .kind)
-  gate-uses t = two-used (r .kind) (sym is ∙ t)
-    where
-      two-used : (kind : ℕ) → isGate kind ≡ true → 1 < arity kind
-      two-used zero h = absurd (true-false false h refl)
-      two-used (suc zero) h = omega arith
-      two-used (suc (suc zero)) h = omega arith
-      two-used (suc (suc (suc zero))) h = omega arith
-      two-used (suc (suc (suc (suc k)))) h = absurd (no-gate-above k h)
+    pub function-copy : (v : Bool) (n : ℕ) → g ≡ false → n ≡ arity (r .kind) → (n ≡ 0 → ⊥) → v ≡ readIn r held 0 → v ≡ functionIn r held
+    unfolding functionIn
+    function-copy v n t e u q = q ∙ gate-copy (r .inversion) (λ j. on held (slot r j)) (r .kind) (sym is ∙ t) (λ z. u (e ∙ z))
 
-  pub gate-uses-one : g ≡ true → 0 < arity (r .kind)
-  gate-uses-one t = omega (arith, gate-uses t)
+-- a gate uses its first two slots
+pub gate-uses : (kind j : ℕ) (g : Bool) → g ≡ isGate kind → g ≡ true → j < 2 → j < arity kind
+gate-uses kind j g is t l = omega (arith, two-used kind (sym is ∙ t))
 
 module _ (r q : Record) (row held : List ℕ) (given b : ℕ) (e : r ≡ q) where
   pub value-input : (v : Bool) → r .kind ≡ input → v ≡ on row given → b ≡ bit v → b ≡ bit (valueIn q (on row given) held)

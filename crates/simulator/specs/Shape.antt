@@ -1,20 +1,31 @@
 -- The numbers of a run, as the code carries them, and what it may read without a test.
-use Prim.Native.Nat.{ℕ, _*_, _^_, _<_, _≤_}
+use Prim.Native.Nat.{ℕ, _*_, _/_, _^_, _<_, _≤_}
 use mathlib.Core.Path.{_≡_}
+use mathlib.Core.Bool.{Bool, cond}
 use mathlib.Core.List.{List}
 use lib.ListN.{length}
+use lib.Dec.{eqb}
 use Rattle.netlist.specs.declared.Record.{Record}
-use Rattle.netlist.specs.Kinds.{sourceLimit, arity}
+use Rattle.netlist.specs.Kinds.{sourceLimit, or, majority, arity}
 use Rattle.netlist.specs.Records.{netlist, recordCount, slot}
 use Rattle.netlist.specs.Records
 use Rattle.verifier.specs.Legal.{Named}
 use Rattle.simulator.specs.declared.Shape.{Shape}
 use Rattle.simulator.specs.Logic
+use Rattle.simulator.specs.Logic.{on, turned}
 use Rattle.simulator.specs.Step.{rowLimit, Buffered}
 
 -- the used slots of a record name only the first n records
 pub record Wired (r : Record) (n : ℕ) : Type 0 where
   pub below : (j : ℕ) → j < arity (r .kind) → slot r j < n
+
+-- what slot j of a record reads, turned over where its inversion bit is 1
+abbrev pub readIn : Record → List ℕ → ℕ → Bool
+readIn r area j = turned (r .inversion / 2 ^ j) (on area (slot r j))
+
+-- a gate's third value: what MAJ's third slot reads, 0 for AND, 1 for OR
+abbrev pub thirdIn : Record → List ℕ → Bool
+thirdIn r area = cond (eqb (r .kind) majority) (readIn r area 2) (eqb (r .kind) or)
 
 -- p has the numbers by which a mapped netlist is stepped
 pub record Steppable (mapped : List ℕ) (p : Shape) : Type 0 where

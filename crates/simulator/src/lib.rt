@@ -1,13 +1,12 @@
 // The plain evaluator, one step and the phase run (checks 18 and 19).
 ghost use mathlib.Core.Path.{_≡_};
-ghost use mathlib.Core.Bool.{cond};
 ghost use mathlib.Core.List.{_++_};
-ghost use Prim.Native.Nat.{_+_, _-_, _*_, _/_, _<_, _≤_, _^_};
+ghost use Prim.Native.Nat.{_+_, _-_, _*_, _<_, _≤_, _^_};
 ghost use lib.ListN.{length, take, drop, getD, replicate};
-ghost use lib.Dec.{leb, eqb};
+ghost use lib.Dec.{leb};
 ghost use Rattle.facts.specs.Sums.{count, bit};
-ghost use Rattle.netlist.specs.Kinds.{sourceLimit, or, majority, arity};
-ghost use Rattle.netlist.specs.Records.{netlist, recordCount, recordAt, slot};
+ghost use Rattle.netlist.specs.Kinds.{sourceLimit, arity};
+ghost use Rattle.netlist.specs.Records.{netlist, recordCount, recordAt};
 ghost use Rattle.netlist.specs.Checks.{sourceChecks};
 ghost use Rattle.netlist.specs.Source.{IsSource};
 ghost use Rattle.verifier.specs.Legal.{Named};
@@ -16,7 +15,7 @@ ghost use Rattle.simulator.specs.Evaluate.{bitChecks, badAreas, evaluate
 ghost use Rattle.simulator.specs.Step.{rowLimit, renewedBelow, older, stepped, Buffered, copied, badRows, stepChecks, stepAnswer, stepArea};
 ghost use Rattle.simulator.specs.Run.{rowAt, OutputRoom, putOutput, after, steps, outputRows, badOutputs, runChecks, runAnswer, runArea, runOutputs};
 ghost use Rattle.simulator.specs.Waves.{IsRun};
-ghost use Rattle.simulator.specs.Shape.{Wired, Steppable, ShapeOf, Playable};
+ghost use Rattle.simulator.specs.Shape.{Wired, readIn, thirdIn, Steppable, ShapeOf, Playable};
 use facts::Checked;
 use netlist::Record;
 
@@ -86,7 +85,7 @@ fn held_at(area: &[u8], i: usize) -> u8
 fn read_slot(r: Record, held: &[u8], j: usize) -> bool
     requires { ⌜ Wired r (length (now held)) ⌝ }
     requires { ⌜ j < arity (r .kind) ⌝ }
-    ensures { λ v. ⌜ v ≡ turned (r .inversion / 2 ^ j) (on (now (held .entry)) (slot r j)) ⌝ }
+    ensures { λ v. ⌜ v ≡ readIn r (now (held .entry)) j ⌝ }
 {
     turn(
         r.inversion >> j,
@@ -101,10 +100,10 @@ fn at_least_two(a: bool, b: bool, c: bool) -> bool
     2 <= one_if(a) + one_if(b) + one_if(c)
 }
 
-// The third of a gate's values: MAJ reads it; AND and OR are the majority of two slots and a constant.
+// A gate's third value: what MAJ's third slot reads, 0 for AND, 1 for OR.
 fn third(r: Record, held: &[u8]) -> bool
     requires { ⌜ Wired r (length (now held)) ⌝ }
-    ensures { λ v. ⌜ v ≡ cond (eqb (r .kind) majority) (turned (r .inversion / 2 ^ 2) (on (now (held .entry)) (slot r 2))) (eqb (r .kind) or) ⌝ }
+    ensures { λ v. ⌜ v ≡ thirdIn r (now (held .entry)) ⌝ }
 {
     if r.kind == netlist::MAJORITY {
         read_slot(r, held, 2)

@@ -5,7 +5,6 @@ use native.Mathlib.Decide.{decLt}
 use native.Mathlib.Nat.{add-sub-of-le}
 use native.Mathlib.Numerals.{add-one}
 use mathlib.Core.Path.{_≡_, refl, sym, ap, subst, _∙_}
-use mathlib.Core.Logic.{_≢_}
 use mathlib.Core.Bool.{Bool, true, false, cond, _&&_}
 use mathlib.Core.List.{List}
 use lib.ListN.{length, getD, set, replicate, length-set, length-replicate, getD-replicate}
@@ -158,9 +157,6 @@ module _ (m : Netlist) (r : Record) (used : ℕ) (u : used ≡ arity (r .kind)) 
   module _ (b : Bool) (after : List ℕ) where
     pub used-some : (n : ℕ) → used ≡ n → Fed m r n b before after → Fed m r (arity (r .kind)) b before after
     used-some n e f = rw (← u, e) f
-
-    pub used-all : used ≢ 0 → used ≢ 1 → used ≢ 2 → Fed m r slots b before after → Fed m r (arity (r .kind)) b before after
-    used-all o p q f = used-some slots (omega (arith, arity-slots (r .kind))) f
 
 module _ (m : Netlist) where
   pub tallied-start : (entries : ℕ) → m .size ≤ entries → Tallied m 0 (replicate entries 0)

@@ -18,9 +18,8 @@ use Rattle.facts.proofs.Reflect.{reflect}
 use Rattle.facts.proofs.Sums.{any-none}
 use Rattle.facts.proofs.Loops.{NoneYet, any-start, any-more, any-found, any-end, Scanning, scan-start, scan-more, scan-stop, scan-end}
 use Rattle.netlist.specs.declared.Record.{Record}
-use Rattle.netlist.specs.Kinds.{slots, buffer, arity}
+use Rattle.netlist.specs.Kinds.{buffer, arity}
 use Rattle.netlist.specs.Records.{Netlist, netlist, recordAt, recordCount, slot}
-use Rattle.netlist.proofs.Checks.{arity-slots}
 use Rattle.verifier.specs.Trace.{walk, driver}
 use Rattle.verifier.specs.Walking.{Sized, Driven, Buffering, unknown, Known, knownDriver, PlacesPassed, Traceable, Traced, SlotsTraceable, SlotsTraced}
 use Rattle.verifier.specs.Feeding.{stop, badFanin, bufferChecks, Fed, Tallied, TalliedIfPassed}
@@ -203,15 +202,8 @@ module _ (m : Netlist) (a r : Record) (used : ℕ) (u : used ≡ arity (a .kind)
     pub traceable-some : (n : ℕ) → used ≡ n → SlotsTraceable m drivers r n
     traceable-some n e = rw (← u, e) at w
 
-    pub traceable-all : used ≢ 0 → used ≢ 1 → used ≢ 2 → SlotsTraceable m drivers r slots
-    traceable-all o p q = traceable-some slots (omega (arith, arity-slots (a .kind)))
-
-  module _ (b : Bool) where
-    pub traced-some : (n : ℕ) → used ≡ n → SlotsTraced m b (any (strays m a r) n) drivers → SlotsTraced m b (any (strays m a r) (arity (a .kind))) drivers
-    traced-some n e f = rw (← u, e) f
-
-    pub traced-all : used ≢ 0 → used ≢ 1 → used ≢ 2 → SlotsTraced m b (any (strays m a r) slots) drivers → SlotsTraced m b (any (strays m a r) (arity (a .kind))) drivers
-    traced-all o p q f = traced-some slots (omega (arith, arity-slots (a .kind))) f
+  pub traced-some : (b : Bool) (n : ℕ) → used ≡ n → SlotsTraced m b (any (strays m a r) n) drivers → SlotsTraced m b (any (strays m a r) (arity (a .kind))) drivers
+  traced-some b n e f = rw (← u, e) f
 
 -- the answer from k on is the answer, and what is known is right
 pub record Tracing (n m : Netlist) (drivers : List ℕ) (k : ℕ) : Type 0 where

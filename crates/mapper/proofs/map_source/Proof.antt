@@ -1,6 +1,6 @@
 -- `map_source` meets its contract: the arrays are long enough.
 use Rattle.mapper.proofs.Answering.{input-source}
-use Rattle.mapper.proofs.Chains.{chains-few, chains-short}
+use Rattle.mapper.proofs.Chains.{records-few, slots-few}
 use borrow.Author.Needs.{needs}
 use Rattle.mapper.proofs.map_source.Statement.{statement}
 use Rattle.mapper.proofs.map_source.Tie as tie
@@ -30,7 +30,7 @@ slice-aggregate-map-with-4 : tie.Need-slice-aggregate-map-with-4
 slice-aggregate-map-with-4 c = search needs
 
 map-with-requires-2 : tie.Need-map-with-requires-2
-map-with-requires-2 c κs = (search needs, (search needs, (search (input-source, chains-few), search (input-source, chains-short))))
+map-with-requires-2 c κs = (search needs, (search needs, (search (input-source, records-few), search (input-source, slots-few))))
 
 same-length-2 : tie.Need-same-length-2
 same-length-2 c = search needs

@@ -1,6 +1,6 @@
 -- `map_with` meets its contract: the chains, the trees, then 8 or what follows it.
 use Rattle.mapper.proofs.Answering.{input-source, counted-all, refused-tree, kept-tree}
-use Rattle.mapper.proofs.Chains.{chains-end, link-start}
+use Rattle.mapper.proofs.Chains.{end-fits, link-start}
 use borrow.Author.Needs.{needs}
 use Rattle.mapper.proofs.map_with.Statement.{statement}
 use Rattle.mapper.proofs.map_with.Tie as tie
@@ -8,11 +8,11 @@ use Rattle.mapper.proofs.map_with.Tie as tie
 mul-end : tie.Need-mul-end
 mul-end c = search needs
 
-cast-end-chains : tie.Need-cast-end-chains
-cast-end-chains c = search (needs, input-source, chains-end)
+cast-empty-chains : tie.Need-cast-empty-chains
+cast-empty-chains c = search (needs, input-source, end-fits)
 
-end-chains-requires : tie.Need-end-chains-requires
-end-chains-requires c κs = search needs
+empty-chains-requires : tie.Need-empty-chains-requires
+empty-chains-requires c κs = search needs
 
 size-trees-requires : tie.Need-size-trees-requires
 size-trees-requires c κs = (search needs, (search needs, (search needs, (search (needs, link-start), search needs))))
@@ -56,8 +56,8 @@ map-with-spec =
     tie.close
     (tie.spec
     mul-end
-    cast-end-chains
-    end-chains-requires
+    cast-empty-chains
+    empty-chains-requires
     size-trees-requires
     enum-known-sizing
     map-trees-requires

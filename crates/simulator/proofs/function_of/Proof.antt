@@ -1,5 +1,5 @@
 -- `function_of` meets its contract: a gate is a majority, an output and a buffer copy.
-use Rattle.simulator.proofs.Values.{gate-uses, gate-uses-one, function-majority, function-none, function-copy}
+use Rattle.simulator.proofs.Values.{gate-uses, function-majority, function-none, function-copy}
 use borrow.Author.Needs.{needs}
 use Rattle.simulator.proofs.function_of.Statement.{statement}
 use Rattle.simulator.proofs.function_of.Tie as tie
@@ -8,7 +8,7 @@ is-gate-requires : tie.Need-is-gate-requires
 is-gate-requires c κs = search needs
 
 read-slot-requires : tie.Need-read-slot-requires
-read-slot-requires c κs = search (needs, gate-uses-one)
+read-slot-requires c κs = search (needs, gate-uses)
 
 read-slot-requires-2 : tie.Need-read-slot-requires-2
 read-slot-requires-2 c κs = search (needs, gate-uses)

@@ -1,6 +1,6 @@
 -- `source_ends` meets its contract: the chains, the trees, then 8 or what follows it.
 use Rattle.mapper.proofs.Answering.{input-source, counted-all}
-use Rattle.mapper.proofs.Chains.{chains-few, chains-short, chains-end, link-start}
+use Rattle.mapper.proofs.Chains.{records-few, slots-few, end-fits, link-start}
 use Rattle.mapper.proofs.View.{ends-tree}
 use borrow.Author.Needs.{needs}
 use Rattle.mapper.proofs.block.source_ends.Statement.{statement}
@@ -12,14 +12,14 @@ record-count-requires c κs = search needs
 mul-end : tie.Need-mul-end
 mul-end c = search needs
 
-cast-end-chains : tie.Need-cast-end-chains
-cast-end-chains c = search (needs, input-source, chains-end)
+cast-empty-chains : tie.Need-cast-empty-chains
+cast-empty-chains c = search (needs, input-source, end-fits)
 
-slice-aggregate-end-chains : tie.Need-slice-aggregate-end-chains
-slice-aggregate-end-chains c = search needs
+slice-aggregate-empty-chains : tie.Need-slice-aggregate-empty-chains
+slice-aggregate-empty-chains c = search needs
 
-end-chains-requires : tie.Need-end-chains-requires
-end-chains-requires c κs = search (needs, input-source, chains-few)
+empty-chains-requires : tie.Need-empty-chains-requires
+empty-chains-requires c κs = search (needs, input-source, records-few)
 
 slice-aggregate-size-trees : tie.Need-slice-aggregate-size-trees
 slice-aggregate-size-trees c = search needs
@@ -28,7 +28,7 @@ slice-aggregate-size-trees-2 : tie.Need-slice-aggregate-size-trees-2
 slice-aggregate-size-trees-2 c = search needs
 
 size-trees-requires : tie.Need-size-trees-requires
-size-trees-requires c κs = (search needs, (search needs, (search needs, (search (needs, input-source, chains-short, link-start), search needs))))
+size-trees-requires c κs = (search needs, (search needs, (search needs, (search (needs, input-source, slots-few, link-start), search needs))))
 
 enum-known-sizing : tie.Need-enum-known-sizing
 enum-known-sizing c = search needs
@@ -60,9 +60,9 @@ source-ends-spec =
     (tie.spec
     record-count-requires
     mul-end
-    cast-end-chains
-    slice-aggregate-end-chains
-    end-chains-requires
+    cast-empty-chains
+    slice-aggregate-empty-chains
+    empty-chains-requires
     slice-aggregate-size-trees
     slice-aggregate-size-trees-2
     size-trees-requires

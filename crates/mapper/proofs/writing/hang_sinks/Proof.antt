@@ -3,7 +3,7 @@ use Prim.Native.Nat.{_-_}
 use mathlib.Core.Path.{_≡_}
 use Rattle.netlist.specs.Records.{netlist, recordAt}
 use Rattle.mapper.proofs.Following.{first-inside, distance-is, chain-above, chain-near}
-use Rattle.mapper.proofs.Threading.{thread-room, thread-less, thread-end}
+use Rattle.mapper.proofs.Threading.{thread-inside, thread-less, thread-end}
 use Rattle.mapper.proofs.Hanging.{Hanging, hang-start, hang-parent, hang-fits, hang-more, hang-noded}
 use borrow.Author.Needs.{needs}
 use Rattle.mapper.proofs.writing.hang_sinks.Statement.{statement}
@@ -34,7 +34,7 @@ mul-index-2 : tie.Need-mul-index-2 Inv-loop μ-loop
 mul-index-2 c = search needs
 
 slice-read-index : tie.Need-slice-read-index Inv-loop μ-loop
-slice-read-index c = search thread-room
+slice-read-index c = search thread-inside
 
 index-requires-2 : tie.Need-index-requires-2 Inv-loop μ-loop
 index-requires-2 c κs = search needs
@@ -70,7 +70,7 @@ mul-next : tie.Need-mul-next Inv-loop μ-loop
 mul-next c = search needs
 
 slice-write-next : tie.Need-slice-write-next Inv-loop μ-loop
-slice-write-next c = search thread-room
+slice-write-next c = search thread-inside
 
 loop-less : tie.Need-loop-less Inv-loop μ-loop
 loop-less c = search thread-less
