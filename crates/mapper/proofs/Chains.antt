@@ -222,11 +222,11 @@ module _ (n : Netlist) (i : ℕ) (first next : List ℕ) where
   -- slot j - 1 names the driver t
   module _ (used j t : ℕ) (s : IsSource n) (l : i < n .size) (e : used ≡ arity (n .at i .kind)) (b : 0 < j) (c : j ≤ used)
       (f : t ≡ fanin n i (j - 1)) where
-    pub first-inside : Linked n first next (slots * i + j) → t < length first
-    first-inside h = omega (arith, s .earlier i (j - 1) l (omega arith), h .firstLong)
+    pub link-first-inside : Linked n first next (slots * i + j) → t < length first
+    link-first-inside h = omega (arith, s .earlier i (j - 1) l (omega arith), h .firstLong)
 
-    pub next-inside : Linked n first next (slots * i + j) → slots * i + (j - 1) < length next
-    next-inside h = omega (arith, record-slots (n .at i .kind) used e, h .nextLong)
+    pub link-next-inside : Linked n first next (slots * i + j) → slots * i + (j - 1) < length next
+    link-next-inside h = omega (arith, record-slots (n .at i .kind) used e, h .nextLong)
 
     pub record-more : Linked n first next (slots * i + j) →
         Linked n (set first t (slots * i + (j - 1))) (set next (slots * i + (j - 1)) (getD first t 0)) (slots * i + (j - 1))

@@ -1,4 +1,4 @@
--- The numbers of a run, as the code carries them, and what it may read without a test.
+-- The numbers of a run, as the code carries them, what it may read without a test, and what a gate reads.
 use Prim.Native.Nat.{ℕ, _*_, _/_, _^_, _<_, _≤_}
 use mathlib.Core.Path.{_≡_}
 use mathlib.Core.Bool.{Bool, cond}

@@ -5,7 +5,7 @@ use lib.ListN.{length}
 use Rattle.netlist.specs.Kinds.{slots}
 use Rattle.netlist.specs.Records.{netlist}
 use Rattle.mapper.specs.Chains.{Linked}
-use Rattle.mapper.proofs.Chains.{record-slots, record-start, record-more, record-end, first-inside, next-inside}
+use Rattle.mapper.proofs.Chains.{record-slots, record-start, record-more, record-end, link-first-inside, link-next-inside}
 use borrow.Author.Needs.{needs}
 use Rattle.mapper.proofs.sinks.link_slots.Statement.{statement}
 use Rattle.mapper.proofs.sinks.link_slots.Tie as tie
@@ -39,13 +39,13 @@ mul-next : tie.Need-mul-next Inv-loop μ-loop
 mul-next c = search needs
 
 slice-read-next : tie.Need-slice-read-next Inv-loop μ-loop
-slice-read-next c = search first-inside
+slice-read-next c = search link-first-inside
 
 mul-next-2 : tie.Need-mul-next-2 Inv-loop μ-loop
 mul-next-2 c = search needs
 
 slice-write-next : tie.Need-slice-write-next Inv-loop μ-loop
-slice-write-next c = search next-inside
+slice-write-next c = search link-next-inside
 
 cast-first : tie.Need-cast-first Inv-loop μ-loop
 cast-first c = search needs
@@ -54,7 +54,7 @@ mul-first : tie.Need-mul-first Inv-loop μ-loop
 mul-first c = search needs
 
 slice-write-first : tie.Need-slice-write-first Inv-loop μ-loop
-slice-write-first c = search first-inside
+slice-write-first c = search link-first-inside
 
 loop-less : tie.Need-loop-less Inv-loop μ-loop
 loop-less c = search needs
