@@ -1,5 +1,5 @@
 -- Laws for loops that search a range: the answer from here on is the answer (`seek`, `scan`), or nothing was found so far (`any`).
-use Prim.Native.Nat.{ℕ, suc, _+_, _-_, _<_, _≤_}
+use Prim.Native.Nat.{ℕ, zero, suc, _+_, _-_, _<_, _≤_}
 use native.Mathlib.Numerals.{add-one}
 use native.Mathlib.Omega.{arith}
 use mathlib.Core.Path.{_≡_, refl, sym, ap, _∙_}
@@ -61,6 +61,13 @@ module _ (p : ℕ → Bool) (n : ℕ) where
       let e : n - k ≡ 0 = omega arith in
       let w : k ≡ n = omega (arith, i .within) in
       sym (i .rest) ∙ ap (seek p k) e ∙ w
+
+-- where none of n numbers from i on has p, a search ends behind them
+pub seek-none : (p : ℕ → Bool) (i n : ℕ) → ((k : ℕ) → i ≤ k → k < i + n → p k ≡ false) → seek p i n ≡ i + n
+unfolding seek
+seek-none p i zero h = omega arith
+seek-none p i (suc n) h =
+    rw (h i (omega arith) (omega arith)) (seek-none p (suc i) n (λ k l u. h k (omega arith) (omega arith)) ∙ omega arith)
 
 -- the answer from k on is the answer
 pub record Scanning (f : ℕ → Checked) (n k : ℕ) : Type 0 where

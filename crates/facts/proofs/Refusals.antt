@@ -60,6 +60,24 @@ exact {F} {a} f = record { refused = λ n p. (f .fails n p, stop a refl n p); pa
     go Passed e g = e
     go (Refused m q) e g = absurd (g m q (f .fails m q e .0))
 
+-- no condition has number 0
+abbrev pub Numbered : Conditions → Type 0
+Numbered F = (number place : ℕ) → F number place → 0 < number
+
+-- a number that stands behind some row is not 0
+pub row-positive : (number r : ℕ) → r < rowOf number → 0 < number
+row-positive zero r l = absurd (omega arith)
+row-positive (suc k) r l = omega arith
+
+-- an answer whose first number is 0 has passed, if a refusal's first number is its own
+pub zero-passed : {F : Conditions} {a : Checked} (first : Checked → ℕ) → Exact F a → Numbered F →
+    ((n p : ℕ) → first (Refused n p) ≡ n) → first a ≡ 0 → a ≡ Passed
+zero-passed {F} {a} first e numbered own z = go a refl
+  where
+    go : (b : Checked) → a ≡ b → a ≡ Passed
+    go Passed f = f
+    go (Refused n p) f = absurd (omega (arith, numbered n p (e .refused n p .0 f .0), own n p, ap first f))
+
 -- nothing is checked both before and after another
 never-both : (m q n p : ℕ) → Earlier m q n p → Earlier n p m q → ⊥
 never-both m q n p = go (rowOf m) (rowOf n)

@@ -1,22 +1,25 @@
--- A source passes checks 2 to 7 exactly if it is one: whole records with the facts of `IsSource`; and what its kinds are.
+-- A source passes checks 2 to 7 exactly if it is one: whole records with the facts of `IsSource`; what its kinds are, and where its outputs stand.
 use Prim.Native.Nat.{ℕ, _<_}
 use native.Mathlib.Decide.{decLt}
 use native.Mathlib.Omega.{arith}
-use mathlib.Core.Path.{_≡_, ap}
+use mathlib.Core.Path.{_≡_, refl, sym, ap, _∙_}
 use mathlib.Core.Logic.{_↔_, _≢_}
-use mathlib.Core.Bool.{true, false}
+use mathlib.Core.Bool.{Bool, true, false}
 use mathlib.Core.List.{List}
 use Rattle.facts.specs.declared.Checked.the-variants.{Passed}
 use lib.Dec.{ltb}
-use borrow.Author.Tests.{ltb-false, leb-false}
+use borrow.Author.Tests.{ltb-false, leb-false, eqb-true, eq-eqb, ne-eqb}
 use Rattle.facts.specs.Checks.{check}
+use Rattle.facts.specs.Sums.{any, seek}
 use Rattle.facts.proofs.Bools.{true-false}
+use Rattle.facts.proofs.Loops.{seek-none}
+use Rattle.facts.proofs.Sums.{any-some, any-none}
 use Rattle.facts.proofs.Reflect.{reflect, check-passed, then-passed, or-none}
 use Rattle.netlist.specs.declared.Record.{Record}
 use Rattle.netlist.specs.Kinds.{slots, majority, output, buffer, arity, isDriver}
-use Rattle.netlist.specs.Records.{Netlist, recordCount, recordAt}
+use Rattle.netlist.specs.Records.{Netlist, netlist, recordCount, recordAt, isOutput, depth}
 use Rattle.netlist.specs.Checks.{badCapacity, sourceChecks, inputChecks}
-use Rattle.netlist.specs.Source.{IsSource, Source, Input}
+use Rattle.netlist.specs.Source.{IsSource, Source, Input, OutputsAt}
 use Rattle.netlist.proofs.Checks.{arity-slots}
 use Rattle.netlist.proofs.Records.{record-past}
 
@@ -87,3 +90,29 @@ driver-inside bytes d e =
       | yes l ↦ l
       | no g ↦ absurd (true-false _ e (ap (λ (r : Record). isDriver (r .kind)) (record-past bytes d (omega arith))))
     ]
+
+-- the outputs of a source stand at its depth
+pub outputs-at : (bytes : List ℕ) → Source bytes → OutputsAt (netlist bytes) (depth (netlist bytes))
+unfolding depth
+outputs-at bytes s =
+    record {
+      level = s .isSource .outputs;
+      none = λ h.
+          let end : seek (isOutput (netlist bytes)) 0 (recordCount bytes) ≡ recordCount bytes =
+          omega (arith, seek-none (isOutput (netlist bytes)) 0 (recordCount bytes) (λ k a l. ne-eqb (recordAt bytes k .kind) output (h k (omega arith)))) in
+          ap (λ (k : ℕ). recordAt bytes k .level) end ∙ ap (λ (r : Record). r .level) (record-past bytes (recordCount bytes) (omega arith));
+    }
+
+-- and a netlist's outputs at one level only
+pub outputs-at-one : (m : Netlist) (D E : ℕ) → OutputsAt m D → OutputsAt m E → D ≡ E
+outputs-at-one m D E a b = go (any (isOutput m) (m .size)) refl
+  where
+    go : (x : Bool) → any (isOutput m) (m .size) ≡ x → D ≡ E
+    go true e =
+        let found = any-some (isOutput m) (m .size) .0 e in
+        let is = eqb-true (m .at (found .0) .kind) output (found .2) in
+        sym (a .level (found .0) (found .1) is) ∙ b .level (found .0) (found .1) is
+    go false e =
+        let none : (k : ℕ) → k < m .size → m .at k .kind ≢ output =
+        λ k l o. true-false (isOutput m k) (eq-eqb (m .at k .kind) output o) (any-none (isOutput m) (m .size) .0 e k l) in
+        a .none none ∙ sym (b .none none)

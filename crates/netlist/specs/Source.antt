@@ -30,6 +30,11 @@ pub record IsSource (m : Netlist) : Type 0 where
   -- outputs share one level
   pub outputs : (k : ℕ) → k < m .size → m .at k .kind ≡ output → m .at k .level ≡ depth m
 
+-- D as a fact: the level of the outputs, or 0 where there are none
+pub record OutputsAt (m : Netlist) (D : ℕ) : Type 0 where
+  pub level : (k : ℕ) → k < m .size → m .at k .kind ≡ output → m .at k .level ≡ D
+  pub none : ((k : ℕ) → k < m .size → m .at k .kind ≢ output) → D ≡ 0
+
 -- the bytes of a source: whole records that are one
 pub record Source (bytes : List ℕ) : Type 0 where
   pub whole : length bytes % width ≡ 0

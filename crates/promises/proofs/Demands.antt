@@ -5,6 +5,7 @@ use Rattle.fanout.proofs.Numbers.{numbers-exactly}
 use Rattle.verifier.proofs.Refusals as verifier
 use Rattle.verifier.proofs.Fewest.{on-net-exactly}
 use Rattle.verifier.proofs.Accepted.{accepted-exactly}
+use Rattle.verifier.proofs.Balance.{accepted-balanced}
 use Rattle.mapper.proofs.Promises.{map-exact, refused-leaves, block-none}
 use Rattle.simulator.specs.Evaluate.{evaluateArea}
 use Rattle.simulator.specs.Step.{stepArea}
@@ -12,7 +13,7 @@ use Rattle.simulator.specs.Run.{runArea, runOutputs}
 use Rattle.simulator.proofs.Refusals.{evaluate-exact, step-exact, run-exact}
 use Rattle.simulator.proofs.Claims.{evaluator-is-plain, calls-are-plain, run-is-plain, run-is-steps}
 use Rattle.promises.specs.Demands.{RefusedKeeps, Demand1, Demand2, Demand3}
-use Rattle.promises.proofs.Written.{written-legal, written-accepted, written-least, beyond-kept, buffers-one-number, maps-where-accepted}
+use Rattle.promises.proofs.Written.{written-legal, written-balanced, written-accepted, written-least, beyond-kept, buffers-one-number, maps-where-accepted}
 use Rattle.promises.proofs.Block.{block-exact, block-short}
 use Rattle.promises.proofs.Numbers.{numbers-exact}
 
@@ -47,11 +48,13 @@ pub demand-2 : Demand2
 demand-2 =
     record {
       legal = written-legal;
+      balanced = written-balanced;
       accepted = written-accepted;
       oneNumber = buffers-one-number;
       noTree = net.no-tree-exactly;
       fewest = net.fewest-exactly;
       exactly = accepted-exactly;
+      acceptedBalanced = accepted-balanced;
       beyond = beyond-kept;
       others = maps-where-accepted;
       blocks = block-exact;

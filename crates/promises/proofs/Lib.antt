@@ -1,5 +1,6 @@
 pub mod Ready
 pub mod Written
 pub mod Block
+pub mod Figures
 pub mod Numbers
 pub mod Demands

@@ -1,51 +1,44 @@
 -- The numbers tell a refusal from an accepted answer, since no check has number 0; so they are as exact as the checks.
-use Prim.Native.Nat.{ℕ, zero, suc, _<_}
+use Prim.Native.Nat.{ℕ, _*_, _<_}
 use native.Mathlib.Omega.{arith}
-use mathlib.Core.Path.{_≡_, refl, sym, ap, _∙_}
+use mathlib.Core.Path.{_≡_, refl, sym, ap, subst, _∙_}
 use mathlib.Core.Logic.{⊎-elim}
 use mathlib.Core.List.{List, [], _∷_}
+use lib.ListN.{getD, take}
 use Rattle.facts.specs.declared.Checked.{Checked}
 use Rattle.facts.specs.declared.Checked.the-variants.{Passed, Refused}
 use Rattle.facts.specs.Checks.{checkedNumbers}
 use Rattle.facts.specs.Refusals.{Conditions, FirstAt, Exact, rowOf}
+use Rattle.netlist.specs.Kinds.{width}
 use Rattle.netlist.specs.Records.{netlist}
 use Rattle.netlist.specs.Refusals.{SourceFails}
 use Rattle.netlist.proofs.Refusals.{source-rows, input-numbered}
 use Rattle.verifier.specs.Refusals.{VerifyFails}
-use Rattle.verifier.specs.Checks.{bufferCount, verifyChecks, verified, verifiedNumbers}
+use Rattle.verifier.specs.Checks.{bufferCount, verifyChecks, verified, verifyAnswer, verifiedNumbers}
+use Rattle.verifier.proofs.Accepted.{checks-passed}
 use Rattle.verifier.proofs.Refusals.{verify-first}
-use Rattle.facts.proofs.Refusals.{exact}
-use Rattle.mapper.specs.Answer.{mapChecks, answerOf, mapAnswer, mappingNumbers}
+use Rattle.facts.proofs.Refusals.{exact, Numbered, row-positive, zero-passed}
+use Rattle.mapper.specs.declared.Mapping.{Mapping}
+use Rattle.mapper.specs.Answer.{mapChecks, answerOf, mapAnswer, mapArea, mappingNumbers}
 use Rattle.mapper.specs.Promises.{MapFails}
 use Rattle.mapper.proofs.Promises.{map-exact}
 use Rattle.simulator.specs.Refusals.{AreaFails, EvaluateFails, StepFails, RunFails}
 use Rattle.simulator.proofs.Refusals.{evaluate-exact, step-exact, run-exact}
-use Rattle.promises.specs.Numbers.{AnsweredExactly, NumbersExact}
-use Rattle.promises.proofs.Written.{map-numbered}
-
--- no condition has number 0
-abbrev Numbered : Conditions → Type 0
-Numbered F = (number place : ℕ) → F number place → 0 < number
-
--- a number that is not 0 is above it
-above : (number : ℕ) → (number ≡ 0 → ⊥) → 0 < number
-above zero h = absurd (h refl)
-above (suc k) h = omega arith
-
--- a number stands in a row only if it is not 0
-positive : (number r : ℕ) → r < rowOf number → 0 < number
-positive number r l = above number (λ e. omega (arith, ap rowOf e))
+use Rattle.promises.specs.Written.{Maps}
+use Rattle.promises.specs.Numbers.{AnsweredExactly, TwoNumbers, Figures, MapNumbers, VerifyNumbers, NumbersExact}
+use Rattle.promises.proofs.Written.{map-numbered, maps-passed}
+use Rattle.promises.proofs.Figures.{figures-hold, figures-same}
 
 area-numbered : (Bad : Type 0) (row : List ℕ) → Numbered (AreaFails Bad row)
 area-numbered Bad row number place = ⊎-elim (λ f. omega (arith, f .0)) (λ z. omega (arith, z .2 .0))
 
 source-numbered : (source : List ℕ) → Numbered (SourceFails source)
-source-numbered source number place f = positive number (rowOf 1) (source-rows source number place f .0)
+source-numbered source number place f = row-positive number (rowOf 1) (source-rows source number place f .0)
 
 verify-numbered : (source : List ℕ) (s : ℕ) (mapped : List ℕ) → Numbered (VerifyFails source s mapped)
 verify-numbered source s mapped number place =
     ⊎-elim
-    (λ f. positive number (rowOf 0) (input-numbered s source number place f))
+    (λ f. row-positive number (rowOf 0) (input-numbered s source number place f))
     (⊎-elim
     (λ f. omega (arith, f .0))
     (⊎-elim
@@ -70,37 +63,93 @@ tell F a numbers refused e numbered none same apart number place = (go a refl, b
     back : FirstAt F number place → (numbers a ≡ refused number place) × (0 < number)
     back h = (ap numbers (e .refused number place .1 h) ∙ same number place, numbered number place (h .0))
 
-checked-exact : (F : Conditions) (a : Checked) → Exact F a → Numbered F → AnsweredExactly F (checkedNumbers a) (λ number place. number ∷ place ∷ [])
-unfolding checkedNumbers
-checked-exact F a e h = tell F a checkedNumbers (λ number place. number ∷ place ∷ []) e h (λ n p f. cc) (λ n p. refl) (λ n p m q f. (cc, cc))
+first : List ℕ → ℕ
+first numbers = getD numbers 0 0
+
+two-numbers : (F : Conditions) (a : Checked) → Exact F a → Numbered F → TwoNumbers F (checkedNumbers a)
+unfolding checkedNumbers first
+two-numbers F a e numbered =
+    record {
+      refused = tell F a checkedNumbers (λ number place. number ∷ place ∷ []) e numbered (λ n p f. cc) (λ n p. refl) (λ n p m q f. (cc, cc));
+      accepted = (
+        λ f. e .passed .0 (zero-passed (λ c. first (checkedNumbers c)) e numbered (λ n p. refl) (ap first f)),
+        λ clear. ap checkedNumbers (e .passed .1 clear),
+      );
+    }
+
+module _ (source : List ℕ) (s : ℕ) (mapped : List ℕ) where
+  abbrev verifyNumbers : Checked → List ℕ
+  verifyNumbers a = verifiedNumbers (verified (bufferCount (netlist mapped)) a)
+
+  verify-exact : Exact (VerifyFails source s mapped) (verifyChecks source s mapped)
+  verify-exact = exact (verify-first source s mapped)
+
+  verify-numbers : VerifyNumbers source s mapped (verifiedNumbers (verifyAnswer source s mapped))
+  unfolding verifiedNumbers first
+  verify-numbers =
+      record {
+        refused =
+            tell (VerifyFails source s mapped) (verifyChecks source s mapped) verifyNumbers
+            (λ number place. number ∷ place ∷ 0 ∷ []) verify-exact (verify-numbered source s mapped)
+            (λ n p f. cc) (λ n p. refl) (λ n p m q f. (cc, cc));
+        accepted = λ buffers. (
+          λ f.
+              let passed = zero-passed (λ c. first (verifyNumbers c)) verify-exact (verify-numbered source s mapped) (λ n p. refl) (ap first f) in
+              (checks-passed source s mapped .0 passed, cc (sym f ∙ ap verifyNumbers passed)),
+          λ a. ap verifyNumbers (checks-passed source s mapped .1 (a .0)) ∙ cc (a .1),
+        );
+        clear = (
+          λ c. checks-passed source s mapped .0 (verify-exact .passed .1 c),
+          λ a. verify-exact .passed .0 (checks-passed source s mapped .1 a),
+        );
+      }
+
+module _ (source : List ℕ) (s : ℕ) (area : List ℕ) where
+  abbrev answered : Checked → List ℕ
+  answered a = mappingNumbers (answerOf a (netlist source) s)
+
+  -- an accepted answer's first two numbers are 0
+  numbers-of : mapChecks source s area ≡ Passed →
+      let a : Mapping = mapAnswer source s area in
+      mappingNumbers a ≡ 0 ∷ 0 ∷ a .size ∷ a .buffers ∷ a .depth ∷ a .junctions ∷ a .share ∷ []
+  unfolding mapAnswer mappingNumbers
+  numbers-of passed = rw passed
+
+  map-numbers : MapNumbers source s area (mappingNumbers (mapAnswer source s area))
+  unfolding mapAnswer mappingNumbers first
+  map-numbers =
+      record {
+        refused =
+            tell (MapFails source s area) (mapChecks source s area) answered
+            (λ number place. number ∷ place ∷ 0 ∷ 0 ∷ 0 ∷ 0 ∷ 0 ∷ []) (map-exact source s area) (map-numbered source s area)
+            (λ n p f. cc) (λ n p. refl) (λ n p m q f. (cc, cc));
+        accepted = λ M B D J P. (
+          λ f.
+              let maps : Maps source s area = ap first f in (
+                map-exact source s area .passed .0 (maps-passed source s area maps),
+                subst
+                    (λ (l : List ℕ). Figures source s (take (width * getD l 2 0) (mapArea source s area)) (getD l 2 0) (getD l 3 0) (getD l 4 0) (getD l 5 0) (getD l 6 0))
+                    f (figures-hold source s area maps),
+              ),
+          λ c.
+              let passed = map-exact source s area .passed .1 (c .0) in
+              let maps : Maps source s area = ap (λ (a : Checked). answerOf a (netlist source) s .number) passed in
+              numbers-of passed ∙ figures-same source s (mapArea source s area) _ _ _ _ _ M B D J P (figures-hold source s area maps) (c .1),
+        );
+      }
 
 pub numbers-exact : NumbersExact
-unfolding mapAnswer mappingNumbers verifiedNumbers
 numbers-exact =
     record {
-      map = λ source s area.
-          tell (MapFails source s area) (mapChecks source s area) (λ a. mappingNumbers (answerOf a (netlist source) s))
-          (λ number place. number ∷ place ∷ 0 ∷ 0 ∷ 0 ∷ 0 ∷ 0 ∷ [])
-          (map-exact source s area)
-          (λ number place f. above number (map-numbered source s area number place f))
-          (λ n p f. cc)
-          (λ n p. refl)
-          (λ n p m q f. (cc, cc));
-      verify = λ source s mapped.
-          tell (VerifyFails source s mapped) (verifyChecks source s mapped) (λ a. verifiedNumbers (verified (bufferCount (netlist mapped)) a))
-          (λ number place. number ∷ place ∷ 0 ∷ [])
-          (exact (verify-first source s mapped))
-          (verify-numbered source s mapped)
-          (λ n p f. cc)
-          (λ n p. refl)
-          (λ n p m q f. (cc, cc));
+      map = map-numbers;
+      verify = verify-numbers;
       evaluate = λ source row area.
-          checked-exact (EvaluateFails source row area) _ (evaluate-exact source row area)
+          two-numbers (EvaluateFails source row area) _ (evaluate-exact source row area)
           (λ number place. ⊎-elim (source-numbered source number place) (area-numbered _ row number place));
       step = λ source s mapped row area.
-          checked-exact (StepFails source s mapped row area) _ (step-exact source s mapped row area)
+          two-numbers (StepFails source s mapped row area) _ (step-exact source s mapped row area)
           (λ number place. ⊎-elim (verify-numbered source s mapped number place) (area-numbered _ row number place));
       run = λ source s mapped r rows area outs.
-          checked-exact (RunFails source s mapped r rows area outs) _ (run-exact source s mapped r rows area outs)
+          two-numbers (RunFails source s mapped r rows area outs) _ (run-exact source s mapped r rows area outs)
           (λ number place. ⊎-elim (verify-numbered source s mapped number place) (area-numbered _ rows number place));
     }

@@ -10,9 +10,9 @@ use mathlib.Core.List.{List}
 use lib.ListN.{length, drop}
 use lib.Seq.{take-at, drop-at}
 use borrow.Author.Tests.{le-ltb}
-use Rattle.facts.specs.declared.Checked.{Checked}
-use Rattle.facts.specs.declared.Checked.the-variants.{Passed, Refused}
+use Rattle.facts.specs.declared.Checked.the-variants.{Passed}
 use Rattle.facts.specs.Refusals.{rowOf}
+use Rattle.facts.proofs.Refusals.{Numbered, row-positive, zero-passed}
 use Rattle.facts.proofs.Reflect.{check-passed, then-passed, scan-passed}
 use Rattle.netlist.specs.Kinds.{width, mappedLimit}
 use Rattle.netlist.specs.Records.{Netlist, netlist, recordCount}
@@ -31,9 +31,10 @@ use Rattle.mapper.proofs.Area.{length-recs}
 use Rattle.mapper.proofs.Written.{mapped-read}
 use Rattle.verifier.specs.Checks.{verifyChecks, bufferCount}
 use Rattle.verifier.proofs.Accepted.{checks-passed, accepted-exactly, buffers-all}
+use Rattle.verifier.proofs.Balance.{accepted-balanced}
 use Rattle.verifier.proofs.Fewest.{none-accepted-fewer}
 use Rattle.verifier.proofs.Least.{least-everywhere}
-use Rattle.promises.specs.Written.{Maps, written, WrittenLegal, WrittenAccepted, WrittenLeast, BuffersOneNumber, BeyondKept, MapsWhereAccepted}
+use Rattle.promises.specs.Written.{Maps, written, WrittenLegal, WrittenBalanced, WrittenAccepted, WrittenLeast, BuffersOneNumber, BeyondKept, MapsWhereAccepted}
 use Rattle.promises.proofs.Ready.{trees-fewest, mapped-legal, mapped-fewest}
 
 -- what passing 1 to 9 gives
@@ -50,33 +51,26 @@ source-ready source s e =
     }
 
 -- no refusal of the mapper has number 0
-pub map-numbered : (source : List ℕ) (s : ℕ) (area : List ℕ) (number place : ℕ) → MapFails source s area number place → number ≡ 0 → ⊥
-map-numbered source s area number place f z =
+pub map-numbered : (source : List ℕ) (s : ℕ) (area : List ℕ) → Numbered (MapFails source s area)
+map-numbered source s area number place =
     ⊎-elim
     (⊎-elim
-    (λ a. omega (arith, input-numbered s source number place a, ap rowOf z))
+    (λ a. row-positive number (rowOf 0) (input-numbered s source number place a))
     (⊎-elim (λ a. omega (arith, a .2 .0)) (λ a. omega (arith, a .0))))
     (λ a. omega (arith, a .0))
-    f
 
 -- an accepted call passes all its checks
 pub maps-passed : (source : List ℕ) (s : ℕ) (area : List ℕ) → Maps source s area → mapChecks source s area ≡ Passed
 unfolding mapAnswer
-maps-passed source s area e = go (mapChecks source s area) refl
-  where
-    go : (a : Checked) → mapChecks source s area ≡ a → a ≡ Passed
-    go Passed f = refl
-    go (Refused number place) f =
-        let fails = map-exact source s area .refused number place .0 f .0 in
-        let zero : number ≡ 0 = ap (λ (a : Checked). answerOf a (netlist source) s .number) (sym f) ∙ e in
-        absurd (map-numbered source s area number place fails zero)
+maps-passed source s area =
+    zero-passed (λ a. answerOf a (netlist source) s .number) (map-exact source s area) (map-numbered source s area) (λ n p. refl)
 
 module _ (source : List ℕ) (s : ℕ) (area : List ℕ) (maps : Maps source s area) where
   pub mapped-from : Mapped source s
   unfolding mapChecks
   mapped-from = source-ready source s (then-passed (sourceMaps source s) _ .0 (maps-passed source s area maps) .0)
 
-  answer-size : mapAnswer source s area .size ≡ mappedSize (netlist source) s
+  pub answer-size : mapAnswer source s area .size ≡ mappedSize (netlist source) s
   unfolding mapAnswer
   answer-size = rw (maps-passed source s area maps) (omega arith)
 
@@ -124,6 +118,10 @@ pub written-accepted : WrittenAccepted
 written-accepted source s area maps =
     accepted-exactly source s (written source s area) (mapAnswer source s area .buffers) .1
     (written-legal source s area maps, buffers-written source s area maps)
+
+pub written-balanced : WrittenBalanced
+written-balanced source s area maps =
+    accepted-balanced source s (written source s area) (mapAnswer source s area .buffers) (written-accepted source s area maps)
 
 pub written-least : WrittenLeast
 written-least source s area other buffers maps e =

@@ -7,6 +7,7 @@ use Rattle.netlist.specs.Refusals.{SourceExact, InputExact}
 use Rattle.fanout.specs.Promises as net
 use Rattle.verifier.specs.Refusals as verifier
 use Rattle.verifier.specs.Accepted.{AcceptedExactly}
+use Rattle.verifier.specs.Balance.{AcceptedBalanced}
 use Rattle.verifier.specs.Fewest.{OnNetExactly}
 use Rattle.mapper.specs.Promises.{MapExact, RefusedLeaves, BlockNone}
 use Rattle.simulator.specs.Evaluate.{evaluateAnswer, evaluateArea}
@@ -14,7 +15,7 @@ use Rattle.simulator.specs.Step.{stepAnswer, stepArea}
 use Rattle.simulator.specs.Run.{runAnswer, runArea, runOutputs}
 use Rattle.simulator.specs.Refusals.{EvaluateExact, StepExact, RunExact}
 use Rattle.simulator.specs.Claims.{EvaluatorIsPlain, CallsArePlain, RunIsPlain, RunIsSteps}
-use Rattle.promises.specs.Written.{WrittenLegal, WrittenAccepted, WrittenLeast, BeyondKept, BuffersOneNumber, MapsWhereAccepted}
+use Rattle.promises.specs.Written.{WrittenLegal, WrittenBalanced, WrittenAccepted, WrittenLeast, BeyondKept, BuffersOneNumber, MapsWhereAccepted}
 use Rattle.promises.specs.Block.{BlockExact, BlockShort}
 use Rattle.promises.specs.Numbers.{NumbersExact}
 
@@ -29,8 +30,8 @@ pub record RefusedKeeps : Type 0 where
   pub outputs : (source : List ℕ) (s : ℕ) (mapped : List ℕ) (r : ℕ) (rows area outs : List ℕ) (number place : ℕ) →
       runAnswer source s mapped r rows area outs ≡ Refused number place → runOutputs source s mapped r rows area outs ≡ outs
 
--- demand 1: each call answers a number exactly where its condition is the first that holds, accepts exactly if none does, and a
--- refused call leaves every lent area
+-- demand 1: each call answers a number exactly where its condition is the first that holds, accepts exactly if none does, with the
+-- numbers that document 01 says, and a refused call leaves every lent area
 pub record Demand1 : Type 0 where
   pub source : SourceExact
   pub input : InputExact
@@ -45,15 +46,17 @@ pub record Demand1 : Type 0 where
   pub countNumbers : net.NumbersExactly
   pub numbers : NumbersExact
 
--- demand 2: what is written is legal and accepted, with the number of buffers answered; 'no tree' exactly when no tree at all is
--- legal; the verifier accepts exactly the legal mapped netlists
+-- demand 2: what is written is legal, path-balanced, properly branched and accepted, with the number of buffers answered; 'no tree'
+-- exactly when no tree at all is legal; the verifier accepts exactly the legal mapped netlists
 pub record Demand2 : Type 0 where
   pub legal : WrittenLegal
+  pub balanced : WrittenBalanced
   pub accepted : WrittenAccepted
   pub oneNumber : BuffersOneNumber
   pub noTree : net.NoTreeExactly
   pub fewest : net.FewestExactly
   pub exactly : AcceptedExactly
+  pub acceptedBalanced : AcceptedBalanced
   pub beyond : BeyondKept
   pub others : MapsWhereAccepted
   pub blocks : BlockExact

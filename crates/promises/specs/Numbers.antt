@@ -1,37 +1,79 @@
--- Document 01's numbers of each answer: a call answers a number above 0 exactly where that check is the first that fails.
-use Prim.Native.Nat.{ℕ, _<_}
+-- Document 01's numbers of each answer: refused exactly where a check is the first that fails, accepted exactly if none does, and
+-- what each number of an accepted answer is, as facts of what was handed in and written.
+use Prim.Native.Nat.{ℕ, suc, _+_, _*_, _≤_, _<_}
 use mathlib.Core.Path.{_≡_}
 use mathlib.Core.Logic.{_↔_}
 use mathlib.Core.List.{List, [], _∷_}
+use lib.ListN.{take}
 use Rattle.facts.specs.Checks.{checkedNumbers}
-use Rattle.facts.specs.Refusals.{Conditions, FirstAt}
-use Rattle.mapper.specs.Answer.{mapAnswer, mappingNumbers}
+use Rattle.facts.specs.Refusals.{Conditions, Clear, FirstAt}
+use Rattle.netlist.specs.Kinds.{width}
+use Rattle.netlist.specs.Records.{netlist, recordCount}
+use Rattle.netlist.specs.Source.{OutputsAt}
+use Rattle.mapper.specs.Answer.{gates, mapAnswer, mapArea, mappingNumbers}
 use Rattle.mapper.specs.Promises.{MapFails}
-use Rattle.verifier.specs.Checks.{verifyAnswer, verifiedNumbers}
+use Rattle.verifier.specs.Checks.{bufferCount, verifyAnswer, verifiedNumbers}
+use Rattle.verifier.specs.Accepted.{Accepted}
 use Rattle.verifier.specs.Refusals.{VerifyFails}
 use Rattle.simulator.specs.Evaluate.{evaluateAnswer}
 use Rattle.simulator.specs.Step.{stepAnswer}
 use Rattle.simulator.specs.Run.{runAnswer}
 use Rattle.simulator.specs.Refusals.{EvaluateFails, StepFails, RunFails}
+use Rattle.promises.specs.Written.{fewestInAll}
 
 -- these numbers, whose first is a refusal's and all after the place are 0, are answered exactly where that check is the first
 abbrev pub AnsweredExactly : Conditions → List ℕ → (ℕ → ℕ → List ℕ) → Type 0
 AnsweredExactly F numbers refused = (number place : ℕ) → ((numbers ≡ refused number place) × (0 < number)) ↔ FirstAt F number place
 
+-- the numbers of a call that answers number and place alone: 0 and 0 exactly if no condition holds
+pub record TwoNumbers (F : Conditions) (numbers : List ℕ) : Type 0 where
+  pub refused : AnsweredExactly F numbers (λ number place. number ∷ place ∷ [])
+  pub accepted : (numbers ≡ 0 ∷ 0 ∷ []) ↔ Clear F
+
+-- a part of a whole in percent, rounded down; 0 where the whole is 0
+pub record RoundedDown (part whole percent : ℕ) : Type 0 where
+  pub none : whole ≡ 0 → percent ≡ 0
+  pub reached : 0 < whole → percent * whole ≤ 100 * part
+  pub next : 0 < whole → 100 * part < suc percent * whole
+
+-- the last five of an accepted mapping's numbers, as facts of the source and of the netlist written
+pub record Figures (source : List ℕ) (s : ℕ) (written : List ℕ) (M buffers D JJs share : ℕ) : Type 0 where
+  -- M is the records written: the source's and the buffers
+  pub records : recordCount written ≡ M
+  pub added : M ≡ recordCount source + buffers
+  -- buffers are the records of kind 5 written, as many as the fewest of all nets
+  pub kinds : buffers ≡ bufferCount (netlist written)
+  pub fewest : buffers ≡ fewestInAll (netlist source) s
+  -- D is the level of the outputs written, or 0
+  pub outputs : OutputsAt (netlist written) D
+  -- JJs are 6 a gate and 2 a buffer written, the share is the buffers' part of them
+  pub prices : JJs ≡ 6 * gates (netlist written) + 2 * bufferCount (netlist written)
+  pub part : RoundedDown (2 * bufferCount (netlist written)) JJs share
+
+-- the mapper's seven numbers
+pub record MapNumbers (source : List ℕ) (s : ℕ) (area : List ℕ) (numbers : List ℕ) : Type 0 where
+  pub refused : AnsweredExactly (MapFails source s area) numbers (λ number place. number ∷ place ∷ 0 ∷ 0 ∷ 0 ∷ 0 ∷ 0 ∷ [])
+  -- written are the first M records of the area
+  pub accepted : (M buffers D JJs share : ℕ) →
+      (numbers ≡ 0 ∷ 0 ∷ M ∷ buffers ∷ D ∷ JJs ∷ share ∷ [])
+      ↔ (Clear (MapFails source s area) × Figures source s (take (width * M) (mapArea source s area)) M buffers D JJs share)
+
+-- the verifier's three numbers
+pub record VerifyNumbers (source : List ℕ) (s : ℕ) (mapped : List ℕ) (numbers : List ℕ) : Type 0 where
+  pub refused : AnsweredExactly (VerifyFails source s mapped) numbers (λ number place. number ∷ place ∷ 0 ∷ [])
+  pub accepted : (buffers : ℕ) →
+      (numbers ≡ 0 ∷ 0 ∷ buffers ∷ []) ↔ (Accepted source s mapped × (buffers ≡ bufferCount (netlist mapped)))
+  -- no condition holds exactly if the mapped netlist is legal
+  pub clear : Clear (VerifyFails source s mapped) ↔ Accepted source s mapped
+
 -- of each call; the count's numbers are in `NumbersExactly` of fanout
 pub record NumbersExact : Type 0 where
-  pub map : (source : List ℕ) (s : ℕ) (area : List ℕ) →
-      AnsweredExactly (MapFails source s area) (mappingNumbers (mapAnswer source s area))
-      (λ number place. number ∷ place ∷ 0 ∷ 0 ∷ 0 ∷ 0 ∷ 0 ∷ [])
+  pub map : (source : List ℕ) (s : ℕ) (area : List ℕ) → MapNumbers source s area (mappingNumbers (mapAnswer source s area))
   pub verify : (source : List ℕ) (s : ℕ) (mapped : List ℕ) →
-      AnsweredExactly (VerifyFails source s mapped) (verifiedNumbers (verifyAnswer source s mapped))
-      (λ number place. number ∷ place ∷ 0 ∷ [])
+      VerifyNumbers source s mapped (verifiedNumbers (verifyAnswer source s mapped))
   pub evaluate : (source row area : List ℕ) →
-      AnsweredExactly (EvaluateFails source row area) (checkedNumbers (evaluateAnswer source row area))
-      (λ number place. number ∷ place ∷ [])
+      TwoNumbers (EvaluateFails source row area) (checkedNumbers (evaluateAnswer source row area))
   pub step : (source : List ℕ) (s : ℕ) (mapped row area : List ℕ) →
-      AnsweredExactly (StepFails source s mapped row area) (checkedNumbers (stepAnswer source s mapped row area))
-      (λ number place. number ∷ place ∷ [])
+      TwoNumbers (StepFails source s mapped row area) (checkedNumbers (stepAnswer source s mapped row area))
   pub run : (source : List ℕ) (s : ℕ) (mapped : List ℕ) (r : ℕ) (rows area outs : List ℕ) →
-      AnsweredExactly (RunFails source s mapped r rows area outs) (checkedNumbers (runAnswer source s mapped r rows area outs))
-      (λ number place. number ∷ place ∷ [])
+      TwoNumbers (RunFails source s mapped r rows area outs) (checkedNumbers (runAnswer source s mapped r rows area outs))

@@ -12,6 +12,7 @@ use Rattle.mapper.specs.Answer.{sourceMaps, mapAnswer, mapArea}
 use Rattle.verifier.specs.declared.Verified.the-variants.{Buffers}
 use Rattle.verifier.specs.Checks.{bufferCount, verifyAnswer}
 use Rattle.verifier.specs.Accepted.{Accepted}
+use Rattle.verifier.specs.Balance.{PathBalanced, ProperlyBranched}
 use Rattle.verifier.specs.Fewest.{NoMore}
 
 -- the fewest buffers of all nets
@@ -29,6 +30,12 @@ written source s area = take (width * mapAnswer source s area .size) (mapArea so
 -- demand 2: what the mapper writes is legal and keeps every gate, level and fanin
 abbrev pub WrittenLegal : Type 0
 WrittenLegal = (source : List ℕ) (s : ℕ) (area : List ℕ) → Maps source s area → Accepted source s (written source s area)
+
+-- demand 2, in document 000's words: path-balanced and properly branched
+abbrev pub WrittenBalanced : Type 0
+WrittenBalanced =
+    (source : List ℕ) (s : ℕ) (area : List ℕ) → Maps source s area →
+    PathBalanced (netlist (written source s area)) × ProperlyBranched s (netlist (written source s area))
 
 -- demand 2: the verifier accepts it, with the mapper's number of buffers
 abbrev pub WrittenAccepted : Type 0

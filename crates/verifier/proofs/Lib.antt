@@ -2,6 +2,7 @@ pub mod Trace
 pub mod Fewest
 pub mod Least
 pub mod Accepted
+pub mod Balance
 pub mod Checks
 pub mod Walking
 pub mod Feeding

@@ -3,6 +3,7 @@ pub mod Trace
 pub mod Checks
 pub mod Fewest
 pub mod Accepted
+pub mod Balance
 pub mod Walking
 pub mod Feeding
 pub mod Refusals

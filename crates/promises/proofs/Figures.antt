@@ -1,0 +1,107 @@
+-- The numbers of an accepted mapping are the facts of `Figures`, and no other numbers are: the netlist written has the source's
+-- gates and outputs, and a quotient rounded down is one number.
+use Prim.Native.Nat.{ℕ, suc, _+_, _*_, _-_, _/_, _<_}
+use native.Mathlib.Decide.{decLt}
+use native.Mathlib.Omega.{arith}
+use native.Mathlib.Nat.{add-sub-of-le, le-div-iff-mul-le, div-lt-iff-lt-mul}
+use mathlib.Core.Path.{_≡_, sym, ap, subst, _∙_}
+use mathlib.Core.List.{List, [], _∷_}
+use lib.ListN.{take}
+use Rattle.facts.specs.Sums.{count}
+use Rattle.facts.proofs.Bools.{true-false}
+use Rattle.facts.proofs.Sums.{count-append, count-cong, count-none}
+use Rattle.netlist.specs.Kinds.{width, isGate}
+use Rattle.netlist.specs.Records.{Netlist, netlist, depth}
+use Rattle.netlist.proofs.Source.{outputs-at, outputs-at-one}
+use Rattle.verifier.specs.Legal.{Legal}
+use Rattle.verifier.specs.Checks.{bufferCount}
+use Rattle.verifier.proofs.Balance.{outputs-kept}
+use Rattle.mapper.specs.Answer.{gates, share, mapAnswer}
+use Rattle.mapper.proofs.Answering.{share-none, share-some}
+use Rattle.promises.specs.Written.{Maps, written}
+use Rattle.promises.specs.Numbers.{RoundedDown, Figures}
+use Rattle.promises.proofs.Written.{maps-passed, answer-size, written-netlist, written-legal, buffers-one-number}
+
+-- a legal mapped netlist has the source's gates
+gates-kept : (n : Netlist) (s : ℕ) (m : Netlist) → Legal n s m → gates m ≡ gates n
+unfolding gates
+gates-kept n s m legal =
+    subst (λ (size : ℕ). count (λ i. isGate (m .at i .kind)) size ≡ count (λ i. isGate (n .at i .kind)) (n .size)) (add-sub-of-le (legal .whole))
+    (omega (
+      arith,
+      count-append (λ i. isGate (m .at i .kind)) (n .size) (m .size - n .size),
+      count-cong (λ i. isGate (m .at i .kind)) (λ i. isGate (n .at i .kind)) (n .size) (λ k l. ap isGate (legal .kept k l .kind)),
+      count-none (λ i. isGate (m .at (n .size + i) .kind)) (m .size - n .size)
+          (λ i l e. true-false _ e (ap isGate (legal .buffers (n .size + i) (omega arith) (omega arith) .kind))),
+    ))
+
+share-rounded : (part whole : ℕ) → RoundedDown part whole (share part whole)
+share-rounded part whole =
+    record {
+      none = λ e. sym (share-none part whole e);
+      reached = λ p. rw (← share-some part whole (λ e. omega arith)) (le-div-iff-mul-le p .0 (omega arith));
+      next = λ p. rw (← share-some part whole (λ e. omega arith)) (div-lt-iff-lt-mul p .0 (omega arith));
+    }
+
+rounded-one : (part whole a b : ℕ) → RoundedDown part whole a → RoundedDown part whole b → a ≡ b
+rounded-one part whole a b f g =
+    elim (decLt 0 whole) [
+      | yes p ↦ sym (quotient a f p) ∙ quotient b g p
+      | no p ↦ let z : whole ≡ 0 = omega arith in f .none z ∙ sym (g .none z)
+    ]
+  where
+    quotient : (x : ℕ) → RoundedDown part whole x → 0 < whole → 100 * part / whole ≡ x
+    quotient x h p = omega (arith, le-div-iff-mul-le {x = x} {y = 100 * part} p .1 (h .reached p), div-lt-iff-lt-mul {x = 100 * part} {y = suc x} p .1 (h .next p))
+
+module _ (source : List ℕ) (s : ℕ) (area : List ℕ) (maps : Maps source s area) where
+  answer-depth : mapAnswer source s area .depth ≡ depth (netlist source)
+  unfolding mapAnswer
+  answer-depth = rw (maps-passed source s area maps)
+
+  answer-junctions : mapAnswer source s area .junctions ≡ 6 * gates (netlist source) + 2 * mapAnswer source s area .buffers
+  unfolding mapAnswer
+  answer-junctions = rw (maps-passed source s area maps)
+
+  answer-share : mapAnswer source s area .share ≡ share (2 * mapAnswer source s area .buffers) (mapAnswer source s area .junctions)
+  unfolding mapAnswer
+  answer-share = rw (maps-passed source s area maps)
+
+  pub figures-hold :
+      Figures source s (written source s area) (mapAnswer source s area .size) (mapAnswer source s area .buffers)
+      (mapAnswer source s area .depth) (mapAnswer source s area .junctions) (mapAnswer source s area .share)
+  figures-hold =
+      let n = netlist source in
+      let m = netlist (written source s area) in
+      let a = written-legal source s area maps in
+      let one = buffers-one-number source s area maps in
+      record {
+        records = ap (λ (x : Netlist). x .size) (written-netlist source s area maps) ∙ sym (answer-size source s area maps);
+        added = one .added;
+        kinds = sym (one .kinds);
+        fewest = sym (one .counts);
+        outputs = rw answer-depth (outputs-kept n s m (a .isSource .isSource) (a .legal) (outputs-at source (a .isSource)));
+        prices = rw (one .kinds) (omega (arith, answer-junctions, gates-kept n s m (a .legal)));
+        part = rw (one .kinds, answer-share) (share-rounded _ _);
+      }
+
+-- two lists of figures for one netlist written
+module _ (source : List ℕ) (s : ℕ) (m : List ℕ) (M B D J P M′ B′ D′ J′ P′ : ℕ) (f : Figures source s m M B D J P) (g : Figures source s m M′ B′ D′ J′ P′) where
+  figures-one : 0 ∷ 0 ∷ M ∷ B ∷ D ∷ J ∷ P ∷ [] ≡ 0 ∷ 0 ∷ M′ ∷ B′ ∷ D′ ∷ J′ ∷ P′ ∷ []
+  figures-one =
+      let same : J ≡ J′ = f .prices ∙ sym (g .prices) in
+      cc (
+        sym (f .records) ∙ g .records,
+        f .kinds ∙ sym (g .kinds),
+        outputs-at-one (netlist m) D D′ (f .outputs) (g .outputs),
+        same,
+        rounded-one (2 * bufferCount (netlist m)) J′ P P′ (rw same at (f .part)) (g .part),
+      )
+
+-- and for the first M records of one area
+pub figures-same : (source : List ℕ) (s : ℕ) (area : List ℕ) (M B D J P M′ B′ D′ J′ P′ : ℕ) →
+    Figures source s (take (width * M) area) M B D J P → Figures source s (take (width * M′) area) M′ B′ D′ J′ P′ →
+    0 ∷ 0 ∷ M ∷ B ∷ D ∷ J ∷ P ∷ [] ≡ 0 ∷ 0 ∷ M′ ∷ B′ ∷ D′ ∷ J′ ∷ P′ ∷ []
+figures-same source s area M B D J P M′ B′ D′ J′ P′ f g =
+    let same : M ≡ M′ = omega (arith, f .added, g .added, f .fewest, g .fewest) in
+    figures-one source s (take (width * M′) area) M B D J P M′ B′ D′ J′ P′
+    (subst (λ (x : ℕ). Figures source s (take (width * x) area) M B D J P) same f) g
