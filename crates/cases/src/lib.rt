@@ -73,6 +73,29 @@ pub fn skip_all(file: &[u8], at: usize, n: usize) -> usize {
     to
 }
 
+// Whether the field at a place ends in the file.
+fn stands(file: &[u8], at: usize) -> bool {
+    let to = skip(file, at);
+    if to < at {
+        return false;
+    }
+    to - at == NUMBER + number(file, at) as usize
+}
+
+// Whether n fields from a place on end in the file.
+pub fn stand_all(file: &[u8], at: usize, n: usize) -> bool {
+    let mut to = at;
+    let mut k: usize = 0;
+    while k < n {
+        if !stands(file, to) {
+            return false;
+        }
+        to = skip(file, to);
+        k += 1;
+    }
+    true
+}
+
 // Copies bytes into an area; how many there was room for.
 pub fn copy(bytes: &[u8], area: &mut [u8]) -> usize
     ensures { λ r. ⌜ r ≤ length (now (area .exit)) ⌝ }

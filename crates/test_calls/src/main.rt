@@ -24,11 +24,17 @@ const MAPPER: u8 = 7;
 
 const BLOCK_VIEW: u8 = 8;
 
+// An answer of two numbers, in bytes.
+const PAIR: usize = 8;
+
 // What the mapper's area holds before the call.
 const FILL: u8 = 165;
 
 // Whether a stored answer of two numbers is this one.
 fn is_pair(answer: &[u8], number: u32, place: u32) -> bool {
+    if answer.len() != PAIR {
+        return false;
+    }
     if cases::number(answer, 0) != number {
         return false;
     }
@@ -71,16 +77,6 @@ fn is_three(got: [u8; 12], stored: &[u8]) -> bool {
 
 fn is_seven(got: [u8; 28], stored: &[u8]) -> bool {
     check::same(&got, stored)
-}
-
-// Whether an area begins with the stored bytes.
-fn is_area(area: &[u8], stored: &[u8]) -> bool {
-    let n = stored.len();
-    if n <= area.len() {
-        check::same(&area[0..n], stored)
-    } else {
-        false
-    }
 }
 
 // A case of the count: source, numbers (capacity, record); answer.
@@ -129,7 +125,7 @@ fn evaluate_agrees(file: &[u8], at: usize, area: &mut [u8]) -> bool {
         &mut got,
     );
     if is_two(got, cases::field(file, answer)) {
-        is_area(area, cases::field(file, after))
+        check::same(&area[0..n], cases::field(file, after))
     } else {
         false
     }
@@ -155,7 +151,7 @@ fn step_agrees(file: &[u8], at: usize, area: &mut [u8]) -> bool {
         &mut got,
     );
     if is_two(got, cases::field(file, answer)) {
-        is_area(area, cases::field(file, after))
+        check::same(&area[0..n], cases::field(file, after))
     } else {
         false
     }
@@ -200,10 +196,10 @@ fn run_leaves(
         return false;
     }
     let after = cases::skip(file, answer);
-    if !is_area(state, cases::field(file, after)) {
+    if !check::same(state, cases::field(file, after)) {
         return false;
     }
-    is_area(outputs, cases::field(file, cases::skip(file, after)))
+    check::same(outputs, cases::field(file, cases::skip(file, after)))
 }
 
 // A case of the run: source, numbers (capacity, row count), mapped, rows, state and outputs before; answer, state and outputs after.
@@ -258,7 +254,7 @@ fn mapper_agrees(file: &[u8], at: usize, area: &mut [u8]) -> bool {
         &mut got,
     );
     if is_seven(got, cases::field(file, answer)) {
-        is_area(area, cases::field(file, after))
+        check::same(&area[0..n], cases::field(file, after))
     } else {
         false
     }
@@ -285,6 +281,14 @@ fn agrees(family: u8, file: &[u8], at: usize) -> bool {
     }
 }
 
+// Whether the case at a place stands whole in the file and agrees.
+fn holds(family: u8, fields: usize, file: &[u8], at: usize) -> bool {
+    if !cases::stand_all(file, at, fields) {
+        return false;
+    }
+    agrees(family, file, at)
+}
+
 // One more difference where a case does not agree.
 fn counted(differ: u32, agreed: bool) -> u32 {
     if agreed {
@@ -297,18 +301,18 @@ fn counted(differ: u32, agreed: bool) -> u32 {
     }
 }
 
-// How many cases of a file differ.
+// How many cases of a file differ, and one more where the file does not end with its last case.
 fn differing(family: u8, fields: usize, file: &[u8]) -> u32 {
     let n = cases::number(file, 0);
     let mut at: usize = 4;
     let mut k: u32 = 0;
     let mut differ: u32 = 0;
     while k < n {
-        differ = counted(differ, agrees(family, file, at));
+        differ = counted(differ, holds(family, fields, file, at));
         at = cases::skip_all(file, at, fields);
         k += 1;
     }
-    differ
+    counted(differ, at == file.len())
 }
 
 fn print_number(n: u32) {
@@ -367,6 +371,9 @@ fn test_sizes() {
     let mut bytes = [0u8; 200000];
     let n = read_file(b"inputs", &mut bytes);
     let inputs = &bytes[0..n];
+    io::write_all(STDOUT_FILENO, b"inputs: ");
+    io::print_decimal(STDOUT_FILENO, n as u64);
+    io::write_all(STDOUT_FILENO, b" bytes\n");
     test_size(inputs, 0);
     test_size(inputs, 40960);
     test_size(inputs, 40970);
