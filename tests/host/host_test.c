@@ -383,6 +383,30 @@ static void make_worked(void)
     worked_out = part(worked_mapped, sizeof worked_mapped);
 }
 
+/* Up to two calls of a list that are no steps: a row of another length, or with a byte above 1. The
+ * next call gets the state as they left it. */
+static void refused_steps(struct bytes source, uint32_t capacity, struct bytes mapped,
+                          uint8_t *state)
+{
+    static uint8_t row[MAX_SOURCE + 1];
+    size_t inputs = number_of(INPUT, source), state_len = 2 * (mapped.len / RECORD), calls, k;
+    for (calls = below(3); calls > 0; calls--) {
+        for (k = 0; k <= inputs; k++)
+            row[k] = (uint8_t)below(2);
+        if (inputs == 0 || below(2) == 0) {
+            size_t len = inputs == 0 || below(2) == 0 ? inputs + 1 : inputs - 1;
+            do_step(source, capacity, mapped, part(row, len), part(state, state_len));
+            check(answered(18, 0), "a call of a list with a row of another length");
+        } else {
+            uint32_t at = below((uint32_t)inputs);
+            row[at] = (uint8_t)(2 + below(254));
+            do_step(source, capacity, mapped, part(row, inputs), part(state, state_len));
+            check(answered(19, at), "a call of a list with a row byte above 1");
+        }
+        memcpy(state, state_area.at, state_len);
+    }
+}
+
 /* ---- the worked cases of document 01 ---- */
 
 static int is_worked_answer(void)
@@ -507,6 +531,7 @@ static void test_run_worked(void)
     begin("aqfp_run, aqfp_step, aqfp_evaluate, the worked case");
     for (t = 0; t < 7; t++) {
         static const uint8_t spent[2] = { 0, 0 };
+        refused_steps(worked, 2, worked_out, stepped);
         do_step(worked, 2, worked_out, part(t < 4 ? rows + 2 * t : spent, 2), part(stepped, 16));
         check(answered(0, 0), "a step");
         check(memcmp(state_area.at + 8, stepped, 8) == 0, "the second half holds the older values");
@@ -1167,7 +1192,25 @@ static uint8_t plain(const uint8_t *record, const uint8_t *values)
     return record[0] == AND || record[0] == MAJ ? ones >= 2 : ones >= 1;
 }
 
-/* One phase run, one list of steps and the evaluator on one accepted mapped netlist. */
+/* One accepted call of a list, with refused ones before it: every byte that it leaves in the state. */
+static void hold_step(struct bytes source, uint32_t capacity, struct bytes mapped,
+                      const uint8_t *row, uint8_t *state)
+{
+    static uint8_t older[MAX_MAPPED], newer[MAX_MAPPED];
+    size_t m = mapped.len / RECORD, k, input = 0;
+    for (k = 0; k < m; k++)
+        older[k] = state[k] != 0;
+    for (k = 0; k < m; k++)
+        newer[k] = mapped.at[RECORD * k] == INPUT ? row[input++]
+                                                  : plain(mapped.at + RECORD * k, older);
+    refused_steps(source, capacity, mapped, state);
+    do_step(source, capacity, mapped, part(row, input), part(state, 2 * m));
+    check(answered(0, 0) && memcmp(state_area.at, newer, m) == 0, "a step's new values");
+    check(memcmp(state_area.at + m, older, m) == 0, "the older values as 0 or 1");
+    memcpy(state, state_area.at, 2 * m);
+}
+
+/* One phase run, two lists of steps and the evaluator on one accepted mapped netlist. */
 static void hold_waves(struct bytes source, uint32_t capacity, struct bytes mapped)
 {
     enum { R = 5, MOST = 24 };
@@ -1198,26 +1241,20 @@ static void hold_waves(struct bytes source, uint32_t capacity, struct bytes mapp
                 check(outputs[t * outs + j++] == values[k], "each wave is plain logic's row");
     }
     memset(stepped, 0, 2 * m);
-    for (t = 0; t < R + depth; t++) {
-        do_step(source, capacity, mapped, part(t < R ? rows + t * inputs : spent, inputs),
-                part(stepped, 2 * m));
-        memcpy(stepped, state_area.at, 2 * m);
-    }
+    for (t = 0; t < R + depth; t++)
+        hold_step(source, capacity, mapped, t < R ? rows + t * inputs : spent, stepped);
     check(memcmp(stepped, state, 2 * m) == 0, "the run's state is what its steps leave");
     /* From any bytes: D steps later the outputs are plain logic's. */
     for (k = 0; k < 2 * m; k++)
         stepped[k] = (uint8_t)below(256);
     for (t = 0; t < R + depth; t++) {
-        do_step(source, capacity, mapped, part(t < R ? rows + t * inputs : spent, inputs),
-                part(stepped, 2 * m));
-        for (k = 0; k < m; k++)
-            check(state_area.at[m + k] == (stepped[k] != 0), "the older values as 0 or 1");
-        memcpy(stepped, state_area.at, 2 * m);
+        hold_step(source, capacity, mapped, t < R ? rows + t * inputs : spent, stepped);
         if (t < depth)
             continue;
         for (k = 0, j = 0; k < n; k++)
             if (source.at[RECORD * k] == OUTPUT)
-                check(stepped[k] == outputs[(t - depth) * outs + j++], "a step's outputs");
+                check(stepped[k] == outputs[(t - depth) * outs + j++],
+                      "a step's outputs are the run's");
     }
 }
 
