@@ -1192,7 +1192,7 @@ static uint8_t plain(const uint8_t *record, const uint8_t *values)
     return record[0] == AND || record[0] == MAJ ? ones >= 2 : ones >= 1;
 }
 
-/* One accepted call of a list, with refused ones before it: every byte that it leaves in the state. */
+/* One accepted call of a list, with refused ones before it: every byte that it leaves. */
 static void hold_step(struct bytes source, uint32_t capacity, struct bytes mapped,
                       const uint8_t *row, uint8_t *state)
 {
@@ -1213,7 +1213,7 @@ static void hold_step(struct bytes source, uint32_t capacity, struct bytes mappe
 /* One phase run, two lists of steps and the evaluator on one accepted mapped netlist. */
 static void hold_waves(struct bytes source, uint32_t capacity, struct bytes mapped)
 {
-    enum { R = 5, MOST = 24 };
+    enum { R = 5, MOST = MAX_SOURCE };
     static uint8_t rows[R * MOST], outputs[R * MOST], stepped[2 * MAX_MAPPED], state[2 * MAX_MAPPED];
     static const uint8_t spent[MOST];
     size_t n = source.len / RECORD, m = mapped.len / RECORD, k, j, t;
@@ -1321,6 +1321,163 @@ static void test_random_sources(void)
     end();
 }
 
+/* ---- regular netlists, of any size ---- */
+
+/* A source of n records that capacity s maps to m: up to two inputs without sinks; blocks of an
+ * input, a majority at level 3 that names it in all slots and an output of the majority; at the end
+ * an input and such a majority at a level of its own. */
+struct blocks {
+    uint32_t n, m, s;
+    uint32_t count; /* of blocks */
+    uint32_t ends;  /* buffers on which a majority's three slots hang: ceil(3 / s) */
+    uint32_t line;  /* buffers between a block's majority and its output */
+    uint32_t last;  /* buffers of the last input */
+};
+
+/* Three sinks at distance d hang on `ends` buffers at distance d - 1, and these on one buffer at
+ * each of the d - 2 nearer distances. What the blocks leave of the buffers is the last input's. */
+static struct blocks blocks_of(uint32_t n, uint32_t m, uint32_t s)
+{
+    struct blocks b = { n, m, s, 0, 0, 0, 0 };
+    uint32_t tree;
+    b.count = (n - 2) / 3;
+    b.ends = (3 + s - 1) / s;
+    tree = b.ends + 1;
+    b.line = (m - n - tree) / b.count - tree;
+    b.last = m - n - b.count * (tree + b.line);
+    return b;
+}
+
+/* Where block k starts; after the blocks stand the last input and its majority. */
+static uint32_t block_at(struct blocks b, uint32_t k)
+{
+    return (b.n - 2) % 3 + 3 * k;
+}
+
+static void add_majority(unsigned inversion, unsigned level)
+{
+    unsigned input = (unsigned)(netlist_len / RECORD);
+    add_input();
+    add(MAJ, inversion, level, input, input, input);
+}
+
+/* The source, in source_bytes. */
+static struct bytes block_source(struct blocks b)
+{
+    uint32_t k;
+    clear();
+    while (netlist_len < RECORD * block_at(b, 0))
+        add_input();
+    for (k = 0; k < b.count; k++) {
+        add_majority(k % 8, 3);
+        add_one(OUTPUT, 4 + b.line, block_at(b, k) + 1);
+    }
+    add_majority(5, b.last - b.ends + 2);
+    memcpy(source_bytes, netlist, netlist_len);
+    return part(source_bytes, netlist_len);
+}
+
+/* Buffers one above the other, the first on a fanin; the last of them, or else the fanin. */
+static unsigned add_line(uint32_t count, unsigned level, unsigned fanin)
+{
+    for (; count > 0; count--) {
+        add_one(BUFFER, level++, fanin);
+        fanin = (unsigned)(netlist_len / RECORD - 1);
+    }
+    return fanin;
+}
+
+/* The buffers of an input, and the slots of the majority after it. */
+static void add_tree(struct blocks b, uint32_t input)
+{
+    unsigned level = field(netlist + RECORD * (input + 1) + 2);
+    unsigned nearer = add_line(level - 2, 1, input), end = (unsigned)(netlist_len / RECORD);
+    uint32_t k;
+    for (k = 0; k < b.ends; k++)
+        add_one(BUFFER, level - 1, nearer);
+    change(input + 1, MAJ, netlist[RECORD * (input + 1) + 1], level, end, end + 1 / b.s,
+           end + 2 / b.s);
+}
+
+/* What the mapper writes, from the source that stands in netlist. */
+static struct bytes block_mapped(struct blocks b)
+{
+    uint32_t k;
+    for (k = 0; k < b.count; k++) {
+        uint32_t input = block_at(b, k);
+        add_tree(b, input);
+        change(input + 2, OUTPUT, 0, 4 + b.line, add_line(b.line, 4, input + 1), UNUSED, UNUSED);
+    }
+    add_tree(b, b.n - 2);
+    return made();
+}
+
+static void hold_block_map(struct blocks b, struct bytes source, struct bytes mapped)
+{
+    uint32_t buffers = b.m - b.n, price = 6 * (b.count + 1) + 2 * buffers;
+    uint32_t expected[7] = { 0, 0, 0, 0, 0, 0, 0 };
+    expected[2] = b.m;
+    expected[3] = buffers;
+    expected[4] = 4 + b.line;
+    expected[5] = price;
+    expected[6] = 200 * buffers / price;
+    do_map(source, b.s, fill(mapped.len + 5));
+    check(memcmp(answer, expected, sizeof expected) == 0, "the seven numbers");
+    check(memcmp(mapped_area.at, mapped.at, mapped.len) == 0, "the mapped netlist");
+    check(memcmp(mapped_area.at + mapped.len, filler + mapped.len, 5) == 0, "bytes after it stay");
+    do_map(source, b.s, fill(mapped.len - 1));
+    check(answered(10, 0), "an area one byte too short");
+    do_count(source, b.s, b.n - 2);
+    check(accepted(b.last), "the count of the last input");
+}
+
+/* Changes of netlist that show at the last source record and at the last buffer. */
+static void hold_block_refusals(struct blocks b, struct bytes source)
+{
+    unsigned last = b.n - 1, level = field(source.at + RECORD * last + 2);
+    change_buffer(b.m - b.last, 1, block_at(b, 0));
+    do_verify(source, b.s, made());
+    check(answered(16, last), "the last majority traced to another input");
+    change_buffer(b.m - b.last, 1, b.n - 2);
+    change(last, MAJ, 5, level, b.m - 1, b.m - 1, b.m - 1);
+    do_verify(source, b.s, made());
+    check(b.s == 2 ? answered(17, b.m - 1) : accepted(b.m - b.n), "three slots on the last buffer");
+    put_record(source_bytes + RECORD * last, MAJ, 5, 1, b.n - 2, b.n - 2, b.n - 2);
+    do_map(source, b.s, fill(RECORD * b.m));
+    check(answered(8, b.n - 2), "the last input's sinks at distance 1");
+}
+
+static void hold_blocks(uint32_t n, uint32_t m, uint32_t s)
+{
+    struct blocks b = blocks_of(n, m, s);
+    struct bytes source = block_source(b), mapped = block_mapped(b);
+    check(source.len == RECORD * n && mapped.len == RECORD * m, "the sizes of the test's netlists");
+    hold_block_map(b, source, mapped);
+    do_verify(source, s, mapped);
+    check(accepted(m - n), "the verifier accepts what the mapper writes");
+    hold_waves(source, s, mapped);
+    reverse_buffers(netlist, n, m);
+    do_verify(source, s, mapped);
+    check(accepted(m - n), "the same buffers in falling order");
+    hold_waves(source, s, mapped);
+    reverse_buffers(netlist, n, m);
+    hold_block_refusals(b, source);
+}
+
+/* The library has shorter arrays for sources of up to 1,024 records and for mapped netlists of up
+ * to 8,192. */
+static void test_array_sizes(void)
+{
+    uint32_t s, n, m;
+    begin("sources of 1,024 and 1,025 records, mapped netlists of 8,192 and 8,193; the largest");
+    for (s = 2; s <= 4; s++)
+        for (n = 1024; n <= 1025; n++)
+            for (m = 8192; m <= 8193; m++)
+                hold_blocks(n, m, s);
+    hold_blocks(MAX_SOURCE, MAX_MAPPED, 2);
+    end();
+}
+
 static void fill_filler(void)
 {
     size_t k;
@@ -1334,7 +1491,8 @@ static void test_all(void)
         test_map_worked, test_count_worked, test_count_limits, test_run_worked, test_run_limits,
         test_capacities, test_source_lengths, test_source_records, test_source_order,
         test_map_sizes, test_count_record, test_mapped_length, test_mapped_records,
-        test_mapped_nets, test_mapped_accepted, test_rows, test_random_bytes, test_random_sources
+        test_mapped_nets, test_mapped_accepted, test_rows, test_random_bytes, test_random_sources,
+        test_array_sizes
     };
     size_t k;
     for (k = 0; k < sizeof tests / sizeof tests[0]; k++) {
