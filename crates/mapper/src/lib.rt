@@ -197,7 +197,7 @@ pub fn map_netlist(source: &[u8], capacity: u32, area: &mut [u8]) -> Mapping
 }
 
 // The block view: the buffers of one driver, as a part of the lent mapped netlist.
-pub fn block_of<'a>(source: &'a [u8], capacity: u32, mapped: &'a [u8], driver: usize) -> &'a [u8]
+pub fn block_of<'a>(source: &[u8], capacity: u32, mapped: &'a [u8], driver: usize) -> &'a [u8]
     ensures { λ r. ⌜ now r ≡ blockView (now (source .entry)) capacity (now (mapped .entry)) driver ⌝ }
 {
     let ends = block::block_ends(source, capacity, driver);
