@@ -1,5 +1,5 @@
 -- Laws of the walks of check 16, with premises as the code has them: a walk ends at the driver, and what is kept of it is right.
-use Prim.Native.Nat.{ℕ, _+_, _-_, _≤_, _<_}
+use Prim.Native.Nat.{ℕ, suc, _+_, _-_, _≤_, _<_}
 use native.Mathlib.Omega.{arith}
 use native.Mathlib.Decide.{ℕ-discrete, decLt}
 use mathlib.Core.Path.{_≡_, refl, sym, ap, _∙_}
@@ -19,12 +19,12 @@ use Rattle.facts.proofs.Sums.{any-none}
 use Rattle.facts.proofs.Loops.{NoneYet, any-start, any-more, any-found, any-end, Scanning, scan-start, scan-more, scan-stop, scan-end}
 use Rattle.netlist.specs.declared.Record.{Record}
 use Rattle.netlist.specs.Kinds.{buffer, arity}
-use Rattle.netlist.specs.Records.{Netlist, netlist, recordAt, recordCount, slot}
+use Rattle.netlist.specs.Records.{Netlist, netlist, recordAt, recordCount, slot, fanin}
 use Rattle.verifier.specs.Trace.{walk, driver}
 use Rattle.verifier.specs.Walking.{Sized, Driven, Buffering, unknown, Known, knownDriver, PlacesPassed, Traceable, Traced, SlotsTraceable, SlotsTraced}
 use Rattle.verifier.specs.Feeding.{stop, badFanin, bufferChecks, Fed, Tallied, TalliedIfPassed}
 use Rattle.verifier.specs.Checks.{noBuffer, placeChecks, strays, traceCheck}
-use Rattle.verifier.proofs.Trace.{walk-here, walk-back, buffer-named, buffer-level, driver-here, driver-back}
+use Rattle.verifier.proofs.Trace.{walk-here, walk-back, buffer-named, buffer-level, driver-back}
 use Rattle.verifier.proofs.Checks.{driven, place-buffer}
 use Rattle.verifier.proofs.Feeding.{tallied-start, buffer-kind, Tallying, tallying-onward, tallying-end, tallying-stop, tallying-more}
 
@@ -106,62 +106,53 @@ buffer-known m drivers n k d x used r b c before after h p q e t u f g known i =
     ∙ sym (buffer-driver m drivers known n k i r x p used u c before after f g q (buffer-kind r b e t))
     )
 
-module _ (m : Netlist) (drivers : List ℕ) (level x : ℕ) (w : Traceable m drivers level x) where
+module _ (n : ℕ) (m : Netlist) (drivers : List ℕ) (level x : ℕ) (w : Traceable n m drivers level x) where
   pub walk-room : x < length drivers
   walk-room = omega (arith, w .here, w .known .room)
+
+  pub walk-stays : x < n → Traced m x x drivers
+  walk-stays l =
+      record { ends = sym (walk-here m (m .at x .level) x (w .walkable .driven .driver x l)); known = w .known }
 
   pub walk-found : getD drivers x 0 ≢ unknown → Traced m x (getD drivers x 0) drivers
   walk-found h =
       record { ends = w .known .right x (w .here) h; known = w .known }
 
-  module _ (y : ℕ) (e : y ≡ m .at x .kind) where
-    pub walk-stays : y ≢ buffer → Traced m x x drivers
-    walk-stays b =
-        record { ends = sym (driver-here m (w .named) (w .balanced) x (rw e at b)); known = w .known }
+  module _ (l : n ≤ x) where
+    is-buffer : m .at x .kind ≡ buffer
+    is-buffer = w .walkable .buffers x l (w .here)
 
-    module _ (b : y ≡ buffer) where
-      is-buffer : m .at x .kind ≡ buffer
-      is-buffer = sym e ∙ b
+    -- a buffer stands above level 0, and its fanin one level lower
+    lower : level ≡ suc (m .at (fanin m x 0) .level)
+    lower = w .stands ∙ buffer-level m (w .walkable .named) (w .walkable .balanced) x (w .here) is-buffer
 
-      -- a buffer stands above level 0, and its fanin one level lower
-      pub walk-level : 1 ≤ level
-      walk-level = omega (arith, w .stands, buffer-level m (w .named) (w .balanced) x (w .here) is-buffer)
+    pub walk-level : 1 ≤ level
+    walk-level = omega (arith, lower)
 
-      pub walk-falls : (t : ℕ) → level ≡ t → level - 1 < t
-      walk-falls t h = omega (arith, walk-level)
+    pub walk-falls : (t : ℕ) → level ≡ t → level - 1 < t
+    walk-falls t h = omega (arith, lower)
 
-      module _ (z : ℕ) (f : z ≡ slot (m .at x) 0) where
-        pub walk-next : Traceable m drivers (level - 1) z
-        walk-next =
-            rw f (record {
-              named = w .named;
-              balanced = w .balanced;
-              here = buffer-named m (w .named) (w .balanced) x (w .here) is-buffer;
-              stands = omega (arith, w .stands, buffer-level m (w .named) (w .balanced) x (w .here) is-buffer);
-              known = w .known;
-            })
+    module _ (z : ℕ) (f : z ≡ slot (m .at x) 0) where
+      pub walk-next : Traceable n m drivers (level - 1) z
+      walk-next =
+          rw f (record {
+            walkable = w .walkable;
+            here = buffer-named m (w .walkable .named) (w .walkable .balanced) x (w .here) is-buffer;
+            stands = omega (arith, lower);
+            known = w .known;
+          })
 
-        pub walk-keeps : (d : ℕ) (after : List ℕ) → Traced m z d after → Traced m x d (set after x d)
-        walk-keeps d after v =
-            let ends : d ≡ driver m x = v .ends ∙ rw f (sym (driver-back m (w .named) (w .balanced) x (w .here) is-buffer)) in
-            record { ends = ends; known = keep m after x d (v .known) (w .here) (λ u. ends) }
-
--- a record whose driver is known needs no walk
-pub known-found :
-    (m : Netlist) (drivers : List ℕ) (level x : ℕ) → Traceable m drivers level x → (n d : ℕ) → Driven n m →
-    d ≡ knownDriver n drivers x → d ≢ unknown → Traced m x d drivers
-known-found m drivers level x w n d i e h =
-    record { ends = known-right n drivers x m d (w .known) i (w .here) e h; known = w .known }
-
-pub walk-start : (m : Netlist) (drivers : List ℕ) (level below x : ℕ) → level ≡ below → Traceable m drivers below x → Traceable m drivers level x
-walk-start m drivers level below x e w = rw e w
+      pub walk-keeps : (d : ℕ) (after : List ℕ) → Traced m z d after → Traced m x d (set after x d)
+      walk-keeps d after v =
+          let ends : d ≡ driver m x = v .ends ∙ rw f (sym (driver-back m (w .walkable .named) (w .walkable .balanced) x (w .here) is-buffer)) in
+          record { ends = ends; known = keep m after x d (v .known) (w .here) (λ u. ends) }
 
 -- no slot below j strays, and what is known is right
 pub record NoneStrayed (m : Netlist) (a r : Record) (n : ℕ) (drivers : List ℕ) (j : ℕ) : Type 0 where
   pub none : NoneYet (strays m a r) n j
   pub known : Known m drivers
 
-module _ (m : Netlist) (before : List ℕ) (a r : Record) (n : ℕ) (w : SlotsTraceable m before r n) where
+module _ (first : ℕ) (m : Netlist) (before : List ℕ) (a r : Record) (n : ℕ) (w : SlotsTraceable first m before r n) where
   pub strayed-start : NoneStrayed m a r n before 0
   strayed-start = record { none = any-start (strays m a r) n; known = w .known }
 
@@ -169,16 +160,18 @@ module _ (m : Netlist) (before : List ℕ) (a r : Record) (n : ℕ) (w : SlotsTr
     pub strayed-end : n ≤ j → SlotsTraced m false (any (strays m a r) n) drivers
     strayed-end l = record { answer = any-end (strays m a r) n j (i .none) l; known = i .known }
 
-    module _ (l : j < n) (x : ℕ) (e : x ≡ slot r j) where
-      pub strayed-traceable : Traceable m drivers (m .at x .level) x
-      strayed-traceable =
-          record {
-            named = w .named;
-            balanced = w .balanced;
-            here = rw e (w .slots j l);
-            stands = refl;
+    module _ (l : j < n) where
+      pub strayed-level : 1 ≤ r .level
+      strayed-level = omega (arith, w .lower j l)
+
+      pub strayed-traceable : (x : ℕ) → x ≡ slot r j → Traceable first m drivers (r .level - 1) x
+      strayed-traceable x e =
+          rw e (record {
+            walkable = w .walkable;
+            here = w .slots j l;
+            stands = omega (arith, w .lower j l);
             known = i .known;
-          }
+          })
 
     module _ (after : List ℕ) (x d y : ℕ) (f : Traced m x d after) (e : x ≡ slot r j) (l : j < n) where
       here : y ≡ slot a j → strays m a r j ≡ not (eqb d y)
@@ -194,12 +187,12 @@ module _ (m : Netlist) (before : List ℕ) (a r : Record) (n : ℕ) (w : SlotsTr
 
 -- the used slots of a source record are its first 0, 1, 2 or 3
 module _ (m : Netlist) (a r : Record) (used : ℕ) (u : used ≡ arity (a .kind)) (drivers : List ℕ) where
-  module _ (w : SlotsTraceable m drivers r (arity (a .kind))) where
+  module _ (first : ℕ) (w : SlotsTraceable first m drivers r (arity (a .kind))) where
     pub traced-none : used ≡ 0 → SlotsTraced m false (any (strays m a r) (arity (a .kind))) drivers
     unfolding any
     traced-none e = rw (← u, e) (record { answer = refl; known = w .known })
 
-    pub traceable-some : (n : ℕ) → used ≡ n → SlotsTraceable m drivers r n
+    pub traceable-some : (n : ℕ) → used ≡ n → SlotsTraceable first m drivers r n
     traceable-some n e = rw (← u, e) at w
 
   pub traced-some : (b : Bool) (n : ℕ) → used ≡ n → SlotsTraced m b (any (strays m a r) n) drivers → SlotsTraced m b (any (strays m a r) (arity (a .kind))) drivers
@@ -219,14 +212,27 @@ module _ (source mapped : List ℕ) (drivers : List ℕ) where
     tracing-end l = scan-end (traceCheck (netlist source) (netlist mapped)) (recordCount source) k (i .scanning) (rw e at l)
 
     module _ (l : k < n) (a r : Record) (p : a ≡ recordAt source k) (q : r ≡ recordAt mapped k) where
-      pub tracing-slots : PlacesPassed (netlist source) (netlist mapped) → SlotsTraceable (netlist mapped) drivers r (arity (a .kind))
-      tracing-slots w =
-          record {
-            named = w .named;
-            balanced = w .balanced;
-            slots = λ j h. rw q (w .named k j (omega (arith, w .whole)) (rw (w .kinds k (rw e at l), ← p) h));
-            known = i .known;
-          }
+      module _ (w : PlacesPassed (netlist source) (netlist mapped)) where
+        uses : (j : ℕ) → j < arity (a .kind) → j < arity (recordAt mapped k .kind)
+        uses j h = rw (w .kinds k (rw e at l), ← p) h
+
+        stands : k < recordCount mapped
+        stands = omega (arith, w .whole)
+
+        pub tracing-slots : Driven n (netlist mapped) → SlotsTraceable n (netlist mapped) drivers r (arity (a .kind))
+        tracing-slots d =
+            record {
+              walkable =
+                  record {
+                    driven = d;
+                    buffers = λ x b h. w .buffers x (rw e at b) h;
+                    named = w .named;
+                    balanced = w .balanced;
+                  };
+              slots = λ j h. rw q (w .named k j stands (uses j h));
+              lower = λ j h. rw q (w .balanced k j stands (uses j h));
+              known = i .known;
+            }
 
       module _ (after : List ℕ) (b : Bool) (f : SlotsTraced (netlist mapped) b (any (strays (netlist mapped) a r) (arity (a .kind))) after) where
         each : check 16 k b ≡ traceCheck (netlist source) (netlist mapped) k

@@ -1,5 +1,5 @@
 -- Check 16's traces with the drivers that are known: each buffer is walked through once, so that all traces take one pass.
-use Prim.Native.Nat.{ℕ, _≤_, _<_}
+use Prim.Native.Nat.{ℕ, suc, _≤_, _<_}
 use mathlib.Core.Path.{_≡_}
 use mathlib.Core.Logic.{_≢_}
 use mathlib.Core.Bool.{Bool, cond}
@@ -52,10 +52,16 @@ pub record PlacesPassed (n m : Netlist) : Type 0 where
   pub named : Named m
   pub balanced : Balanced m
 
--- a record from which a trace may start, with its level
-pub record Traceable (m : Netlist) (drivers : List ℕ) (level x : ℕ) : Type 0 where
+-- what the walk goes by: the records from n on are the buffers, and slots name records one level lower
+pub record Walkable (n : ℕ) (m : Netlist) : Type 0 where
+  pub driven : Driven n m
+  pub buffers : (x : ℕ) → n ≤ x → x < m .size → m .at x .kind ≡ buffer
   pub named : Named m
   pub balanced : Balanced m
+
+-- a record from which a trace may start, with its level
+pub record Traceable (n : ℕ) (m : Netlist) (drivers : List ℕ) (level x : ℕ) : Type 0 where
+  pub walkable : Walkable n m
   pub here : x < m .size
   pub stands : level ≡ m .at x .level
   pub known : Known m drivers
@@ -65,11 +71,11 @@ pub record Traced (m : Netlist) (x d : ℕ) (drivers : List ℕ) : Type 0 where
   pub ends : d ≡ driver m x
   pub known : Known m drivers
 
--- the first n slots of a record, each of which may be traced from
-pub record SlotsTraceable (m : Netlist) (drivers : List ℕ) (r : Record) (n : ℕ) : Type 0 where
-  pub named : Named m
-  pub balanced : Balanced m
-  pub slots : (j : ℕ) → j < n → slot r j < m .size
+-- the first slots of a record, each of which may be traced from, one level lower
+pub record SlotsTraceable (n : ℕ) (m : Netlist) (drivers : List ℕ) (r : Record) (used : ℕ) : Type 0 where
+  pub walkable : Walkable n m
+  pub slots : (j : ℕ) → j < used → slot r j < m .size
+  pub lower : (j : ℕ) → j < used → r .level ≡ suc (m .at (slot r j) .level)
   pub known : Known m drivers
 
 -- an answer on the traces of slots, with what is known then

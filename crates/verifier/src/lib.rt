@@ -8,7 +8,7 @@ ghost use Rattle.facts.specs.Sums.{any};
 ghost use Rattle.netlist.specs.Kinds;
 ghost use Rattle.netlist.specs.Kinds.{slots};
 ghost use Rattle.netlist.specs.Records;
-ghost use Rattle.netlist.specs.Records.{netlist, recordAt, recordCount};
+ghost use Rattle.netlist.specs.Records.{netlist, recordCount};
 ghost use Rattle.netlist.specs.Source.{IsSource};
 ghost use Rattle.verifier.specs.Walking.{
   Sized,
@@ -234,10 +234,10 @@ fn known(n: u32, drivers: &[u16], x: u16) -> u16
     requires { ⌜ x < length (now drivers) ⌝ }
     ensures { λ d. ⌜ d ≡ knownDriver n (now (drivers .entry)) x ⌝ }
 {
-    if (x as u32) < n {
-        x
-    } else {
+    if n <= x as u32 {
         drivers[x as usize]
+    } else {
+        x
     }
 }
 
@@ -291,12 +291,12 @@ fn check_buffers(
     Checked::Passed
 }
 
-// The driver of record x, back through buffers: the level falls at each call. What a walk finds is kept for the next.
-fn walk(mapped: &[u8], drivers: &mut [u16], level: u16, x: u16) -> u16
-    requires { ⌜ Traceable (netlist (now mapped)) (now drivers) level x ⌝ }
+// The driver of record x: x itself below n, where no buffer stands, else what its fanin's walk finds, which is kept. The level falls at each call.
+fn walk(mapped: &[u8], n: u32, drivers: &mut [u16], level: u16, x: u16) -> u16
+    requires { ⌜ Traceable n (netlist (now mapped)) (now drivers) level x ⌝ }
     ensures { λ d. ⌜ Traced (netlist (now (mapped .entry))) x d (now (drivers .exit)) ⌝ }
 {
-    if netlist::kind_at(mapped, x as usize) != netlist::BUFFER {
+    if (x as u32) < n {
         return x;
     }
     let found = drivers[x as usize];
@@ -305,6 +305,7 @@ fn walk(mapped: &[u8], drivers: &mut [u16], level: u16, x: u16) -> u16
     }
     let d = walk(
         mapped,
+        n,
         drivers,
         level - 1,
         netlist::slot_at(mapped, x as usize, 0),
@@ -313,28 +314,14 @@ fn walk(mapped: &[u8], drivers: &mut [u16], level: u16, x: u16) -> u16
     d
 }
 
-// The driver of record x: known, or found by a walk.
-fn driver_of(mapped: &[u8], n: u32, drivers: &mut [u16], x: u16) -> u16
-    requires { ⌜ Traceable (netlist (now mapped)) (now drivers) (recordAt (now mapped) x .level) x ⌝ }
-    requires { ⌜ Driven n (netlist (now mapped)) ⌝ }
-    ensures { λ d. ⌜ Traced (netlist (now (mapped .entry))) x d (now (drivers .exit)) ⌝ }
-{
-    let d = known(n, drivers, x);
-    if d != UNKNOWN {
-        return d;
-    }
-    walk(mapped, drivers, netlist::level_at(mapped, x as usize), x)
-}
-
 // Check 16 of the first `used` slots of a source record a that stands mapped as r: one is traced to another driver.
 fn any_strays(mapped: &[u8], n: u32, drivers: &mut [u16], a: Record, r: Record, used: usize) -> bool
-    requires { ⌜ SlotsTraceable (netlist (now mapped)) (now drivers) r used ⌝ }
-    requires { ⌜ Driven n (netlist (now mapped)) ⌝ }
+    requires { ⌜ SlotsTraceable n (netlist (now mapped)) (now drivers) r used ⌝ }
     ensures { λ b. ⌜ SlotsTraced (netlist (now (mapped .entry))) b (any (strays (netlist (now (mapped .entry))) a r) used) (now (drivers .exit)) ⌝ }
 {
     let mut j: usize = 0;
     while j < used {
-        if driver_of(mapped, n, drivers, slot(r, j)) != slot(a, j) {
+        if walk(mapped, n, drivers, r.level - 1, slot(r, j)) != slot(a, j) {
             return true;
         }
         j += 1;
@@ -344,8 +331,7 @@ fn any_strays(mapped: &[u8], n: u32, drivers: &mut [u16], a: Record, r: Record, 
 
 // The same of all used slots, by a path for each number of them.
 fn used_strays(mapped: &[u8], n: u32, drivers: &mut [u16], a: Record, r: Record) -> bool
-    requires { ⌜ SlotsTraceable (netlist (now mapped)) (now drivers) r (Kinds.arity (a .kind)) ⌝ }
-    requires { ⌜ Driven n (netlist (now mapped)) ⌝ }
+    requires { ⌜ SlotsTraceable n (netlist (now mapped)) (now drivers) r (Kinds.arity (a .kind)) ⌝ }
     ensures { λ b. ⌜ SlotsTraced (netlist (now (mapped .entry))) b (any (strays (netlist (now (mapped .entry))) a r) (Kinds.arity (a .kind))) (now (drivers .exit)) ⌝ }
 {
     let used = arity(a.kind);

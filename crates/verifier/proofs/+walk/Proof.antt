@@ -7,13 +7,12 @@ use borrow.Fn.PlainCycle.{Measures, is, falls, and}
 use Rattle.verifier.proofs.walk.Reads as walk
 use Rattle.verifier.proofs.walk.Kinds as walk-kinds
 use Rattle.verifier.proofs.+walk.Lts-walk as walk-lts
-use Rattle.netlist.proofs.kind_at.Reads as kind-at-reads
 use Rattle.netlist.proofs.slot_at.Reads as slot-at-reads
 use Rattle.verifier.proofs.+walk.{statement}
 use Rattle.verifier.proofs.+walk.Tie.{close}
 
 abbrev μ-walk : Measures 2 walk-kinds.ps ℕ
-μ-walk κs a = a .1 .1 .0
+μ-walk κs a = a .1 .1 .1 .0
 
 abbrev walk-at : ℕ → In 2 walk-kinds.ps
 walk-at t = and 2 walk-kinds.ps (is 2 walk-kinds.ps μ-walk t) walk.Pre
@@ -24,16 +23,11 @@ walk-below t = and 2 walk-kinds.ps (falls 2 walk-kinds.ps _<_ μ-walk t) walk.Pr
 -- what each call asks and leaves
 abbrev claims : ℕ → walk-lts.Claims
 claims t = (
-  kind-at-reads.Asked,
-  kind-at-reads.Learnt,
   slot-at-reads.Asked,
   slot-at-reads.Learnt,
   walk-below t,
   walk.Post,
 )
-
-walk-kind-at-requires : (t : ℕ) → walk-lts.Need-kind-at-requires (claims t) (walk-at t) walk.Post
-walk-kind-at-requires t c κs = search needs
 
 walk-returns : (t : ℕ) → walk-lts.Need-returns (claims t) (walk-at t) walk.Post
 walk-returns t c = search walk-stays
@@ -72,7 +66,6 @@ pub +walk-spec : {M : Type 1} → statement M
 +walk-spec = close μ-walk λ t. walk-lts.spec (claims t)
     (walk-at t)
     walk.Post
-    (walk-kind-at-requires t)
     (walk-returns t)
     (walk-mul-found t)
     (walk-slice-read-found t)

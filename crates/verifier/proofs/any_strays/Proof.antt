@@ -4,7 +4,7 @@ use Prim.Native.Nat.{_-_}
 use mathlib.Core.Path.{_≡_}
 use lib.ListN.{length}
 use Rattle.netlist.specs.Records.{netlist}
-use Rattle.verifier.proofs.Walking.{NoneStrayed, strayed-start, strayed-end, strayed-traceable, strayed-found, strayed-more}
+use Rattle.verifier.proofs.Walking.{NoneStrayed, strayed-start, strayed-end, strayed-level, strayed-traceable, strayed-found, strayed-more}
 use Rattle.verifier.proofs.any_strays.Statement.{statement}
 use Rattle.verifier.proofs.any_strays.Tie as tie
 
@@ -20,8 +20,11 @@ loop-holds c = search (needs, strayed-start)
 slot-requires : tie.Need-slot-requires Inv-loop μ-loop
 slot-requires c κs = search needs
 
-driver-of-requires : tie.Need-driver-of-requires Inv-loop μ-loop
-driver-of-requires c κs = search (needs, strayed-traceable)
+sub-walk : tie.Need-sub-walk Inv-loop μ-loop
+sub-walk c = search strayed-level
+
+walk-requires : tie.Need-walk-requires Inv-loop μ-loop
+walk-requires c κs = search (needs, strayed-traceable)
 
 slot-requires-2 : tie.Need-slot-requires-2 Inv-loop μ-loop
 slot-requires-2 c κs = search needs
@@ -54,8 +57,9 @@ any-strays-spec =
     Inv-loop
     μ-loop
     loop-holds
+    sub-walk
     slot-requires
-    driver-of-requires
+    walk-requires
     slot-requires-2
     same-length
     returns

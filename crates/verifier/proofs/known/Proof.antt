@@ -11,10 +11,10 @@ shared-slice-read-result : tie.Need-shared-slice-read-result
 shared-slice-read-result c = search needs
 
 returns : tie.Need-returns
-returns c = search known-driver
+returns c = search known-buffer
 
 returns-2 : tie.Need-returns-2
-returns-2 c = search known-buffer
+returns-2 c = search known-driver
 
 pub known-spec : {M : Type 1} → statement M
 known-spec = tie.close (tie.spec mul-result shared-slice-read-result returns returns-2)

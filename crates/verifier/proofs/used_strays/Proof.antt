@@ -9,13 +9,13 @@ arity-requires : tie.Need-arity-requires
 arity-requires c κs = search needs
 
 any-strays-requires : tie.Need-any-strays-requires
-any-strays-requires c κs = (search traceable-some, search needs)
+any-strays-requires c κs = search traceable-some
 
 any-strays-requires-2 : tie.Need-any-strays-requires-2
-any-strays-requires-2 c κs = (search traceable-some, search needs)
+any-strays-requires-2 c κs = search traceable-some
 
 any-strays-requires-3 : tie.Need-any-strays-requires-3
-any-strays-requires-3 c κs = (search (traceable-some, all-used), search needs)
+any-strays-requires-3 c κs = search (traceable-some, all-used)
 
 returns : tie.Need-returns
 returns c = search traced-none
