@@ -6,17 +6,17 @@ use native.Mathlib.Numerals.{add-one}
 use native.Mathlib.Omega.{arith}
 use mathlib.Core.Path.{_≡_, refl, sym, ap, _∙_}
 use mathlib.Core.Logic.{_≢_}
-use mathlib.Core.Bool.{Bool, true, false, cond, not}
+use mathlib.Core.Bool.{Bool, true, false, cond, not, _||_}
 use mathlib.Core.List.{List, []}
 use lib.ListN.{length, List·getD-eq-default}
 use lib.Pow.{pow-lt}
 use mir.Syntax.{w8}
 use mir.Val.{Fits}
 use lib.Dec.{ltb, leb, eqb}
-use borrow.Author.Tests.{lt-ltb, le-ltb, le-leb, lt-leb, eq-eqb, ne-eqb, ltb-false}
+use borrow.Author.Tests.{lt-ltb, le-ltb, le-leb, lt-leb, eq-eqb, ne-eqb, ltb-false, eqb-true}
 use Rattle.facts.specs.declared.Checked.{Checked}
 use Rattle.facts.specs.declared.Checked.the-variants.{Passed, Refused}
-use Rattle.facts.specs.Checks.{check, scan}
+use Rattle.facts.specs.Checks.{check, _andThen_, scan}
 use Rattle.facts.specs.Sums.{any, seek}
 use Rattle.facts.proofs.Bools.{or-false, or-r}
 use Rattle.facts.proofs.Sums.{any-none}
@@ -65,14 +65,14 @@ module _ (m : Netlist) (k : ℕ) (r : Record) (j : ℕ) (t a : ℕ) (p : t ≡ s
   pub slot-later : j < a → k ≤ t → true ≡ badSlot m k r j
   slot-later h g = rw (lt-ltb j (arity (r .kind)) (rw q at h), le-leb k (slot r j) (rw p at g))
 
-  pub slot-kind : (x : ℕ) → j < a → t < k → x ≡ m .at t .kind → eqb x output ≡ badSlot m k r j
+  pub slot-kind : (x : Record) → j < a → t < k → x ≡ m .at t → eqb (x .kind) output ≡ badSlot m k r j
   slot-kind x h g e = rw (lt-ltb j (arity (r .kind)) (rw q at h), lt-leb k (slot r j) (rw p at g), e, p)
 
   pub slot-unused : a ≤ j → not (eqb t unused) ≡ badSlot m k r j
   slot-unused h = rw (le-ltb j (arity (r .kind)) (rw q at h), p)
 
-  pub fanin-level : (x y : ℕ) → j < a → y ≡ r .level → x ≡ m .at t .level → leb y x ≡ notBelow m r j
-  fanin-level x y h f e = rw (lt-ltb j (arity (r .kind)) (rw q at h), e, f, p)
+  pub fanin-level : (x : Record) → j < a → x ≡ m .at t → leb (r .level) (x .level) ≡ notBelow m r j
+  fanin-level x h e = rw (lt-ltb j (arity (r .kind)) (rw q at h), e, p)
 
   -- where no slot is bad, a used one names an earlier record
   pub fanin-inside : (n : ℕ) → k < n → j < a → badSlots m k r ≡ false → t < n
@@ -85,25 +85,23 @@ module _ (m : Netlist) (k : ℕ) (r : Record) (j : ℕ) (t a : ℕ) (p : t ≡ s
 pub fanin-unused : (m : Netlist) (r : Record) (j a : ℕ) → a ≡ arity (r .kind) → a ≤ j → false ≡ notBelow m r j
 fanin-unused m r j a q h = rw (le-ltb j (arity (r .kind)) (rw q at h))
 
-pub used-slots : (kind j a : ℕ) → a ≡ arity kind → j < a → j < slots
-used-slots kind j a e h = omega (arith, arity-slots kind)
-
 -- a kind that the arms name uses the slots of that kind
-pub these-slots : (kind x named a : ℕ) → x ≡ kind → x ≡ named → a ≡ arity named → a ≡ arity kind
-these-slots kind x named a k n e = e ∙ ap arity (sym n ∙ k)
+pub these-slots : (kind named a : ℕ) → kind ≡ named → a ≡ arity named → a ≡ arity kind
+these-slots kind named a n e = e ∙ ap arity (sym n)
 
-module _ (deep : ℕ) (r : Record) (kind level : ℕ) (k : kind ≡ r .kind) (l : level ≡ r .level) where
-  pub level-large : topLevel < level → true ≡ misplaced deep r
-  level-large h = rw (← l, lt-ltb topLevel level h)
+module _ (deep : ℕ) (r : Record) where
+  pub level-large : topLevel < r .level → true ≡ misplaced deep r
+  level-large h = rw (lt-ltb topLevel (r .level) h)
 
-  pub level-input : level ≤ topLevel → kind ≡ input → not (eqb level 0) ≡ misplaced deep r
-  level-input h e = rw (← l, ← k, le-ltb topLevel level h, e) (sym (or-false (not (eqb level 0))))
+  module _ (h : r .level ≤ topLevel) where
+    pub level-input : r .kind ≡ input → not (eqb (r .level) 0) ≡ misplaced deep r
+    level-input e = rw (le-ltb topLevel (r .level) h, e) (sym (or-false (not (eqb (r .level) 0))))
 
-  pub level-output : level ≤ topLevel → kind ≡ output → not (eqb level deep) ≡ misplaced deep r
-  level-output h e = rw (← l, ← k, le-ltb topLevel level h, e)
+    pub level-output : r .kind ≡ output → not (eqb (r .level) deep) ≡ misplaced deep r
+    level-output e = rw (le-ltb topLevel (r .level) h, e)
 
-  pub level-gate : level ≤ topLevel → (kind ≡ input → ⊥) → (kind ≡ output → ⊥) → false ≡ misplaced deep r
-  level-gate h e f = rw (← l, ← k, le-ltb topLevel level h, ne-eqb kind input e, ne-eqb kind output f)
+    pub level-gate : (r .kind ≡ input → ⊥) → (r .kind ≡ output → ⊥) → false ≡ misplaced deep r
+    level-gate e f = rw (le-ltb topLevel (r .level) h, ne-eqb (r .kind) input e, ne-eqb (r .kind) output f)
 
 -- D, as the loop finds it: n is the count, the first n records are searched
 module _ (bytes : List ℕ) (n : ℕ) (c : n ≡ recordCount bytes) where
@@ -114,18 +112,31 @@ module _ (bytes : List ℕ) (n : ℕ) (c : n ≡ recordCount bytes) where
   unfolding depth
   depth-is k e = ap (λ (j : ℕ). recordAt bytes j .level) (ap (seek outputs 0) (sym c) ∙ e)
 
-  pub depth-here : (k x y : ℕ) → Seeking (isOutput (netlist bytes)) n k → k < n → x ≡ recordAt bytes k .kind → x ≡ output → y ≡ recordAt bytes k .level → y ≡ depth (netlist bytes)
-  depth-here k x y i h e o f = f ∙ sym (depth-is k (seek-here outputs n k i h (rw (← e) (eq-eqb x output o))))
+  module _ (k : ℕ) (i : Seeking (isOutput (netlist bytes)) n k) (h : k < n) (r : Record) (e : r ≡ recordAt bytes k) where
+    pub depth-here : r .kind ≡ output → r .level ≡ depth (netlist bytes)
+    depth-here o = ap (λ (x : Record). x .level) e ∙ sym (depth-is k (seek-here outputs n k i h (rw (← e) (eq-eqb (r .kind) output o))))
 
-  pub depth-more : (k x : ℕ) → Seeking (isOutput (netlist bytes)) n k → k < n → x ≡ recordAt bytes k .kind → (x ≡ output → ⊥) → Seeking (isOutput (netlist bytes)) n (k + 1)
-  depth-more k x i h e o = seek-more (isOutput (netlist bytes)) n k i h (rw (← e) (ne-eqb x output o))
+    pub depth-more : (r .kind ≡ output → ⊥) → Seeking (isOutput (netlist bytes)) n (k + 1)
+    depth-more o = seek-more outputs n k i h (rw (← e) (ne-eqb (r .kind) output o))
 
   pub depth-none : (k : ℕ) → Seeking (isOutput (netlist bytes)) n k → n ≤ k → 0 ≡ depth (netlist bytes)
   depth-none k i h =
       sym (depth-is n (seek-end outputs n k i h) ∙ ap (λ (r : Record). r .level) (record-past bytes n (omega (arith, c))))
 
--- the first output among the records met so far: whether there was one, and D once there was
-module _ (bytes : List ℕ) (k : ℕ) where
+-- the level of the first output, where none was met before
+module _ (deep : ℕ) (r : Record) (seen : Bool) (f : seen ≡ false) where
+  pub first-here : r .kind ≡ output → r .level ≡ cond seen deep (cond (eqb (r .kind) output) (r .level) deep)
+  first-here o = rw (f, eq-eqb (r .kind) output o)
+
+  pub first-other : (r .kind ≡ output → ⊥) → deep ≡ cond seen deep (cond (eqb (r .kind) output) (r .level) deep)
+  first-other o = rw (f, ne-eqb (r .kind) output o)
+
+-- the first k records: whether an output is among them, and D if one is
+pub record Met (bytes : List ℕ) (k : ℕ) (seen : Bool) (deep : ℕ) : Type 0 where
+  pub output-met : seen ≡ any (isOutput (netlist bytes)) k
+  pub level-met : deep ≡ cond (any (isOutput (netlist bytes)) k) (depth (netlist bytes)) 0
+
+module _ (bytes : List ℕ) where
   abbrev met : ℕ → Bool
   met = any (isOutput (netlist bytes))
 
@@ -136,64 +147,53 @@ module _ (bytes : List ℕ) (k : ℕ) where
       let h = or-none (met i) (isOutput (netlist bytes) i) .0 e in
       rw (← add-one i) (seek-more (isOutput (netlist bytes)) (recordCount bytes) i (unseen i (omega arith) (h .0)) (omega arith) (h .1))
 
-  pub seen-start : false ≡ any (isOutput (netlist bytes)) 0
+  pub met-start : Met bytes 0 false 0
   unfolding any
-  seen-start = refl
+  met-start = record { output-met = refl; level-met = refl }
 
-  pub deep-start : 0 ≡ cond (any (isOutput (netlist bytes)) 0) (depth (netlist bytes)) 0
-  unfolding any
-  deep-start = refl
-
-  module _ (seen : Bool) (s : seen ≡ any (isOutput (netlist bytes)) k) where
-    pub seen-before : seen ≡ true → true ≡ any (isOutput (netlist bytes)) (k + 1)
-    unfolding any
-    seen-before t = rw (add-one k, ← s, t)
-
-    pub deep-before : (deep : ℕ) → deep ≡ cond (any (isOutput (netlist bytes)) k) (depth (netlist bytes)) 0 → seen ≡ true → deep ≡ cond (any (isOutput (netlist bytes)) (k + 1)) (depth (netlist bytes)) 0
-    deep-before deep d t = d ∙ rw (← s, ← seen-before t, t)
-
-    module _ (kind : ℕ) (e : kind ≡ recordAt bytes k .kind) (f : seen ≡ false) where
-      pub seen-here : eqb kind output ≡ any (isOutput (netlist bytes)) (k + 1)
+  module _ (k : ℕ) (r : Record) (e : r ≡ recordAt bytes k) where
+    module _ (seen : Bool) (deep x n : ℕ) (i : Met bytes k seen deep) (l : k < n) (c : n ≡ recordCount bytes) (g : x ≡ cond seen deep (cond (eqb (r .kind) output) (r .level) deep)) where
+      -- record k is met next
+      pub met-more : (b : Bool) → b ≡ (seen || eqb (r .kind) output) → Met bytes (k + 1) b x
       unfolding any
-      seen-here = rw (add-one k, ← s, f, e)
+      met-more b f =
+          record {
+            output-met = f ∙ rw (add-one k, i .output-met, e);
+            level-met = g ∙ rw (add-one k, i .level-met, i .output-met, e) (go (met k) (isOutput (netlist bytes) k) refl refl);
+          }
+        where
+          go : (s o : Bool) → met k ≡ s → isOutput (netlist bytes) k ≡ o → cond s (cond s (depth (netlist bytes)) 0) (cond o (recordAt bytes k .level) (cond s (depth (netlist bytes)) 0)) ≡ cond (s || o) (depth (netlist bytes)) 0
+          go true o p q = refl
+          go false true p q =
+              depth-here bytes (recordCount bytes) refl k (unseen k (omega arith) p) (omega arith) (recordAt bytes k) refl (eqb-true (recordAt bytes k .kind) output q)
+          go false false p q = refl
 
-      pub deep-here : (level : ℕ) → k < recordCount bytes → kind ≡ output → level ≡ recordAt bytes k .level → level ≡ cond (any (isOutput (netlist bytes)) (k + 1)) (depth (netlist bytes)) 0
-      deep-here level l o y =
-          depth-here bytes (recordCount bytes) refl k kind level (unseen k (omega arith) (sym s ∙ f)) l e o y
-          ∙ rw (← seen-here, eq-eqb kind output o)
+      -- the level met so far serves record k as D: it is D where the record is an output, and no other record is held to it
+      pub met-serves : misplaced x r ≡ misplaced (depth (netlist bytes)) r
+      unfolding any
+      met-serves = rw e (go (isOutput (netlist bytes) k) refl)
+        where
+          go : (b : Bool) → isOutput (netlist bytes) k ≡ b → misplaced x (recordAt bytes k) ≡ misplaced (depth (netlist bytes)) (recordAt bytes k)
+          go true o = ap (λ (y : ℕ). misplaced y (recordAt bytes k)) (met-more (seen || eqb (r .kind) output) refl .level-met ∙ rw (add-one k, o, or-r (met k) true refl))
+          go false o = rw o
 
-      pub deep-other : (deep : ℕ) → deep ≡ cond (any (isOutput (netlist bytes)) k) (depth (netlist bytes)) 0 → (kind ≡ output → ⊥) → deep ≡ cond (any (isOutput (netlist bytes)) (k + 1)) (depth (netlist bytes)) 0
-      deep-other deep d o = d ∙ rw (← s, f, ← seen-here, ne-eqb kind output o)
-
-  -- the level met so far serves record k as D: it is D where the record is an output, and no other record is held to it
-  pub deep-serves : (deep : ℕ) → deep ≡ cond (any (isOutput (netlist bytes)) (k + 1)) (depth (netlist bytes)) 0 → misplaced deep (recordAt bytes k) ≡ misplaced (depth (netlist bytes)) (recordAt bytes k)
-  unfolding any
-  deep-serves deep d = go (isOutput (netlist bytes) k) refl
-    where
-      go : (b : Bool) → isOutput (netlist bytes) k ≡ b → misplaced deep (recordAt bytes k) ≡ misplaced (depth (netlist bytes)) (recordAt bytes k)
-      go true o = ap (λ (x : ℕ). misplaced x (recordAt bytes k)) (d ∙ rw (add-one k, o, or-r (met k) true refl))
-      go false o = rw o
+    pub record-checked : (a : Checked) → a ≡ (structureOf (netlist bytes) k r andThen levelOf (netlist bytes) k r) → a ≡ recordChecks (netlist bytes) k
+    record-checked a f = f ∙ ap (λ (x : Record). structureOf (netlist bytes) k x andThen levelOf (netlist bytes) k x) e
 
 module _ (m : Netlist) (k : ℕ) (r : Record) where
-  module _ (kind : ℕ) (i : kind ≡ r .kind) where
-    pub kind-bad : output < kind → Refused 4 k ≡ structureOf m k r
-    kind-bad h = rw (← i, lt-ltb output kind h)
+  pub kind-bad : output < r .kind → Refused 4 k ≡ structureOf m k r
+  kind-bad h = rw (lt-ltb output (r .kind) h)
 
-    module _ (l : kind ≤ output) (x y : ℕ) (e : x ≡ 2 ^ invertible kind) (f : y ≡ r .inversion) where
-      pub inversion-bad : x ≤ y → Refused 5 k ≡ structureOf m k r
-      inversion-bad h = rw (← i, ← f, le-ltb output kind l, ← e, le-leb x y h)
+  module _ (l : r .kind ≤ output) (x : ℕ) (e : x ≡ 2 ^ invertible (r .kind)) where
+    pub inversion-bad : x ≤ r .inversion → Refused 5 k ≡ structureOf m k r
+    inversion-bad h = rw (le-ltb output (r .kind) l, ← e, le-leb x (r .inversion) h)
 
-      pub slots-bad : (b : Bool) → y < x → b ≡ badSlots m k r → b ≡ true → Refused 6 k ≡ structureOf m k r
-      slots-bad b h g t = go (sym g ∙ t)
-        where
-          go : badSlots m k r ≡ true → Refused 6 k ≡ structureOf m k r
-          go s = rw (s, ← i, ← f, le-ltb output kind l, ← e, lt-leb x y h)
+    module _ (h : r .inversion < x) (b : Bool) (g : b ≡ badSlots m k r) where
+      pub slots-bad : b ≡ true → Refused 6 k ≡ structureOf m k r
+      slots-bad t = rw (← g, t, le-ltb output (r .kind) l, ← e, lt-leb x (r .inversion) h)
 
-      pub structure-good : (b : Bool) → y < x → b ≡ badSlots m k r → b ≡ false → Passed ≡ structureOf m k r
-      structure-good b h g t = go (sym g ∙ t)
-        where
-          go : badSlots m k r ≡ false → Passed ≡ structureOf m k r
-          go s = rw (s, ← i, ← f, le-ltb output kind l, ← e, lt-leb x y h)
+      pub structure-good : b ≡ false → Passed ≡ structureOf m k r
+      structure-good t = rw (← g, t, le-ltb output (r .kind) l, ← e, lt-leb x (r .inversion) h)
 
   module _ (deep : ℕ) (d : misplaced deep r ≡ misplaced (depth m) r) (b : Bool) (e : b ≡ misplaced deep r) where
     pub misplaced-bad : b ≡ true → true ≡ badLevel m r
@@ -209,18 +209,18 @@ module _ (m : Netlist) (k : ℕ) (r : Record) where
     pub level-good : b ≡ false → Passed ≡ levelOf m k r
     level-good t = rw (← e, t)
 
-module _ (bytes : List ℕ) (k : ℕ) (a : Checked) (e : a ≡ structureOf (netlist bytes) k (recordAt bytes k)) where
-  -- where checks 4 to 6 pass, no slot is bad
-  pub slots-good : a ≡ Passed → badSlots (netlist bytes) k (recordAt bytes k) ≡ false
-  slots-good p =
-      let h = then-passed (check 4 k (badKind (recordAt bytes k))) _ .0 (sym e ∙ p) .1 in
-      check-passed 6 k (badSlots (netlist bytes) k (recordAt bytes k)) .0 (then-passed (check 5 k (badInversion (recordAt bytes k))) _ .0 h .1)
+  module _ (a : Checked) (e : a ≡ structureOf m k r) where
+    -- where checks 4 to 6 pass, no slot is bad
+    pub slots-good : a ≡ Passed → badSlots m k r ≡ false
+    slots-good p =
+        let h = then-passed (check 4 k (badKind r)) _ .0 (sym e ∙ p) .1 in
+        check-passed 6 k (badSlots m k r) .0 (then-passed (check 5 k (badInversion r)) _ .0 h .1)
 
-  pub record-level : (b : Checked) → a ≡ Passed → b ≡ levelOf (netlist bytes) k (recordAt bytes k) → b ≡ recordChecks (netlist bytes) k
-  record-level b p f = f ∙ rw (← e, p)
+    pub record-level : (b : Checked) → a ≡ Passed → b ≡ levelOf m k r → b ≡ (structureOf m k r andThen levelOf m k r)
+    record-level b p f = f ∙ rw (← e, p)
 
-  pub record-structure : (number place : ℕ) → a ≡ Refused number place → Refused number place ≡ recordChecks (netlist bytes) k
-  record-structure number place p = rw (← e, p)
+    pub record-structure : (number place : ℕ) → a ≡ Refused number place → Refused number place ≡ (structureOf m k r andThen levelOf m k r)
+    record-structure number place p = rw (← e, p)
 
 module _ (bytes : List ℕ) where
   pub length-ragged : (length bytes % width ≡ 0 → ⊥) → Refused 2 0 ≡ sizeChecks bytes

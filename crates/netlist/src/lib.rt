@@ -1,13 +1,14 @@
 // Records of ten bytes, the source reader (checks 1 to 7) and the record view.
 ghost use mathlib.Core.Path.{_≡_};
-ghost use mathlib.Core.Bool.{false, cond};
+ghost use mathlib.Core.Bool.{false, cond, _||_};
 ghost use Prim.Native.Nat.{_+_, _^_, _<_};
 ghost use lib.ListN.{length};
-ghost use Rattle.facts.specs.Checks.{scan};
+ghost use lib.Dec.{eqb};
+ghost use Rattle.facts.specs.Checks.{_andThen_, scan};
 ghost use Rattle.facts.specs.Sums.{any};
-ghost use Rattle.netlist.specs.Kinds.{width, slots, invertible, isGate, isDriver};
+ghost use Rattle.netlist.specs.Kinds.{width, slots, output, invertible, isGate, isDriver};
 ghost use Rattle.netlist.specs.Kinds;
-ghost use Rattle.netlist.specs.Records.{field, decode, recordAt, recordCount, recordBytes, netlist, isOutput};
+ghost use Rattle.netlist.specs.Records.{field, decode, recordAt, recordCount, recordBytes, netlist};
 ghost use Rattle.netlist.specs.Records;
 ghost use Rattle.netlist.specs.Checks.{
   badCapacity,
@@ -139,12 +140,20 @@ fn record_part<'a>(bytes: &'a [u8], k: usize) -> &'a [u8]
     &bytes[at..at + WIDTH]
 }
 
+// A record within the end.
+fn read_at(bytes: &[u8], k: usize) -> Record
+    requires { ⌜ k < recordCount (now bytes) ⌝ }
+    ensures { λ r. ⌜ r ≡ recordAt (now (bytes .entry)) k ⌝ }
+{
+    read_record(record_part(bytes, k))
+}
+
 // Record k, blank from the end on.
 pub fn record_at(bytes: &[u8], k: usize) -> Record
     ensures { λ r. ⌜ r ≡ recordAt (now (bytes .entry)) k ⌝ }
 {
     if k < record_count(bytes) {
-        read_record(record_part(bytes, k))
+        read_at(bytes, k)
     } else {
         blank()
     }
@@ -158,75 +167,25 @@ pub fn slot(r: Record, j: usize) -> u16
     if j < SLOTS { slots[j] } else { UNUSED }
 }
 
-// The kind of a record within the end.
-fn kind_of(bytes: &[u8], k: usize) -> u8
-    requires { ⌜ k < recordCount (now bytes) ⌝ }
-    ensures { λ r. ⌜ r ≡ recordAt (now (bytes .entry)) k .kind ⌝ }
-{
-    let part = record_part(bytes, k);
-    part[0]
-}
-
-// The inversion byte of a record within the end.
-fn inversion_of(bytes: &[u8], k: usize) -> u8
-    requires { ⌜ k < recordCount (now bytes) ⌝ }
-    ensures { λ r. ⌜ r ≡ recordAt (now (bytes .entry)) k .inversion ⌝ }
-{
-    let part = record_part(bytes, k);
-    part[1]
-}
-
-// The level of a record within the end.
-fn level_of(bytes: &[u8], k: usize) -> u16
-    requires { ⌜ k < recordCount (now bytes) ⌝ }
-    ensures { λ r. ⌜ r ≡ recordAt (now (bytes .entry)) k .level ⌝ }
-{
-    two_bytes(record_part(bytes, k), 2)
-}
-
-// Slot j of a record within the end.
-fn slot_of(bytes: &[u8], k: usize, j: usize) -> u16
-    requires { ⌜ k < recordCount (now bytes) ⌝ }
-    requires { ⌜ j < slots ⌝ }
-    ensures { λ r. ⌜ r ≡ Records.slot (recordAt (now (bytes .entry)) k) j ⌝ }
-{
-    two_bytes(record_part(bytes, k), 4 + 2 * j)
-}
-
 // The kind of record k.
 pub fn kind_at(bytes: &[u8], k: usize) -> u8
     ensures { λ r. ⌜ r ≡ recordAt (now (bytes .entry)) k .kind ⌝ }
 {
-    if k < record_count(bytes) {
-        kind_of(bytes, k)
-    } else {
-        ABSENT
-    }
+    record_at(bytes, k).kind
 }
 
 // The level of record k.
 pub fn level_at(bytes: &[u8], k: usize) -> u16
     ensures { λ r. ⌜ r ≡ recordAt (now (bytes .entry)) k .level ⌝ }
 {
-    if k < record_count(bytes) {
-        level_of(bytes, k)
-    } else {
-        0
-    }
+    record_at(bytes, k).level
 }
 
 // Slot j of record k.
 pub fn slot_at(bytes: &[u8], k: usize, j: usize) -> u16
     ensures { λ r. ⌜ r ≡ Records.slot (recordAt (now (bytes .entry)) k) j ⌝ }
 {
-    if record_count(bytes) <= k {
-        return UNUSED;
-    }
-    if j < SLOTS {
-        slot_of(bytes, k, j)
-    } else {
-        UNUSED
-    }
+    slot(record_at(bytes, k), j)
 }
 
 // D: the level of the first output, 0 without outputs.
@@ -236,8 +195,9 @@ pub fn depth(bytes: &[u8]) -> u16
     let n = record_count(bytes);
     let mut k: usize = 0;
     while k < n {
-        if kind_at(bytes, k) == OUTPUT {
-            return level_at(bytes, k);
+        let r = record_at(bytes, k);
+        if r.kind == OUTPUT {
+            return r.level;
         }
         k += 1;
     }
@@ -255,31 +215,30 @@ fn inversions(kind: u8) -> u8
 }
 
 // Check 6 of slot j of record k.
-fn bad_slot(bytes: &[u8], k: usize, used: usize, j: usize) -> bool
+fn bad_slot(bytes: &[u8], k: usize, r: Record, used: usize, j: usize) -> bool
     requires { ⌜ k < recordCount (now bytes) ⌝ }
-    requires { ⌜ used ≡ Kinds.arity (recordAt (now bytes) k .kind) ⌝ }
-    requires { ⌜ j < slots ⌝ }
-    ensures { λ b. ⌜ b ≡ badSlot (netlist (now (bytes .entry))) k (recordAt (now (bytes .entry)) k) j ⌝ }
+    requires { ⌜ used ≡ Kinds.arity (r .kind) ⌝ }
+    ensures { λ b. ⌜ b ≡ badSlot (netlist (now (bytes .entry))) k r j ⌝ }
 {
-    let target = slot_of(bytes, k, j);
+    let target = slot(r, j);
     if j < used {
         if k <= target as usize {
             return true;
         }
-        return kind_of(bytes, target as usize) == OUTPUT;
+        return read_at(bytes, target as usize).kind == OUTPUT;
     }
     target != UNUSED
 }
 
 // Check 6 of record k: some slot is bad.
-fn bad_slots(bytes: &[u8], k: usize, used: usize) -> bool
+fn bad_slots(bytes: &[u8], k: usize, r: Record, used: usize) -> bool
     requires { ⌜ k < recordCount (now bytes) ⌝ }
-    requires { ⌜ used ≡ Kinds.arity (recordAt (now bytes) k .kind) ⌝ }
-    ensures { λ b. ⌜ b ≡ badSlots (netlist (now (bytes .entry))) k (recordAt (now (bytes .entry)) k) ⌝ }
+    requires { ⌜ used ≡ Kinds.arity (r .kind) ⌝ }
+    ensures { λ b. ⌜ b ≡ badSlots (netlist (now (bytes .entry))) k r ⌝ }
 {
     let mut j: usize = 0;
     while j < SLOTS {
-        if bad_slot(bytes, k, used, j) {
+        if bad_slot(bytes, k, r, used, j) {
             return true;
         }
         j += 1;
@@ -288,29 +247,29 @@ fn bad_slots(bytes: &[u8], k: usize, used: usize) -> bool
 }
 
 // Check 7 of one slot: a fanin that does not stand below the record.
-fn not_below(bytes: &[u8], k: usize, used: usize, j: usize) -> bool
+fn not_below(bytes: &[u8], k: usize, r: Record, used: usize, j: usize) -> bool
     requires { ⌜ k < recordCount (now bytes) ⌝ }
-    requires { ⌜ used ≡ Kinds.arity (recordAt (now bytes) k .kind) ⌝ }
-    requires { ⌜ badSlots (netlist (now bytes)) k (recordAt (now bytes) k) ≡ false ⌝ }
-    ensures { λ b. ⌜ b ≡ notBelow (netlist (now (bytes .entry))) (recordAt (now (bytes .entry)) k) j ⌝ }
+    requires { ⌜ used ≡ Kinds.arity (r .kind) ⌝ }
+    requires { ⌜ badSlots (netlist (now bytes)) k r ≡ false ⌝ }
+    ensures { λ b. ⌜ b ≡ notBelow (netlist (now (bytes .entry))) r j ⌝ }
 {
     if j < used {
-        level_of(bytes, k) <= level_of(bytes, slot_of(bytes, k, j) as usize)
+        r.level <= read_at(bytes, slot(r, j) as usize).level
     } else {
         false
     }
 }
 
 // Check 7 of the slots: some fanin does not stand below the record.
-fn any_not_below(bytes: &[u8], k: usize, used: usize) -> bool
+fn any_not_below(bytes: &[u8], k: usize, r: Record, used: usize) -> bool
     requires { ⌜ k < recordCount (now bytes) ⌝ }
-    requires { ⌜ used ≡ Kinds.arity (recordAt (now bytes) k .kind) ⌝ }
-    requires { ⌜ badSlots (netlist (now bytes)) k (recordAt (now bytes) k) ≡ false ⌝ }
-    ensures { λ b. ⌜ b ≡ any (notBelow (netlist (now (bytes .entry))) (recordAt (now (bytes .entry)) k)) slots ⌝ }
+    requires { ⌜ used ≡ Kinds.arity (r .kind) ⌝ }
+    requires { ⌜ badSlots (netlist (now bytes)) k r ≡ false ⌝ }
+    ensures { λ b. ⌜ b ≡ any (notBelow (netlist (now (bytes .entry))) r) slots ⌝ }
 {
     let mut j: usize = 0;
     while j < SLOTS {
-        if not_below(bytes, k, used, j) {
+        if not_below(bytes, k, r, used, j) {
             return true;
         }
         j += 1;
@@ -319,132 +278,119 @@ fn any_not_below(bytes: &[u8], k: usize, used: usize) -> bool
 }
 
 // Check 7 of the record's own level.
-fn is_misplaced(bytes: &[u8], deep: u16, k: usize) -> bool
-    requires { ⌜ k < recordCount (now bytes) ⌝ }
-    ensures { λ b. ⌜ b ≡ misplaced deep (recordAt (now (bytes .entry)) k) ⌝ }
+fn is_misplaced(deep: u16, r: Record) -> bool
+    ensures { λ b. ⌜ b ≡ misplaced deep r ⌝ }
 {
-    let kind = kind_of(bytes, k);
-    let level = level_of(bytes, k);
-    if TOP_LEVEL < level {
+    if TOP_LEVEL < r.level {
         return true;
     }
-    if kind == INPUT {
-        return level != 0;
+    if r.kind == INPUT {
+        return r.level != 0;
     }
-    if kind == OUTPUT {
-        return level != deep;
+    if r.kind == OUTPUT {
+        return r.level != deep;
     }
     false
 }
 
 // Checks 4 to 6 of record k.
-fn check_structure(bytes: &[u8], k: u32, used: usize) -> Checked
+fn check_structure(bytes: &[u8], k: u32, r: Record, used: usize) -> Checked
     requires { ⌜ k < recordCount (now bytes) ⌝ }
-    requires { ⌜ used ≡ Kinds.arity (recordAt (now bytes) k .kind) ⌝ }
-    ensures { λ a. ⌜ a ≡ structureOf (netlist (now (bytes .entry))) k (recordAt (now (bytes .entry)) k) ⌝ }
+    requires { ⌜ used ≡ Kinds.arity (r .kind) ⌝ }
+    ensures { λ a. ⌜ a ≡ structureOf (netlist (now (bytes .entry))) k r ⌝ }
 {
-    let kind = kind_of(bytes, k as usize);
-    if OUTPUT < kind {
+    if OUTPUT < r.kind {
         return Checked::Refused(4, k);
     }
-    if inversions(kind) <= inversion_of(bytes, k as usize) {
+    if inversions(r.kind) <= r.inversion {
         return Checked::Refused(5, k);
     }
-    if bad_slots(bytes, k as usize, used) {
+    if bad_slots(bytes, k as usize, r, used) {
         return Checked::Refused(6, k);
     }
     Checked::Passed
 }
 
-// Check 7: the record's own level or a fanin's is wrong, with the level of the first output in deep if record k is an output.
-fn bad_level(bytes: &[u8], deep: u16, k: usize, used: usize) -> bool
+// Check 7: the record's own level or a fanin's is wrong, with the level of the first output in deep if the record is an output.
+fn bad_level(bytes: &[u8], deep: u16, k: usize, r: Record, used: usize) -> bool
     requires { ⌜ k < recordCount (now bytes) ⌝ }
-    requires { ⌜ used ≡ Kinds.arity (recordAt (now bytes) k .kind) ⌝ }
-    requires { ⌜ badSlots (netlist (now bytes)) k (recordAt (now bytes) k) ≡ false ⌝ }
-    requires { ⌜ misplaced deep (recordAt (now bytes) k) ≡ misplaced (Records.depth (netlist (now bytes))) (recordAt (now bytes) k) ⌝ }
-    ensures { λ b. ⌜ b ≡ badLevel (netlist (now (bytes .entry))) (recordAt (now (bytes .entry)) k) ⌝ }
+    requires { ⌜ used ≡ Kinds.arity (r .kind) ⌝ }
+    requires { ⌜ badSlots (netlist (now bytes)) k r ≡ false ⌝ }
+    requires { ⌜ misplaced deep r ≡ misplaced (Records.depth (netlist (now bytes))) r ⌝ }
+    ensures { λ b. ⌜ b ≡ badLevel (netlist (now (bytes .entry))) r ⌝ }
 {
-    if is_misplaced(bytes, deep, k) {
+    if is_misplaced(deep, r) {
         return true;
     }
-    any_not_below(bytes, k, used)
+    any_not_below(bytes, k, r, used)
 }
 
 // Check 7 of record k.
-fn check_level(bytes: &[u8], deep: u16, k: u32, used: usize) -> Checked
+fn check_level(bytes: &[u8], deep: u16, k: u32, r: Record, used: usize) -> Checked
     requires { ⌜ k < recordCount (now bytes) ⌝ }
-    requires { ⌜ used ≡ Kinds.arity (recordAt (now bytes) k .kind) ⌝ }
-    requires { ⌜ badSlots (netlist (now bytes)) k (recordAt (now bytes) k) ≡ false ⌝ }
-    requires { ⌜ misplaced deep (recordAt (now bytes) k) ≡ misplaced (Records.depth (netlist (now bytes))) (recordAt (now bytes) k) ⌝ }
-    ensures { λ a. ⌜ a ≡ levelOf (netlist (now (bytes .entry))) k (recordAt (now (bytes .entry)) k) ⌝ }
+    requires { ⌜ used ≡ Kinds.arity (r .kind) ⌝ }
+    requires { ⌜ badSlots (netlist (now bytes)) k r ≡ false ⌝ }
+    requires { ⌜ misplaced deep r ≡ misplaced (Records.depth (netlist (now bytes))) r ⌝ }
+    ensures { λ a. ⌜ a ≡ levelOf (netlist (now (bytes .entry))) k r ⌝ }
 {
-    if bad_level(bytes, deep, k as usize, used) {
+    if bad_level(bytes, deep, k as usize, r, used) {
         return Checked::Refused(7, k);
     }
     Checked::Passed
 }
 
 // Checks 4 to 7 of record k, whose kind uses so many slots.
-fn check_used(bytes: &[u8], deep: u16, k: u32, used: usize) -> Checked
+fn check_used(bytes: &[u8], deep: u16, k: u32, r: Record, used: usize) -> Checked
     requires { ⌜ k < recordCount (now bytes) ⌝ }
-    requires { ⌜ used ≡ Kinds.arity (recordAt (now bytes) k .kind) ⌝ }
-    requires { ⌜ misplaced deep (recordAt (now bytes) k) ≡ misplaced (Records.depth (netlist (now bytes))) (recordAt (now bytes) k) ⌝ }
-    ensures { λ a. ⌜ a ≡ recordChecks (netlist (now (bytes .entry))) k ⌝ }
+    requires { ⌜ used ≡ Kinds.arity (r .kind) ⌝ }
+    requires { ⌜ misplaced deep r ≡ misplaced (Records.depth (netlist (now bytes))) r ⌝ }
+    ensures { λ a. ⌜ a ≡ (structureOf (netlist (now (bytes .entry))) k r andThen levelOf (netlist (now (bytes .entry))) k r) ⌝ }
 {
-    let structure = check_structure(bytes, k, used);
+    let structure = check_structure(bytes, k, r, used);
     match structure {
-        Checked::Passed => check_level(bytes, deep, k, used),
+        Checked::Passed => check_level(bytes, deep, k, r, used),
         Checked::Refused(number, place) => Checked::Refused(number, place),
     }
 }
 
 // Checks 4 to 7 of record k; an arm for each kind, so that the compiler knows its slots.
-fn check_record(bytes: &[u8], deep: u16, k: u32) -> Checked
+fn check_record(bytes: &[u8], deep: u16, k: u32, r: Record) -> Checked
     requires { ⌜ k < recordCount (now bytes) ⌝ }
-    requires { ⌜ misplaced deep (recordAt (now bytes) k) ≡ misplaced (Records.depth (netlist (now bytes))) (recordAt (now bytes) k) ⌝ }
-    ensures { λ a. ⌜ a ≡ recordChecks (netlist (now (bytes .entry))) k ⌝ }
+    requires { ⌜ misplaced deep r ≡ misplaced (Records.depth (netlist (now bytes))) r ⌝ }
+    ensures { λ a. ⌜ a ≡ (structureOf (netlist (now (bytes .entry))) k r andThen levelOf (netlist (now (bytes .entry))) k r) ⌝ }
 {
-    let kind = kind_of(bytes, k as usize);
+    let kind = r.kind;
     match kind {
-        INPUT => check_used(bytes, deep, k, arity(INPUT)),
-        AND => check_used(bytes, deep, k, arity(AND)),
-        OR => check_used(bytes, deep, k, arity(OR)),
-        MAJORITY => check_used(bytes, deep, k, arity(MAJORITY)),
-        OUTPUT => check_used(bytes, deep, k, arity(OUTPUT)),
-        _ => check_used(bytes, deep, k, arity(kind)),
+        INPUT => check_used(bytes, deep, k, r, arity(INPUT)),
+        AND => check_used(bytes, deep, k, r, arity(AND)),
+        OR => check_used(bytes, deep, k, r, arity(OR)),
+        MAJORITY => check_used(bytes, deep, k, r, arity(MAJORITY)),
+        OUTPUT => check_used(bytes, deep, k, r, arity(OUTPUT)),
+        _ => check_used(bytes, deep, k, r, arity(kind)),
     }
 }
 
-// Whether record k or one before it is an output.
-fn output_seen(bytes: &[u8], k: usize, seen: bool) -> bool
-    requires { ⌜ k < recordCount (now bytes) ⌝ }
-    requires { ⌜ seen ≡ any (isOutput (netlist (now bytes))) k ⌝ }
-    ensures { λ b. ⌜ b ≡ any (isOutput (netlist (now (bytes .entry)))) (k + 1) ⌝ }
+// Whether this record or one before it is an output.
+fn output_seen(r: Record, seen: bool) -> bool
+    ensures { λ b. ⌜ b ≡ (seen || eqb (r .kind) output) ⌝ }
 {
     if seen {
         return true;
     }
-    kind_of(bytes, k) == OUTPUT
+    r.kind == OUTPUT
 }
 
 // The level of the first output, 0 until one is seen.
-fn first_level(bytes: &[u8], k: usize, seen: bool, deep: u16) -> u16
-    requires { ⌜ k < recordCount (now bytes) ⌝ }
-    requires { ⌜ seen ≡ any (isOutput (netlist (now bytes))) k ⌝ }
-    requires { ⌜ deep ≡ cond (any (isOutput (netlist (now bytes))) k) (Records.depth (netlist (now bytes))) 0 ⌝ }
-    ensures { λ r. ⌜ r ≡ cond (any (isOutput (netlist (now (bytes .entry)))) (k + 1)) (Records.depth (netlist (now (bytes .entry)))) 0 ⌝ }
+fn first_level(r: Record, seen: bool, deep: u16) -> u16
+    ensures { λ l. ⌜ l ≡ cond seen deep (cond (eqb (r .kind) output) (r .level) deep) ⌝ }
 {
     if seen {
         return deep;
     }
-    if kind_of(bytes, k) == OUTPUT {
-        level_of(bytes, k)
-    } else {
-        deep
-    }
+    if r.kind == OUTPUT { r.level } else { deep }
 }
 
-// Checks 4 to 7 of every record, rising.
+// Checks 4 to 7 of every record, rising; each is read once.
 fn check_records(bytes: &[u8], n: u32) -> Checked
     requires { ⌜ n ≡ recordCount (now bytes) ⌝ }
     ensures { λ a. ⌜ a ≡ scan (recordChecks (netlist (now (bytes .entry)))) 0 n ⌝ }
@@ -453,9 +399,10 @@ fn check_records(bytes: &[u8], n: u32) -> Checked
     let mut seen = false;
     let mut k: u32 = 0;
     while k < n {
-        deep = first_level(bytes, k as usize, seen, deep);
-        seen = output_seen(bytes, k as usize, seen);
-        let checked = check_record(bytes, deep, k);
+        let r = read_at(bytes, k as usize);
+        deep = first_level(r, seen, deep);
+        seen = output_seen(r, seen);
+        let checked = check_record(bytes, deep, k, r);
         match checked {
             Checked::Passed => {}
             Checked::Refused(number, place) => {

@@ -3,16 +3,16 @@ use borrow.Author.Needs.{needs}
 use Rattle.facts.proofs.Loops.{NoneYet, any-start, any-more, any-found, any-end}
 use Prim.Native.Nat.{_-_}
 use Rattle.netlist.specs.Kinds.{slots}
-use Rattle.netlist.specs.Records.{netlist, recordAt}
+use Rattle.netlist.specs.Records.{netlist}
 use Rattle.netlist.specs.Checks.{badSlot}
 use Rattle.netlist.proofs.bad_slots.Statement.{statement}
 use Rattle.netlist.proofs.bad_slots.Tie as tie
 
 abbrev Inv-loop : tie.InvT-loop
-Inv-loop bytes k used j₀ j = NoneYet (badSlot (netlist bytes) k (recordAt bytes k)) slots j
+Inv-loop bytes k r used j₀ j = NoneYet (badSlot (netlist bytes) k r) slots j
 
 abbrev μ-loop : tie.MeasureT-loop
-μ-loop bytes k used j₀ j = slots - j
+μ-loop bytes k r used j₀ j = slots - j
 
 loop-holds : tie.Need-loop-holds Inv-loop μ-loop
 loop-holds c = search (needs, any-start)

@@ -4,9 +4,6 @@ use Rattle.netlist.proofs.Checks.{these-slots}
 use Rattle.netlist.proofs.check_record.Statement.{statement}
 use Rattle.netlist.proofs.check_record.Tie as tie
 
-kind-of-requires : tie.Need-kind-of-requires
-kind-of-requires c κs = search needs
-
 arity-requires : tie.Need-arity-requires
 arity-requires c κs = search needs
 
@@ -41,7 +38,7 @@ arity-requires-6 : tie.Need-arity-requires-6
 arity-requires-6 c κs = search needs
 
 check-used-requires-6 : tie.Need-check-used-requires-6
-check-used-requires-6 c κs = search (needs, these-slots)
+check-used-requires-6 c κs = search needs
 
 returns : tie.Need-returns
 returns c = search needs
@@ -65,7 +62,6 @@ pub check-record-spec : {M : Type 1} → statement M
 check-record-spec =
     tie.close
     (tie.spec
-    kind-of-requires
     arity-requires
     check-used-requires
     arity-requires-2

@@ -1,42 +1,36 @@
 -- `check_records` meets its contract: the answer from k on is the answer, and the first output below k gave the level.
 use Prim.Native.Nat.{_-_}
-use mathlib.Core.Path.{_≡_}
-use mathlib.Core.Bool.{cond}
 use borrow.Author.Needs.{needs}
-use Rattle.facts.specs.Sums.{any}
 use Rattle.facts.proofs.Loops.{Scanning, scan-start, scan-more, scan-stop, scan-end}
-use Rattle.netlist.specs.Records.{netlist, isOutput, depth}
+use Rattle.netlist.specs.Records.{netlist}
 use Rattle.netlist.specs.Checks.{recordChecks}
-use Rattle.netlist.proofs.Checks.{seen-start, deep-start, deep-serves}
+use Rattle.netlist.proofs.Checks.{Met, met-start, met-more, met-serves, record-checked}
 use Rattle.netlist.proofs.check_records.Statement.{statement}
 use Rattle.netlist.proofs.check_records.Tie as tie
 
 abbrev Inv-loop : tie.InvT-loop
-Inv-loop bytes n deep₀ seen₀ k₀ deep seen k =
-    (seen ≡ any (isOutput (netlist bytes)) k)
-    × (deep ≡ cond (any (isOutput (netlist bytes)) k) (depth (netlist bytes)) 0)
-    × Scanning (recordChecks (netlist bytes)) n k
+Inv-loop bytes n deep₀ seen₀ k₀ deep seen k = Met bytes k seen deep × Scanning (recordChecks (netlist bytes)) n k
 
 abbrev μ-loop : tie.MeasureT-loop
 μ-loop bytes n deep₀ seen₀ k₀ deep seen k = n - k
 
 loop-holds : tie.Need-loop-holds Inv-loop μ-loop
-loop-holds c = search (needs, seen-start, deep-start, scan-start)
+loop-holds c = search (needs, met-start, scan-start)
 
-cast-first-level : tie.Need-cast-first-level Inv-loop μ-loop
-cast-first-level c = search needs
+cast-read-at : tie.Need-cast-read-at Inv-loop μ-loop
+cast-read-at c = search needs
+
+read-at-requires : tie.Need-read-at-requires Inv-loop μ-loop
+read-at-requires c κs = search needs
 
 first-level-requires : tie.Need-first-level-requires Inv-loop μ-loop
 first-level-requires c κs = search needs
-
-cast-output-seen : tie.Need-cast-output-seen Inv-loop μ-loop
-cast-output-seen c = search needs
 
 output-seen-requires : tie.Need-output-seen-requires Inv-loop μ-loop
 output-seen-requires c κs = search needs
 
 check-record-requires : tie.Need-check-record-requires Inv-loop μ-loop
-check-record-requires c κs = search (needs, deep-serves)
+check-record-requires c κs = search (needs, met-serves)
 
 enum-told : tie.Need-enum-told Inv-loop μ-loop
 enum-told c = search needs
@@ -45,7 +39,7 @@ enum-known-checked : tie.Need-enum-known-checked Inv-loop μ-loop
 enum-known-checked c = search needs
 
 returns : tie.Need-returns Inv-loop μ-loop
-returns c = search scan-stop
+returns c = search (scan-stop, record-checked)
 
 add-k : tie.Need-add-k Inv-loop μ-loop
 add-k c = search needs
@@ -54,7 +48,7 @@ loop-less : tie.Need-loop-less Inv-loop μ-loop
 loop-less c = search needs
 
 loop-again : tie.Need-loop-again Inv-loop μ-loop
-loop-again c = (search needs, search needs, scan-more _ _ _ _ (search needs) (search needs) (c .before .before .check-record .ensures) (search needs))
+loop-again c = (search met-more, search (scan-more, record-checked))
 
 returns-2 : tie.Need-returns-2 Inv-loop μ-loop
 returns-2 c = search scan-end
@@ -66,9 +60,9 @@ check-records-spec =
     Inv-loop
     μ-loop
     loop-holds
-    cast-first-level
+    cast-read-at
+    read-at-requires
     first-level-requires
-    cast-output-seen
     output-seen-requires
     check-record-requires
     enum-told

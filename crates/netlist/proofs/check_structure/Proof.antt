@@ -4,17 +4,11 @@ use Rattle.netlist.proofs.Checks.{kind-bad, inversion-bad, slots-bad, s
 use Rattle.netlist.proofs.check_structure.Statement.{statement}
 use Rattle.netlist.proofs.check_structure.Tie as tie
 
-kind-of-requires : tie.Need-kind-of-requires
-kind-of-requires c κs = search needs
-
 returns : tie.Need-returns
 returns c = search kind-bad
 
 inversions-requires : tie.Need-inversions-requires
 inversions-requires c κs = search needs
-
-inversion-of-requires : tie.Need-inversion-of-requires
-inversion-of-requires c κs = search needs
 
 returns-2 : tie.Need-returns-2
 returns-2 c = search inversion-bad
@@ -31,12 +25,4 @@ returns-4 c = search structure-good
 pub check-structure-spec : {M : Type 1} → statement M
 check-structure-spec =
     tie.close
-    (tie.spec
-    kind-of-requires
-    returns
-    inversions-requires
-    inversion-of-requires
-    returns-2
-    bad-slots-requires
-    returns-3
-    returns-4)
+    (tie.spec returns inversions-requires returns-2 bad-slots-requires returns-3 returns-4)

@@ -20,11 +20,8 @@ record-count-requires c κs = search needs
 loop-holds : tie.Need-loop-holds Inv-loop μ-loop
 loop-holds c = search (needs, seek-start)
 
-kind-at-requires : tie.Need-kind-at-requires Inv-loop μ-loop
-kind-at-requires c κs = search needs
-
-level-at-requires : tie.Need-level-at-requires Inv-loop μ-loop
-level-at-requires c κs = search needs
+record-at-requires : tie.Need-record-at-requires Inv-loop μ-loop
+record-at-requires c κs = search needs
 
 returns : tie.Need-returns Inv-loop μ-loop
 returns c = search depth-here
@@ -49,8 +46,7 @@ depth-spec =
     μ-loop
     record-count-requires
     loop-holds
-    kind-at-requires
-    level-at-requires
+    record-at-requires
     returns
     add-k
     loop-less

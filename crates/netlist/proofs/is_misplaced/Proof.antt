@@ -1,14 +1,7 @@
 -- `is_misplaced` meets its contract: each return follows from the tests that led there.
-use borrow.Author.Needs.{needs}
 use Rattle.netlist.proofs.Checks.{level-large, level-input, level-output, level-gate}
 use Rattle.netlist.proofs.is_misplaced.Statement.{statement}
 use Rattle.netlist.proofs.is_misplaced.Tie as tie
-
-kind-of-requires : tie.Need-kind-of-requires
-kind-of-requires c κs = search needs
-
-level-of-requires : tie.Need-level-of-requires
-level-of-requires c κs = search needs
 
 returns : tie.Need-returns
 returns c = search level-large
@@ -23,5 +16,4 @@ returns-4 : tie.Need-returns-4
 returns-4 c = search level-gate
 
 pub is-misplaced-spec : {M : Type 1} → statement M
-is-misplaced-spec =
-    tie.close (tie.spec kind-of-requires level-of-requires returns returns-2 returns-3 returns-4)
+is-misplaced-spec = tie.close (tie.spec returns returns-2 returns-3 returns-4)
