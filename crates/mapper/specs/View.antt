@@ -25,7 +25,7 @@ abbrev pub endsOf : Checked → Netlist → ℕ → ℕ → Ends
 endsOf Passed n s d = cond (isDriver (n .at d .kind)) (ownEnds n s d) noEnds
 endsOf (Refused number place) n s d = noEnds
 
--- none where the source and the capacity meet 1 to 9, or the record is no driver
+-- none where 1 to 9 refuse the source and the capacity, or the record is no driver
 unfoldable pub blockEnds : List ℕ → ℕ → ℕ → Ends
 blockEnds bytes s d = endsOf (sourceMaps bytes s) (netlist bytes) s d
 
