@@ -26,7 +26,7 @@ use Rattle.netlist.proofs.Checks.{arity-slots}
 use Rattle.fanout.specs.Answer.{driverCapacity}
 use Rattle.verifier.specs.Legal.{capacityOf}
 use Rattle.verifier.specs.Checks.{differs, noBuffer, slotChecks, placeChecks, traceCheck, feedCheck, legalChecks}
-use Rattle.verifier.specs.Walking.{Sized, Driven, PlacesPassed}
+use Rattle.verifier.specs.Walking.{Sized, PlacesPassed}
 use Rattle.verifier.specs.Feeding.{stop, more, fedOnce, fedBy, tally, badFanin, bufferChecks, Fed, FedAtMost, Tallied, TalliedIfPassed, capacityAt, countCheck}
 use Rattle.verifier.proofs.Checks.{slots-good, slots-passed, kept-bad, kept-slots, placed, placed-driven, scan-cong, scan-onward, scan-early, legal-places, legal-traces, legal-feeds}
 
@@ -338,9 +338,6 @@ module _ (n m : Netlist) (records size : ℕ) (sized : Sized n m records size) (
     module _ (p : a ≡ Passed) where
       pub places-placed : PlacesPassed n m
       places-placed = placed n m (omega (arith, sized .records, sized .size, sized .whole)) (sym (c .answer) ∙ p)
-
-      pub places-driven : Driven records m
-      places-driven = placed-driven n m records size sized places-placed
 
       pub counts-room : size ≤ length counts
       counts-room = omega (arith, c .tallied p .room, sized .size)

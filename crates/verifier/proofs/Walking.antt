@@ -21,11 +21,11 @@ use Rattle.netlist.specs.declared.Record.{Record}
 use Rattle.netlist.specs.Kinds.{buffer, arity}
 use Rattle.netlist.specs.Records.{Netlist, netlist, recordAt, recordCount, slot, fanin}
 use Rattle.verifier.specs.Trace.{walk, driver}
-use Rattle.verifier.specs.Walking.{Sized, Driven, Buffering, unknown, Known, knownDriver, PlacesPassed, Traceable, Traced, SlotsTraceable, SlotsTraced}
+use Rattle.verifier.specs.Walking.{Sized, Driven, Buffering, unknown, Known, knownDriver, PlacesPassed, Walkable, Traceable, Traced, SlotsTraceable, SlotsTraced}
 use Rattle.verifier.specs.Feeding.{stop, badFanin, bufferChecks, Fed, Tallied, TalliedIfPassed}
 use Rattle.verifier.specs.Checks.{noBuffer, placeChecks, strays, traceCheck}
 use Rattle.verifier.proofs.Trace.{walk-here, walk-back, buffer-named, buffer-level, driver-back}
-use Rattle.verifier.proofs.Checks.{driven, place-buffer}
+use Rattle.verifier.proofs.Checks.{driven, placed-driven, place-buffer}
 use Rattle.verifier.proofs.Feeding.{tallied-start, buffer-kind, Tallying, tallying-onward, tallying-end, tallying-stop, tallying-more}
 
 -- one driver more is known
@@ -43,6 +43,10 @@ keep m drivers x d k l e =
                 q ∙ k .right y h (λ u. f (q ∙ u))
           ];
     }
+
+-- there is an entry for every record
+pub entry-room : (m : Netlist) (drivers : List ℕ) (size x : ℕ) → Known m drivers → size ≡ m .size → x < size → x < length drivers
+entry-room m drivers size x k e l = omega (arith, k .room)
 
 known-none : (m : Netlist) (entries : ℕ) → m .size ≤ entries → Known m (replicate entries unknown)
 known-none m entries l =
@@ -118,6 +122,9 @@ module _ (n : ℕ) (m : Netlist) (drivers : List ℕ) (level x : ℕ) (w : Trace
   walk-found h =
       record { ends = w .known .right x (w .here) h; known = w .known }
 
+  pub walk-on : (t : ℕ) → level + level + 1 ≡ t → level + level < t
+  walk-on t h = omega arith
+
   module _ (l : n ≤ x) where
     is-buffer : m .at x .kind ≡ buffer
     is-buffer = w .walkable .buffers x l (w .here)
@@ -129,7 +136,7 @@ module _ (n : ℕ) (m : Netlist) (drivers : List ℕ) (level x : ℕ) (w : Trace
     pub walk-level : 1 ≤ level
     walk-level = omega (arith, lower)
 
-    pub walk-falls : (t : ℕ) → level ≡ t → level - 1 < t
+    pub walk-falls : (t : ℕ) → level + level ≡ t → level - 1 + (level - 1) + 1 < t
     walk-falls t h = omega (arith, lower)
 
     module _ (z : ℕ) (f : z ≡ slot (m .at x) 0) where
@@ -146,6 +153,22 @@ module _ (n : ℕ) (m : Netlist) (drivers : List ℕ) (level x : ℕ) (w : Trace
       walk-keeps d after v =
           let ends : d ≡ driver m x = v .ends ∙ rw f (sym (driver-back m (w .walkable .named) (w .walkable .balanced) x (w .here) is-buffer)) in
           record { ends = ends; known = keep m after x d (v .known) (w .here) (λ u. ends) }
+
+-- once 12 to 15 passed, buffers and slots may be walked from
+pub passed-walkable : (n m : Netlist) (first all : ℕ) → Sized n m first all → PlacesPassed n m → Walkable first m
+passed-walkable n m first all sized p =
+    record {
+      driven = placed-driven n m first all sized p;
+      buffers = λ x b h. p .buffers x (rw (sized .records) at b) h;
+      named = p .named;
+      balanced = p .balanced;
+    }
+
+pub buffer-traceable :
+    (n : ℕ) (m : Netlist) (drivers : List ℕ) (size k level : ℕ) → Walkable n m → Known m drivers → size ≡ m .size → k < size → level ≡ m .at k .level →
+    Traceable n m drivers level k
+buffer-traceable n m drivers size k level w known e l h =
+    record { walkable = w; here = rw e at l; stands = h; known = known }
 
 -- no slot below j strays, and what is known is right
 pub record NoneStrayed (m : Netlist) (a r : Record) (n : ℕ) (drivers : List ℕ) (j : ℕ) : Type 0 where
@@ -207,7 +230,10 @@ module _ (source mapped : List ℕ) (drivers : List ℕ) where
   pub tracing-start : Known (netlist mapped) drivers → Tracing (netlist source) (netlist mapped) drivers 0
   tracing-start known = record { scanning = scan-start (traceCheck (netlist source) (netlist mapped)) (recordCount source); known = known }
 
-  module _ (k n : ℕ) (e : n ≡ recordCount source) (i : Tracing (netlist source) (netlist mapped) drivers k) where
+  module _ (k n all : ℕ) (sized : Sized (netlist source) (netlist mapped) n all) (i : Tracing (netlist source) (netlist mapped) drivers k) where
+    e : n ≡ recordCount source
+    e = sized .records
+
     pub tracing-end : n ≤ k → Passed ≡ scan (traceCheck (netlist source) (netlist mapped)) 0 (recordCount source)
     tracing-end l = scan-end (traceCheck (netlist source) (netlist mapped)) (recordCount source) k (i .scanning) (rw e at l)
 
@@ -219,16 +245,10 @@ module _ (source mapped : List ℕ) (drivers : List ℕ) where
         stands : k < recordCount mapped
         stands = omega (arith, w .whole)
 
-        pub tracing-slots : Driven n (netlist mapped) → SlotsTraceable n (netlist mapped) drivers r (arity (a .kind))
-        tracing-slots d =
+        pub tracing-slots : SlotsTraceable n (netlist mapped) drivers r (arity (a .kind))
+        tracing-slots =
             record {
-              walkable =
-                  record {
-                    driven = d;
-                    buffers = λ x b h. w .buffers x (rw e at b) h;
-                    named = w .named;
-                    balanced = w .balanced;
-                  };
+              walkable = passed-walkable (netlist source) (netlist mapped) n all sized w;
               slots = λ j h. rw q (w .named k j stands (uses j h));
               lower = λ j h. rw q (w .balanced k j stands (uses j h));
               known = i .known;

@@ -6,17 +6,17 @@ ghost use lib.ListN.{length};
 ghost use Rattle.facts.specs.Checks.{scan};
 ghost use Rattle.facts.specs.Sums.{any};
 ghost use Rattle.netlist.specs.Kinds;
-ghost use Rattle.netlist.specs.Kinds.{slots};
+ghost use Rattle.netlist.specs.Kinds.{slots, mappedLimit};
 ghost use Rattle.netlist.specs.Records;
 ghost use Rattle.netlist.specs.Records.{netlist, recordCount};
 ghost use Rattle.netlist.specs.Source.{IsSource};
 ghost use Rattle.verifier.specs.Walking.{
   Sized,
   PlacesPassed,
-  Driven,
   Buffering,
   Known,
   knownDriver,
+  Walkable,
   Traceable,
   Traced,
   SlotsTraceable,
@@ -291,7 +291,7 @@ fn check_buffers(
     Checked::Passed
 }
 
-// The driver of record x: x itself below n, where no buffer stands, else what its fanin's walk finds, which is kept. The level falls at each call.
+// The driver of record x: x itself below n, where no buffer stands; of a buffer what is known, or what the walk back from it finds.
 fn walk(mapped: &[u8], n: u32, drivers: &mut [u16], level: u16, x: u16) -> u16
     requires { ⌜ Traceable n (netlist (now mapped)) (now drivers) level x ⌝ }
     ensures { λ d. ⌜ Traced (netlist (now (mapped .entry))) x d (now (drivers .exit)) ⌝ }
@@ -303,6 +303,15 @@ fn walk(mapped: &[u8], n: u32, drivers: &mut [u16], level: u16, x: u16) -> u16
     if found != UNKNOWN {
         return found;
     }
+    walk_back(mapped, n, drivers, level, x)
+}
+
+// The driver of buffer x, by a walk from its slot, one level lower; it is kept for the next walk.
+fn walk_back(mapped: &[u8], n: u32, drivers: &mut [u16], level: u16, x: u16) -> u16
+    requires { ⌜ Traceable n (netlist (now mapped)) (now drivers) level x ⌝ }
+    requires { ⌜ n ≤ x ⌝ }
+    ensures { λ d. ⌜ Traced (netlist (now (mapped .entry))) x d (now (drivers .exit)) ⌝ }
+{
     let d = walk(
         mapped,
         n,
@@ -312,6 +321,29 @@ fn walk(mapped: &[u8], n: u32, drivers: &mut [u16], level: u16, x: u16) -> u16
     );
     drivers[x as usize] = d;
     d
+}
+
+// Walks back from each buffer whose driver is not known yet, so that no walk from a source record goes further than one record.
+fn walk_buffers(mapped: &[u8], n: u32, m: u32, drivers: &mut [u16])
+    requires { ⌜ Walkable n (netlist (now mapped)) ⌝ }
+    requires { ⌜ m ≡ recordCount (now mapped) ⌝ }
+    requires { ⌜ m ≤ mappedLimit ⌝ }
+    requires { ⌜ Known (netlist (now mapped)) (now drivers) ⌝ }
+    ensures { λ _. ⌜ Known (netlist (now (mapped .entry))) (now (drivers .exit)) ⌝ }
+{
+    let mut k = n;
+    while k < m {
+        if drivers[k as usize] == UNKNOWN {
+            walk_back(
+                mapped,
+                n,
+                drivers,
+                netlist::level_at(mapped, k as usize),
+                k as u16,
+            );
+        }
+        k += 1;
+    }
 }
 
 // Check 16 of the first `used` slots of a source record a that stands mapped as r: one is traced to another driver.
@@ -344,13 +376,13 @@ fn used_strays(mapped: &[u8], n: u32, drivers: &mut [u16], a: Record, r: Record)
 }
 
 // Check 16 of every source record, rising.
-fn check_traces(source: &[u8], mapped: &[u8], n: u32, drivers: &mut [u16]) -> Checked
-    requires { ⌜ n ≡ recordCount (now source) ⌝ }
-    requires { ⌜ Driven n (netlist (now mapped)) ⌝ }
+fn check_traces(source: &[u8], mapped: &[u8], n: u32, m: u32, drivers: &mut [u16]) -> Checked
+    requires { ⌜ Sized (netlist (now source)) (netlist (now mapped)) n m ⌝ }
     requires { ⌜ PlacesPassed (netlist (now source)) (netlist (now mapped)) ⌝ }
     requires { ⌜ Known (netlist (now mapped)) (now drivers) ⌝ }
     ensures { λ a. ⌜ a ≡ scan (traceCheck (netlist (now (source .entry))) (netlist (now (mapped .entry)))) 0 (recordCount (now (source .entry))) ⌝ }
 {
+    walk_buffers(mapped, n, m, drivers);
     let mut k: u32 = 0;
     while k < n {
         if used_strays(
@@ -445,7 +477,7 @@ fn check_with(
             return Checked::Refused(number, place);
         }
     }
-    let traced = check_traces(source, mapped, n, drivers);
+    let traced = check_traces(source, mapped, n, m, drivers);
     match traced {
         Checked::Passed => check_counts(counts, capacity, n, m),
         Checked::Refused(number, place) => Checked::Refused(number, place),

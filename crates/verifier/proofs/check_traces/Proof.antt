@@ -4,15 +4,18 @@ use Prim.Native.Nat.{_-_}
 use mathlib.Core.Path.{_≡_}
 use lib.ListN.{length}
 use Rattle.netlist.specs.Records.{netlist}
-use Rattle.verifier.proofs.Walking.{Tracing, tracing-start, tracing-end, tracing-slots, tracing-more, tracing-stop}
+use Rattle.verifier.proofs.Walking.{passed-walkable, Tracing, tracing-start, tracing-end, tracing-slots, tracing-more, tracing-stop}
 use Rattle.verifier.proofs.check_traces.Statement.{statement}
 use Rattle.verifier.proofs.check_traces.Tie as tie
 
 abbrev Inv-loop : tie.InvT-loop
-Inv-loop source mapped n drivers₀ k₀ drivers k = Tracing (netlist source) (netlist mapped) drivers k × (length drivers ≡ length drivers₀)
+Inv-loop source mapped n m drivers₀ k₀ drivers k = Tracing (netlist source) (netlist mapped) drivers k × (length drivers ≡ length drivers₀)
 
 abbrev μ-loop : tie.MeasureT-loop
-μ-loop source mapped n drivers₀ k₀ drivers k = n - k
+μ-loop source mapped n m drivers₀ k₀ drivers k = n - k
+
+walk-buffers-requires : tie.Need-walk-buffers-requires Inv-loop μ-loop
+walk-buffers-requires c κs = search (needs, passed-walkable)
 
 loop-holds : tie.Need-loop-holds Inv-loop μ-loop
 loop-holds c = search (needs, tracing-start)
@@ -45,7 +48,7 @@ loop-less : tie.Need-loop-less Inv-loop μ-loop
 loop-less c = search needs
 
 loop-again : tie.Need-loop-again Inv-loop μ-loop
-loop-again c = (search tracing-more, search needs)
+loop-again c = (search (tracing-more, c .before .before .before .before .before .before .before .before .before .before .before .before .before .before .before .before .pre .0), search needs)
 
 same-length-2 : tie.Need-same-length-2 Inv-loop μ-loop
 same-length-2 c = search needs
@@ -59,6 +62,7 @@ check-traces-spec =
     (tie.spec
     Inv-loop
     μ-loop
+    walk-buffers-requires
     loop-holds
     cast-record-at
     record-at-requires

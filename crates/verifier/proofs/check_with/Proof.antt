@@ -1,6 +1,6 @@
 -- `check_with` meets its contract: the records below the source's size, the buffers, the traces, then the feeding.
 use borrow.Author.Needs.{needs}
-use Rattle.verifier.proofs.Feeding.{tallied-passed, tallied-counts, kept-refused, added-refused, places-placed, places-driven, counts-room, traced-refused, feeds-decide}
+use Rattle.verifier.proofs.Feeding.{tallied-passed, tallied-counts, kept-refused, added-refused, places-placed, counts-room, traced-refused, feeds-decide}
 use Rattle.verifier.proofs.check_with.Statement.{statement}
 use Rattle.verifier.proofs.check_with.Tie as tie
 
@@ -41,7 +41,7 @@ check-traces-requires : tie.Need-check-traces-requires
 check-traces-requires c κs =
     let sized = c .before .before .before .before .before .before .before .before .before .before .before .before .before .before .before .before .before .before .before .before .pre .0 in
     let d = c .before .before .before .before .before .before .before .check-buffers .ensures .0 in
-    (search needs, (places-driven _ _ _ _ sized _ _ d (search needs), (places-placed _ _ _ _ sized _ _ d (search needs), search needs)))
+    (sized, (places-placed _ _ _ _ sized _ _ d (search needs), search needs))
 
 enum-told-3 : tie.Need-enum-told-3
 enum-told-3 c = search needs
