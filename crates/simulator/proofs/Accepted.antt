@@ -16,7 +16,7 @@ use Rattle.simulator.specs.Logic.{inputs}
 use Rattle.simulator.specs.Evaluate.{bitChecks, evaluateChecks, evaluateAnswer}
 use Rattle.simulator.specs.Step.{stepChecks, stepAnswer}
 use Rattle.simulator.specs.Run.{runChecks, runAnswer}
-use Rattle.simulator.specs.Waves.{IsRow, IsRun}
+use Rattle.simulator.specs.PrivateRun.{IsRow, IsRun}
 
 module _ (source : List ℕ) (s : ℕ) (mapped : List ℕ) where
   -- a step is accepted exactly where the judge accepts, the row is one and the state area has 2 × M bytes

@@ -24,9 +24,10 @@ use Rattle.simulator.specs.Logic.{isInput, inputs, outputs, values}
 use Rattle.simulator.specs.Evaluate.{bitCheck, bitChecks, badAreas, evaluateChecks, evaluateAnswer, evaluateArea}
 use Rattle.netlist.specs.Source.{IsSource}
 use Rattle.verifier.specs.Legal.{Named}
-use Rattle.simulator.specs.Step.{rowLimit, badRows, stepped, Buffered, stepChecks, stepAnswer, stepArea}
+use Rattle.simulator.specs.Step.{rowLimit, badRows, stepped, stepChecks, stepAnswer, stepArea}
+use Rattle.simulator.specs.PrivateStep.{Buffered}
 use Rattle.simulator.specs.Run.{after, steps, outputRows, badOutputs, runChecks, runAnswer, runArea, runOutputs}
-use Rattle.simulator.specs.Waves.{IsRun}
+use Rattle.simulator.specs.PrivateRun.{IsRun}
 use Rattle.simulator.proofs.Accepted.{evaluate-passed, step-passed, run-passed}
 
 module _ (row : List ℕ) (n k : ℕ) (s : Scanning (bitCheck row) n k) where

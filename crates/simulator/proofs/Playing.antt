@@ -18,12 +18,12 @@ use Rattle.netlist.specs.Records.{netlist, recordAt, recordCount, isOutput}
 use Rattle.netlist.specs.Records
 use Rattle.simulator.specs.Logic
 use Rattle.simulator.specs.Logic.{isInput, inputs, outputs, outputsBelow, outputRow}
-use Rattle.simulator.specs.Run.{rowAt, OutputRoom, putOutput, after, steps, outputRows}
+use Rattle.simulator.specs.Run.{rowAt, after, steps, outputRows}
+use Rattle.simulator.specs.PrivateRun.{OutputRoom, putOutput, Steppable, ShapeOf, Playable, IsRun}
 use Rattle.verifier.specs.Legal.{Named}
-use Rattle.simulator.specs.Step.{rowLimit, stepped, Buffered}
+use Rattle.simulator.specs.Step.{rowLimit, stepped}
+use Rattle.simulator.specs.PrivateStep.{Buffered}
 use Rattle.simulator.specs.declared.Shape.{Shape}
-use Rattle.simulator.specs.Shape.{Steppable, ShapeOf, Playable}
-use Rattle.simulator.specs.Waves.{IsRun}
 use Rattle.simulator.proofs.Rows.{length-after, length-outputRows}
 use Rattle.simulator.proofs.Writes.{Written, length-written, take-written, drop-written, written-more, written-none, written-all}
 

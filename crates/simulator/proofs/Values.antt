@@ -18,8 +18,8 @@ use Rattle.netlist.specs.declared.Record.{Record}
 use Rattle.netlist.specs.Kinds.{arity, input, and, or, majority, isGate}
 use Rattle.netlist.specs.Records.{Netlist, slot}
 use Rattle.netlist.proofs.Checks.{arity-slots}
-use Rattle.simulator.specs.Shape.{Wired, readIn, thirdIn}
-use Rattle.simulator.specs.Logic.{on, ofKind, turned, onesBelow, gate, functionIn, valueIn}
+use Rattle.simulator.specs.PrivateLogic.{Wired, readIn, thirdIn, functionIn, valueIn}
+use Rattle.simulator.specs.Logic.{on, ofKind, turned, onesBelow, gate}
 
 -- past its end an area holds 0
 pub off-past : (area : List ℕ) (i : ℕ) → length area ≤ i → false ≡ on area i

@@ -14,11 +14,12 @@ use Rattle.facts.specs.Sums.{bit, sum, count}
 use Rattle.facts.proofs.Sums.{bit-le}
 use Rattle.netlist.specs.Kinds.{input}
 use Rattle.netlist.specs.Records.{Netlist, netlist, recordAt, recordCount, slot, fanin, tabulate}
-use Rattle.simulator.specs.Logic.{on, isInput, valueIn, next, values}
+use Rattle.simulator.specs.Logic.{on, isInput, next, values}
+use Rattle.simulator.specs.PrivateLogic.{valueIn, Wired}
 use Rattle.netlist.specs.Source.{IsSource}
 use Rattle.verifier.specs.Legal.{Named}
-use Rattle.simulator.specs.Shape.{Wired}
-use Rattle.simulator.specs.Step.{renewedBelow, older, stepped, Buffered, copied}
+use Rattle.simulator.specs.Step.{renewedBelow, older, stepped}
+use Rattle.simulator.specs.PrivateStep.{Buffered, copied}
 use Rattle.netlist.proofs.Lists.{getD-tabulate}
 use Rattle.simulator.proofs.Areas.{on-bit, tabulate-cong}
 use Rattle.simulator.proofs.Logic.{next-cong}

@@ -4,5 +4,7 @@ pub mod Step
 pub mod Run
 pub mod Waves
 pub mod Claims
-pub mod Shape
+pub mod PrivateLogic
+pub mod PrivateStep
+pub mod PrivateRun
 pub mod Refusals

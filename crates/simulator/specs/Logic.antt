@@ -56,13 +56,6 @@ function held r = gate (r .kind) (r .inversion) (λ j. held (slot r j))
 abbrev pub valueOf : Record → Bool → (ℕ → Bool) → Bool
 valueOf r given held = cond (eqb (r .kind) input) given (function held r)
 
--- both, where an area says what each record holds
-unfoldable pub functionIn : Record → List ℕ → Bool
-functionIn r area = function (on area) r
-
-unfoldable pub valueIn : Record → Bool → List ℕ → Bool
-valueIn r given area = valueOf r given (on area)
-
 -- what record i holds next: the k-th input, from 0, is given byte k of the row
 unfoldable pub next : Netlist → List ℕ → (ℕ → Bool) → ℕ → Bool
 next m row held i = valueOf (m .at i) (on row (count (isInput m) i)) held

@@ -1,9 +1,8 @@
 -- Document 01, the phase run: the step over and over from zeros, what the call answers and what its areas hold afterwards.
-use Prim.Native.Nat.{ℕ, zero, suc, _+_, _*_, _<_}
-use mathlib.Core.Path.{_≡_}
-use mathlib.Core.Bool.{Bool, true, cond, not}
+use Prim.Native.Nat.{ℕ, zero, suc, _+_, _*_}
+use mathlib.Core.Bool.{Bool, cond, not}
 use mathlib.Core.List.{List, [], _++_}
-use lib.ListN.{length, take, drop, set, replicate}
+use lib.ListN.{length, take, drop, replicate}
 use lib.Dec.{eqb}
 use Rattle.facts.specs.declared.Checked.{Checked}
 use Rattle.facts.specs.Checks.{check, _andThen_}
@@ -62,11 +61,3 @@ runOutputs source s mapped count rows area outs =
     written (runAnswer source s mapped count rows area outs)
     (outputRows (netlist source) (netlist mapped) rows count)
     outs
-
--- where an output's byte goes there is room
-pub record OutputRoom (is : Bool) (k : ℕ) (row : List ℕ) : Type 0 where
-  pub room : is ≡ true → k < length row
-
--- a list with byte b at k, if it is an output's
-abbrev pub putOutput : Bool → ℕ → ℕ → List ℕ → List ℕ
-putOutput is k b row = cond is (set row k b) row

@@ -1,15 +1,13 @@
 -- Document 01, one step: the state area after it, what the call answers and what its area holds afterwards.
-use Prim.Native.Nat.{ℕ, _+_, _*_, _<_, _≤_}
-use mathlib.Core.Path.{_≡_}
+use Prim.Native.Nat.{ℕ, _*_}
 use mathlib.Core.Bool.{Bool, not, _||_}
 use mathlib.Core.List.{List, _++_}
-use lib.ListN.{length, take, getD}
+use lib.ListN.{length, take}
 use lib.Dec.{ltb, eqb}
 use Rattle.facts.specs.declared.Checked.{Checked}
 use Rattle.facts.specs.Checks.{check, _andThen_}
 use Rattle.facts.specs.Sums.{bit}
-use Rattle.netlist.specs.Kinds.{buffer}
-use Rattle.netlist.specs.Records.{Netlist, netlist, recordCount, recordAt, slot, tabulate}
+use Rattle.netlist.specs.Records.{Netlist, netlist, tabulate}
 use Rattle.verifier.specs.Checks.{verifyChecks}
 use Rattle.simulator.specs.Logic.{on, inputs, next}
 use Rattle.simulator.specs.Evaluate.{written, bitChecks}
@@ -33,17 +31,6 @@ older n area = tabulate (λ i. bit (on area i)) n
 -- the state area after one step: the new values, worked out from the first M bytes, then the older ones
 unfoldable pub stepped : Netlist → List ℕ → List ℕ → List ℕ
 stepped m row area = renewed m row (take (m .size) area) ++ older (m .size) area
-
--- from record n on, a mapped netlist's records are buffers that name one of its records
-pub record Buffered (mapped : List ℕ) (n : ℕ) : Type 0 where
-  pub within : n ≤ recordCount mapped
-  pub kind : (i : ℕ) → n ≤ i → i < recordCount mapped → recordAt mapped i .kind ≡ buffer
-  pub inversion : (i : ℕ) → n ≤ i → i < recordCount mapped → recordAt mapped i .inversion ≡ 0
-  pub named : (i : ℕ) → n ≤ i → i < recordCount mapped → slot (recordAt mapped i) 0 < recordCount mapped
-
--- what the k records from n on copy out of an area
-unfoldable pub copied : List ℕ → List ℕ → ℕ → ℕ → List ℕ
-copied mapped held n k = tabulate (λ j. getD held (slot (recordAt mapped (n + j)) 0) 0) k
 
 -- 18: too many rows, or rows or a state area of another length; n the source, m the mapped netlist
 abbrev pub badRows : Netlist → Netlist → ℕ → List ℕ → List ℕ → Bool

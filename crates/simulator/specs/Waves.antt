@@ -1,29 +1,13 @@
 -- Document 01, 'What demand 3 compares': rows, and a list of one-step calls on one state area.
-use Prim.Native.Nat.{ℕ, _*_, _<_, _≤_}
-use mathlib.Core.Path.{_≡_}
+use Prim.Native.Nat.{ℕ}
 use mathlib.Core.Bool.{cond}
 use mathlib.Core.List.{List, [], _∷_}
-use lib.ListN.{length, getD, replicate}
+use lib.ListN.{replicate}
 use lib.Dec.{ltb}
 use Rattle.facts.specs.declared.Checked.{Checked}
 use Rattle.facts.specs.declared.Checked.the-variants.{Passed, Refused}
-use Rattle.netlist.specs.Records.{Netlist}
-use Rattle.simulator.specs.Logic.{inputs, outputs}
-use Rattle.simulator.specs.Step.{rowLimit, stepAnswer, stepArea}
+use Rattle.simulator.specs.Step.{stepAnswer, stepArea}
 use Rattle.simulator.specs.Run.{rowAt}
-
--- a row: one byte, 0 or 1, for each input
-pub record IsRow (n : Netlist) (row : List ℕ) : Type 0 where
-  pub long : length row ≡ inputs n
-  pub bits : (k : ℕ) → k < length row → getD row k 0 ≤ 1
-
--- the areas of a run of r rows: every byte of the rows is 0 or 1
-pub record IsRun (n m : Netlist) (r : ℕ) (rows area outs : List ℕ) : Type 0 where
-  pub few : r ≤ rowLimit
-  pub long : length rows ≡ r * inputs n
-  pub bits : (k : ℕ) → k < length rows → getD rows k 0 ≤ 1
-  pub state : length area ≡ 2 * m .size
-  pub room : length outs ≡ r * outputs n
 
 -- the row of step k of a run of r rows of w bytes each: row k, and zeros once they are spent
 abbrev pub rowOfStep : ℕ → List ℕ → ℕ → ℕ → List ℕ

@@ -1,0 +1,28 @@
+-- `check_run` meets its contract: the judge first, the areas where it accepted.
+use Rattle.simulator.proofs.Checks.{judged-few, run-judged, run-checked}
+use borrow.Author.Needs.{needs}
+use Rattle.simulator.proofs.area_checks.check_run.Statement.{statement}
+use Rattle.simulator.proofs.area_checks.check_run.Tie as tie
+
+check-mapping-requires : tie.Need-check-mapping-requires
+check-mapping-requires c κs = search needs
+
+enum-told : tie.Need-enum-told
+enum-told c = search needs
+
+check-rows-requires : tie.Need-check-rows-requires
+check-rows-requires c κs = search judged-few
+
+enum-known-judged : tie.Need-enum-known-judged
+enum-known-judged c = search needs
+
+returns : tie.Need-returns
+returns c = search run-checked
+
+returns-2 : tie.Need-returns-2
+returns-2 c = search run-judged
+
+pub check-run-spec : {M : Type 1} → statement M
+check-run-spec =
+    tie.close
+    (tie.spec check-mapping-requires enum-told check-rows-requires enum-known-judged returns returns-2)

@@ -1,0 +1,28 @@
+-- `check_step` meets its contract: the judge first, the areas where it accepted.
+use Rattle.simulator.proofs.Checks.{judged-few, step-judged, step-checked}
+use borrow.Author.Needs.{needs}
+use Rattle.simulator.proofs.area_checks.check_step.Statement.{statement}
+use Rattle.simulator.proofs.area_checks.check_step.Tie as tie
+
+check-mapping-requires : tie.Need-check-mapping-requires
+check-mapping-requires c κs = search needs
+
+enum-told : tie.Need-enum-told
+enum-told c = search needs
+
+check-row-requires : tie.Need-check-row-requires
+check-row-requires c κs = search judged-few
+
+enum-known-judged : tie.Need-enum-known-judged
+enum-known-judged c = search needs
+
+returns : tie.Need-returns
+returns c = search step-checked
+
+returns-2 : tie.Need-returns-2
+returns-2 c = search step-judged
+
+pub check-step-spec : {M : Type 1} → statement M
+check-step-spec =
+    tie.close
+    (tie.spec check-mapping-requires enum-told check-row-requires enum-known-judged returns returns-2)

@@ -1,0 +1,17 @@
+-- `third` meets its contract: MAJ uses three slots.
+use borrow.Author.Needs.{needs}
+use Rattle.simulator.proofs.Values.{third-used, third-read, third-fixed}
+use Rattle.simulator.proofs.plain_logic.third.Statement.{statement}
+use Rattle.simulator.proofs.plain_logic.third.Tie as tie
+
+read-slot-requires : tie.Need-read-slot-requires
+read-slot-requires c κs = search (needs, third-used)
+
+returns : tie.Need-returns
+returns c = search third-read
+
+returns-2 : tie.Need-returns-2
+returns-2 c = search third-fixed
+
+pub third-spec : {M : Type 1} → statement M
+third-spec = tie.close (tie.spec read-slot-requires returns returns-2)
