@@ -25,8 +25,8 @@ use Rattle.netlist.specs.Source.{IsSource}
 use Rattle.netlist.specs.Checks.{inputChecks}
 use Rattle.netlist.proofs.Source.{input-passed, no-buffer}
 use Rattle.verifier.specs.Checks.{badEmpty, differs, noBuffer, badName, notOneLower, slotChecks, placeChecks, traceCheck, feedCheck, badLength, legalChecks, mappedChecks, verifyChecks}
-use Rattle.verifier.specs.Walking.{Sized, Driven, PlacesPassed}
-use Rattle.verifier.specs.Feeding.{stop, badFanin, bufferChecks}
+use Rattle.verifier.specs.PrivateWalking.{Sized, Driven, PlacesPassed}
+use Rattle.verifier.specs.PrivateFeeding.{stop, badFanin, bufferChecks}
 
 -- a blank record's slots name nothing
 blank-slot : (j : ℕ) → slot blank j ≡ unused

@@ -26,8 +26,8 @@ use Rattle.netlist.proofs.Checks.{arity-slots}
 use Rattle.fanout.specs.Answer.{driverCapacity}
 use Rattle.verifier.specs.Legal.{capacityOf}
 use Rattle.verifier.specs.Checks.{differs, noBuffer, slotChecks, placeChecks, traceCheck, feedCheck, legalChecks}
-use Rattle.verifier.specs.Walking.{Sized, PlacesPassed}
-use Rattle.verifier.specs.Feeding.{stop, more, fedOnce, fedBy, tally, badFanin, bufferChecks, Fed, FedAtMost, Tallied, TalliedIfPassed, capacityAt, countCheck}
+use Rattle.verifier.specs.PrivateWalking.{Sized, PlacesPassed}
+use Rattle.verifier.specs.PrivateFeeding.{stop, more, fedOnce, fedBy, tally, badFanin, bufferChecks, Fed, FedAtMost, Tallied, TalliedIfPassed, capacityAt, countCheck}
 use Rattle.verifier.proofs.Checks.{slots-good, slots-passed, kept-bad, kept-slots, placed, placed-driven, scan-cong, scan-onward, scan-early, legal-places, legal-traces, legal-feeds}
 
 module _ (counts : List ℕ) (x : ℕ) where

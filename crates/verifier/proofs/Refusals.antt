@@ -22,7 +22,7 @@ use Rattle.netlist.specs.Checks.{ragged}
 use Rattle.netlist.proofs.Refusals.{input-first, input-rows}
 use Rattle.verifier.specs.declared.Verified.the-variants.{Refused}
 use Rattle.verifier.specs.Legal.{capacityOf}
-use Rattle.verifier.specs.Walking.{PlacesPassed}
+use Rattle.verifier.specs.PrivateWalking.{PlacesPassed}
 use Rattle.verifier.specs.Trace.{driver}
 use Rattle.verifier.specs.Checks.{badLength, badEmpty, differs, noBuffer, changed, foreign, badName, notOneLower, strays, placeChecks, traceCheck, feedCheck, legalChecks, mappedChecks, verifyChecks, verified, bufferCount}
 use Rattle.verifier.specs.Refusals.{BadLength, Changed, Foreign, BadNames, Unbalanced, Strays, KeepFails, SlotsFail, PlaceFails, TraceFails, FeedFails, LegalFails, MappedFails, VerifyFails, RefusedExactly}

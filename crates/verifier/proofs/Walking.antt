@@ -21,8 +21,8 @@ use Rattle.netlist.specs.declared.Record.{Record}
 use Rattle.netlist.specs.Kinds.{buffer, arity}
 use Rattle.netlist.specs.Records.{Netlist, netlist, recordAt, recordCount, slot, fanin}
 use Rattle.verifier.specs.Trace.{walk, driver}
-use Rattle.verifier.specs.Walking.{Sized, Driven, Buffering, unknown, Known, knownDriver, PlacesPassed, Walkable, Traceable, Traced, SlotsTraceable, SlotsTraced}
-use Rattle.verifier.specs.Feeding.{stop, badFanin, bufferChecks, Fed, Tallied, TalliedIfPassed}
+use Rattle.verifier.specs.PrivateWalking.{Sized, Driven, Buffering, unknown, Known, knownDriver, PlacesPassed, Walkable, Traceable, Traced, SlotsTraceable, SlotsTraced}
+use Rattle.verifier.specs.PrivateFeeding.{stop, badFanin, bufferChecks, Fed, Tallied, TalliedIfPassed}
 use Rattle.verifier.specs.Checks.{noBuffer, placeChecks, strays, traceCheck}
 use Rattle.verifier.proofs.Trace.{walk-here, walk-back, buffer-named, buffer-level, driver-back}
 use Rattle.verifier.proofs.Checks.{driven, placed-driven, place-buffer}

@@ -4,6 +4,6 @@ pub mod Checks
 pub mod Fewest
 pub mod Accepted
 pub mod Balance
-pub mod Walking
-pub mod Feeding
+pub mod PrivateWalking
+pub mod PrivateFeeding
 pub mod Refusals

@@ -2,7 +2,7 @@
 use Prim.Native.Nat.{ℕ}
 use lib.ListN.{length-replicate}
 use Rattle.netlist.specs.Kinds.{mappedLimit}
-use Rattle.verifier.specs.Walking.{unknown}
+use Rattle.verifier.specs.PrivateWalking.{unknown}
 use Rattle.verifier.proofs.Walking.{fresh}
 use Rattle.verifier.proofs.check_legal.Statement.{statement}
 use Rattle.verifier.proofs.check_legal.Tie as tie

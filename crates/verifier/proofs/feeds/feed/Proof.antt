@@ -1,0 +1,28 @@
+-- `feed` meets its contract: at the stop nothing changes.
+use borrow.Author.Needs.{needs}
+use Rattle.verifier.proofs.Feeding.{feed-full, feed-more}
+use Rattle.verifier.proofs.feeds.feed.Statement.{statement}
+use Rattle.verifier.proofs.feeds.feed.Tie as tie
+
+slice-read-count : tie.Need-slice-read-count
+slice-read-count c = search needs
+
+add-counts : tie.Need-add-counts
+add-counts c = search needs
+
+slice-write-counts : tie.Need-slice-write-counts
+slice-write-counts c = search needs
+
+same-length : tie.Need-same-length
+same-length c = search needs
+
+returns : tie.Need-returns
+returns c = search feed-more
+
+returns-2 : tie.Need-returns-2
+returns-2 c = search feed-full
+
+pub feed-spec : {M : Type 1} → statement M
+feed-spec =
+    tie.close
+    (tie.spec slice-read-count add-counts slice-write-counts same-length returns returns-2)
