@@ -115,7 +115,13 @@ fn used_strays(mapped: &[u8], n: u32, drivers: &mut [u16], a: Record, r: Record)
 }
 
 // Check 16 of every source record, rising.
-pub(crate) fn check_traces(source: &[u8], mapped: &[u8], n: u32, m: u32, drivers: &mut [u16]) -> Checked
+pub(crate) fn check_traces(
+    source: &[u8],
+    mapped: &[u8],
+    n: u32,
+    m: u32,
+    drivers: &mut [u16],
+) -> Checked
     requires { ⌜ Sized (netlist (now source)) (netlist (now mapped)) n m ⌝ }
     requires { ⌜ PlacesPassed (netlist (now source)) (netlist (now mapped)) ⌝ }
     requires { ⌜ Known (netlist (now mapped)) (now drivers) ⌝ }
