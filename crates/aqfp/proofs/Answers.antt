@@ -1,14 +1,15 @@
 -- Laws of stored answers: four stores at a number's place store it, and numbers stored from 0 on are the whole area.
 use Prim.Native.Nat.{ℕ, suc, _+_, _*_, _/_, _%_, _≤_}
-use native.Mathlib.Numerals.{add-one, add-two, add-three}
 use native.Mathlib.Omega.{arith}
 use mathlib.Core.Path.{_≡_, refl, sym, ap, _∙_}
 use mathlib.Core.List.{List, [], _∷_, _++_, append-assoc, append-nil}
 use lib.ListN.{length, take, drop, set, length-append, length-take, length-drop}
-use lib.Seq.{sets-eq, take-all, take-at}
+use lib.Seq.{take-all, take-at}
 use Rattle.facts.specs.declared.Checked.{Checked}
 use Rattle.facts.specs.declared.Checked.the-variants.{Passed, Refused}
 use Rattle.facts.specs.Checks.{checkedNumbers}
+use Rattle.facts.specs.Bytes.{four}
+use Rattle.facts.proofs.Bytes.{length-four, stores-four}
 use Rattle.fanout.specs.declared.Count.{Count}
 use Rattle.fanout.specs.declared.Count.the-variants as count
 use Rattle.fanout.specs.Answer.{noTree, countNumbers}
@@ -17,20 +18,18 @@ use Rattle.mapper.specs.Answer.{mappingNumbers}
 use Rattle.verifier.specs.declared.Verified.{Verified}
 use Rattle.verifier.specs.declared.Verified.the-variants as verified
 use Rattle.verifier.specs.Checks.{verifiedNumbers}
-use Rattle.aqfp.specs.Answers.{four, numbers, stored, Answered}
+use Rattle.aqfp.specs.Answers.{numbers, stored, Answered}
 
 -- the four stores of a number
 pub stores : (l : List ℕ) (k n : ℕ) → 4 * k + 4 ≤ length l →
     set (set (set (set l (4 * k) (n % 256)) (4 * k + 1) (n / 256 % 256)) (4 * k + 2) (n / 65536 % 256)) (4 * k + 3) (n / 16777216 % 256)
     ≡ stored l k n
-unfolding four stored
-stores l k n h =
-    rw (add-one (4 * k), add-two (4 * k), add-three (4 * k))
-    (sets-eq (four n) l (4 * k) h ∙ append-assoc (take (4 * k) l) (four n) (drop (4 * k + 4) l))
+unfolding stored
+stores l k n h = stores-four l (4 * k) n h
 
 length-stored : (l : List ℕ) (k n : ℕ) → 4 * k + 4 ≤ length l → length (stored l k n) ≡ length l
-unfolding four stored
-length-stored l k n h = simp (length-append, length-take, length-drop) (omega arith)
+unfolding stored
+length-stored l k n h = simp (length-append, length-take, length-drop, length-four) (omega arith)
 
 -- numbers stored one after another from place k on
 storedAll : List ℕ → ℕ → List ℕ → List ℕ
@@ -38,7 +37,7 @@ storedAll l k [] = l
 storedAll l k (n ∷ ns) = storedAll (stored l k n) (suc k) ns
 
 stored-all : (l : List ℕ) (k : ℕ) (ns : List ℕ) → length l ≡ 4 * (k + length ns) → storedAll l k ns ≡ take (4 * k) l ++ numbers ns
-unfolding four numbers stored storedAll
+unfolding numbers stored storedAll
 stored-all l k [] h = sym (append-nil (take (4 * k) l) ∙ take-all (4 * k) l (omega arith))
 stored-all l k (n ∷ ns) h =
     stored-all (stored l k n) (suc k) ns (length-stored l k n (omega arith) ∙ omega arith)
@@ -49,7 +48,7 @@ stored-all l k (n ∷ ns) h =
     taken =
         ap (take (4 * suc k)) (sym (append-assoc (take (4 * k) l) (four n) (drop (4 * k + 4) l)))
         ∙ take-at (take (4 * k) l ++ four n) (drop (4 * k + 4) l) (4 * suc k)
-        (simp (length-append, length-take) (omega arith))
+        (simp (length-append, length-take, length-four) (omega arith))
 
 -- an answer's numbers, stored from 0 on, are the whole area
 pub stored-two : (l l₁ l₂ : List ℕ) (a b : ℕ) → length l ≡ 8 → l₁ ≡ stored l 0 a → l₂ ≡ stored l₁ 1 b → Answered a l₂ (a ∷ b ∷ [])

@@ -1,12 +1,9 @@
 -- Document 01: an answer's numbers in an area of their own, four bytes each, low byte first, in the order given.
-use Prim.Native.Nat.{ℕ, _+_, _*_, _/_, _%_}
+use Prim.Native.Nat.{ℕ, _+_, _*_}
 use mathlib.Core.Path.{_≡_}
 use mathlib.Core.List.{List, [], _∷_, _++_}
 use lib.ListN.{take, drop}
-
--- a number's four bytes
-unfoldable pub four : ℕ → List ℕ
-four n = n % 256 ∷ n / 256 % 256 ∷ n / 65536 % 256 ∷ n / 16777216 % 256 ∷ []
+use Rattle.facts.specs.Bytes.{four}
 
 -- the bytes of an answer's numbers
 unfoldable pub numbers : List ℕ → List ℕ

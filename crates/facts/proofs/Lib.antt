@@ -1,6 +1,9 @@
+pub mod Areas
 pub mod Bits
 pub mod Blocks
 pub mod Bools
+pub mod Bytes
+pub mod Lists
 pub mod Loops
 pub mod Reflect
 pub mod Refusals

@@ -1,8 +1,9 @@
 -- Laws for loops that search a range: the answer from here on is the answer (`seek`, `scan`), or nothing was found so far (`any`).
 use Prim.Native.Nat.{ℕ, zero, suc, _+_, _-_, _<_, _≤_}
 use native.Mathlib.Numerals.{add-one}
+use native.Mathlib.Nat.{add-sub-of-le, add-zero, zero-add, suc-add, add-suc}
 use native.Mathlib.Omega.{arith}
-use mathlib.Core.Path.{_≡_, refl, sym, ap, _∙_}
+use mathlib.Core.Path.{_≡_, refl, sym, ap, ap₂, subst, _∙_}
 use mathlib.Core.Bool.{Bool, true, false, cond}
 use Rattle.facts.specs.declared.Checked.{Checked}
 use Rattle.facts.specs.declared.Checked.the-variants.{Passed, Refused}
@@ -95,3 +96,35 @@ module _ (f : ℕ → Checked) (n : ℕ) where
   scan-end k i h =
       let e : n - k ≡ 0 = omega arith in
       sym (sym (i .rest) ∙ ap (scan f k) e)
+
+-- checks that agree on every place
+pub scan-cong : (f g : ℕ → Checked) (n : ℕ) → ((k : ℕ) → k < n → f k ≡ g k) → scan f 0 n ≡ scan g 0 n
+unfolding scan
+scan-cong f g n h = from 0 n (λ k l. h k (omega arith))
+  where
+    from : (i a : ℕ) → ((k : ℕ) → k < i + a → f k ≡ g k) → scan f i a ≡ scan g i a
+    from i zero e = refl
+    from i (suc a) e = ap₂ _andThen_ (e i (omega arith)) (from (suc i) a (λ k l. e k (omega arith)))
+
+-- a scan goes on where its first part passes, and stops where that stops
+module _ (f : ℕ → Checked) where
+  scan-split : (i a b : ℕ) → scan f i (a + b) ≡ (scan f i a andThen scan f (i + a) b)
+  unfolding scan
+  scan-split i zero b = rw (add-zero i, zero-add b)
+  scan-split i (suc a) b = rw (suc-add a b, add-suc i a, ← suc-add i a, scan-split (suc i) a b) (go (f i))
+    where
+      go : (c : Checked) → (c andThen (scan f (suc i) a andThen scan f (suc i + a) b)) ≡ ((c andThen scan f (suc i) a) andThen scan f (suc i + a) b)
+      go Passed = refl
+      go (Refused number place) = refl
+
+  module _ (a n : ℕ) (l : a ≤ n) where
+    parts : scan f 0 n ≡ (scan f 0 a andThen scan f a (n - a))
+    parts =
+        subst (λ (k : ℕ). scan f 0 k ≡ (scan f 0 a andThen scan f a (n - a))) (add-sub-of-le l)
+        (rw (zero-add a) at (scan-split 0 a (n - a)))
+
+    pub scan-onward : scan f 0 a ≡ Passed → Scanning f n a
+    scan-onward h = record { within = l; rest = sym (parts ∙ rw h) }
+
+    pub scan-early : (number place : ℕ) → scan f 0 a ≡ Refused number place → scan f 0 n ≡ Refused number place
+    scan-early number place h = parts ∙ rw h

@@ -1,14 +1,14 @@
 -- Laws of sums and counts over the numbers below n: congruence, order, addition, swapping, fibres, double counting, ranks.
 use Prim.Native.Nat.{ℕ, zero, suc, _+_, _*_, _-_, _≤_, _<_, _/_, _%_}
 use mathlib.Core.Path.{_≡_, refl, sym, _∙_, ap, ap₂, subst, subst⁻¹}
-use mathlib.Core.Bool.{Bool, true, false, _&&_, _||_}
+use mathlib.Core.Bool.{Bool, true, false, not, _&&_, _||_}
 use mathlib.Core.Logic.{_↔_}
 use native.Mathlib.Omega.{arith}
 use native.Mathlib.Nat.{mul-zero, mul-suc, mul-add, add-zero, add-suc, add-sub-of-le, mul-add-div, div-eq-of-lt, mul-add-mod-self-left, mod-eq-of-lt, div-mul-le-self, lt-div-mul-add}
 use native.Mathlib.Decide.{decLt}
 use native.Mathlib.Numerals.{add-one}
-use lib.Dec.{eqb}
-use borrow.Author.Tests.{eq-eqb, ne-eqb, eqb-true}
+use lib.Dec.{ltb, eqb}
+use borrow.Author.Tests.{ltb-true, lt-ltb, eq-eqb, ne-eqb, eqb-true}
 use Rattle.facts.proofs.Bools.{and-l, and-r, or-l, or-r, true-false, not-true}
 use Rattle.facts.specs.Sums.{bit, sum, count, count₂, any}
 
@@ -369,3 +369,63 @@ any-none p n = (
   λ e i l. not-true (p i) (λ h. true-false (any p n) (any-at p n i l h) e),
   λ h. not-true (any p n) (λ e. let f = any-found p n e in true-false (p (f .0)) (f .2) (h (f .0) (f .1))),
 )
+
+pub any-cong : (p q : ℕ → Bool) (n : ℕ) → ((j : ℕ) → j < n → p j ≡ q j) → any p n ≡ any q n
+unfolding any
+any-cong p q zero h = refl
+any-cong p q (suc n) h = ap₂ _||_ (any-cong p q n (λ j l. h j (omega arith))) (h n (omega arith))
+
+-- a value, written as a byte and read again
+pub on-bit : (b : Bool) → not (eqb (bit b) 0) ≡ b
+on-bit true = refl
+on-bit false = refl
+
+pub bit-at-most : (b : Bool) (y : ℕ) → (b ≡ true → 1 ≤ y) → bit b ≤ y
+bit-at-most true y h = h refl
+bit-at-most false y h = omega arith
+
+pub count-some : (p : ℕ → Bool) (j n : ℕ) → j < n → p j ≡ true → 1 ≤ count p n
+unfolding count
+count-some p j n l h = rw h at (term-le (λ i. bit (p i)) j n l)
+
+-- numbers below a alone
+pub count-used : (p : ℕ → Bool) (a w : ℕ) → a ≤ w → count (λ j. ltb j a && p j) w ≡ count p a
+count-used p a w h =
+    subst (λ (n : ℕ). count (λ j. ltb j a && p j) n ≡ count p a) (add-sub-of-le h)
+    (omega (
+      arith,
+      count-append (λ j. ltb j a && p j) a (w - a),
+      count-cong (λ j. ltb j a && p j) p a (λ j l. rw (lt-ltb j a l)),
+      count-none (λ j. ltb (a + j) a && p (a + j)) (w - a) (λ j l e. omega (arith, ltb-true (a + j) a (and-l (ltb (a + j) a) (p (a + j)) e))),
+    ))
+
+-- terms f below a, and numbers with q from there on, under the terms g
+pub count-above :
+    (f g : ℕ → ℕ) (q : ℕ → Bool) (a e : ℕ) →
+    ((i : ℕ) → i < a → f i ≤ g i) →
+    ((i : ℕ) → i < a → q i ≡ true → ⊥) →
+    ((i : ℕ) → i < e → q (a + i) ≡ true → 1 ≤ g (a + i)) →
+    count q (a + e) + sum f a ≤ sum g (a + e)
+unfolding count
+count-above f g q a e low none high =
+    omega (
+      arith,
+      sum-append g a e,
+      count-append q a e,
+      count-none q a none,
+      sum-mono f g a low,
+      sum-mono (λ i. bit (q (a + i))) (λ i. g (a + i)) e (λ i l. bit-at-most (q (a + i)) (g (a + i)) (high i l)),
+    )
+
+-- larger terms with no larger sum are the same
+pub tight : (f g : ℕ → ℕ) (n : ℕ) → ((i : ℕ) → i < n → f i ≤ g i) → sum g n ≤ sum f n → (i : ℕ) → i < n → g i ≤ f i
+unfolding sum
+tight f g zero h e i l = absurd (omega arith)
+tight f g (suc n) h e i l =
+    elim (decLt i n) [
+      | yes b ↦ tight f g n (λ j k. h j (omega arith)) (omega (arith, h n (omega arith))) i b
+      | no b ↦
+          let last : i ≡ n = omega arith in
+          subst (λ (j : ℕ). g j ≤ f j) (sym last)
+          (omega (arith, sum-mono f g n (λ j k. h j (omega arith))))
+    ]

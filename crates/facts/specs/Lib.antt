@@ -1,4 +1,6 @@
 pub mod Blocks
+pub mod Bytes
 pub mod Checks
+pub mod Lists
 pub mod Refusals
 pub mod Sums

@@ -10,8 +10,8 @@ use lib.Seq.{drop-cons, getD-drop}
 use lib.Dec.{ltb}
 use borrow.Author.Tests.{lt-ltb, le-ltb}
 use Rattle.facts.specs.Sums.{bit, sum}
+use Rattle.facts.proofs.Lists.{length-tabulate, getD-tabulate}
 use Rattle.netlist.specs.Kinds.{topLevel}
-use Rattle.netlist.proofs.Lists.{length-tabulate, getD-tabulate}
 use Rattle.netlist.specs.Records.{Netlist}
 use Rattle.fanout.specs.Nets.{sinks, row, up, nodes, buffers, nodesAt, buffersAt, fewest}
 

@@ -5,8 +5,9 @@ use mathlib.Core.List.{List, [], _∷_}
 use lib.ListN.{getD, set, drop}
 use lib.Dec.{leb, eqb}
 use Rattle.facts.specs.Sums.{count₂}
+use Rattle.facts.specs.Lists.{tabulate}
 use Rattle.netlist.specs.Kinds.{slots, topLevel}
-use Rattle.netlist.specs.Records.{Netlist, names, tabulate}
+use Rattle.netlist.specs.Records.{Netlist, names}
 
 -- slot j of record i is a sink of driver d, and stands x levels above it
 abbrev pub sinkAt : Netlist → ℕ → ℕ → ℕ → ℕ → Bool

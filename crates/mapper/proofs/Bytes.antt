@@ -9,10 +9,11 @@ use lib.ListN.{length, getD, take, drop, length-append, length-drop}
 use lib.Seq.{take-append-le, drop-append-le, drop-at, take-all, getD-append-add, getD-drop, getD-take, ext-getD}
 use Rattle.netlist.specs.declared.Record.{Record}
 use Rattle.netlist.specs.Kinds.{width, slots, unused}
-use Rattle.netlist.specs.Records.{Netlist, netlist, tabulate, field, decode, slot, blank, recordCount, recordAt}
+use Rattle.facts.specs.Lists.{tabulate}
+use Rattle.facts.proofs.Lists.{length-tabulate, getD-tabulate}
+use Rattle.netlist.specs.Records.{Netlist, netlist, field, decode, slot, blank, recordCount, recordAt}
 use Rattle.netlist.proofs.Records.{record-inside, record-past}
 use Rattle.mapper.specs.Bytes.{twoBytes, joined, encode, encoded, bytesOf, Fits}
-use Rattle.netlist.proofs.Lists.{length-tabulate, getD-tabulate}
 
 -- n parts of w elements
 module _ (f : ℕ → List ℕ) (w : ℕ) (each : (i : ℕ) → length (f i) ≡ w) where

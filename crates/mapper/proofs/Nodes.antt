@@ -12,6 +12,7 @@ use lib.Seq.{getD-drop}
 use borrow.Author.Tests.{lt-ltb, le-ltb, ltb-true, eq-eqb, eqb-true}
 use Rattle.facts.proofs.Bools.{and-l, and-r, and-i}
 use Rattle.facts.proofs.Sums.{count₂-none}
+use Rattle.facts.proofs.Lists.{getD-tabulate}
 use Rattle.netlist.specs.declared.Record.{Record}
 use Rattle.netlist.specs.Kinds.{slots, unused, topLevel, output, buffer, arity, isDriver}
 use Rattle.netlist.specs.Records.{Netlist, slot, used, fanin, names}
@@ -21,7 +22,6 @@ use Rattle.netlist.proofs.Source.{is-output}
 use Rattle.fanout.specs.Nets.{row, sinks, sinkAt, up, nodes, buffers, nodesAt, buffersAt}
 use Rattle.fanout.proofs.Nets.{div-up, up-zero, nodes-at, row-length, row-at}
 use Rattle.mapper.specs.Mapped.{netRow, buffersOf, mappedSize, place, parent, bufferRecord, rank, distance, sinkNumber, sinkParent, rewired, mappedAt, Ready}
-use Rattle.netlist.proofs.Lists.{getD-tabulate}
 use Rattle.mapper.proofs.Lists.{getD-replicated}
 use Rattle.mapper.proofs.Blocks.{rank-below}
 use Rattle.mapper.proofs.Mapped.{at-source, at-place, place-inside, Placed, placed}

@@ -8,7 +8,8 @@ use lib.ListN.{length, getD}
 use borrow.Author.Tests.{ltb-true}
 use Rattle.netlist.specs.declared.Record.{Record}
 use Rattle.netlist.specs.Kinds.{width, slots}
-use Rattle.netlist.specs.Records.{netlist, tabulate, used, fanin}
+use Rattle.facts.specs.Lists.{tabulate}
+use Rattle.netlist.specs.Records.{netlist, used, fanin}
 use Rattle.mapper.specs.Bytes.{encoded, bytesOf, put, withRecords, onto}
 use Rattle.mapper.specs.Mapped.{bufferTotal, mappedSize, sinkParent, rewired, mappedAt, mapped, Ready}
 use Rattle.mapper.specs.Chains.{Hung, relinkedAt}

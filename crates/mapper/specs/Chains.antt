@@ -8,9 +8,10 @@ use lib.Dec.{ltb}
 use Rattle.facts.specs.declared.Checked.{Checked}
 use Rattle.facts.specs.declared.Checked.the-variants.{Passed, Refused}
 use Rattle.facts.specs.Sums.{count, seek}
+use Rattle.facts.specs.Lists.{tabulate}
 use Rattle.netlist.specs.declared.Record.{Record}
 use Rattle.netlist.specs.Kinds.{width, slots, topLevel, sourceLimit, arity}
-use Rattle.netlist.specs.Records.{Netlist, netlist, tabulate, slot, recordCount, recordAt, used, fanin, names}
+use Rattle.netlist.specs.Records.{Netlist, netlist, slot, recordCount, recordAt, used, fanin, names}
 use Rattle.netlist.specs.Checks.{inputChecks}
 use Rattle.netlist.specs.Source.{IsSource}
 use Rattle.fanout.specs.Nets.{row, sinks, sinkAt, nodesAt, buffersAt, fewest}

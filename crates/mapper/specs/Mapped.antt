@@ -7,9 +7,10 @@ use lib.ListN.{replicate}
 use lib.Dec.{ltb}
 use Rattle.facts.specs.Sums.{sum, count, count₂}
 use Rattle.facts.specs.Blocks.{block}
+use Rattle.facts.specs.Lists.{tabulate}
 use Rattle.netlist.specs.declared.Record.{Record}
 use Rattle.netlist.specs.Kinds.{slots, unused, topLevel, mappedLimit, buffer, isDriver}
-use Rattle.netlist.specs.Records.{Netlist, tabulate, blank, used, fanin}
+use Rattle.netlist.specs.Records.{Netlist, blank, used, fanin}
 use Rattle.netlist.specs.Source.{IsSource}
 use Rattle.fanout.specs.Nets.{row, sinkAt, buffersAt, hasTree, fewest}
 use Rattle.fanout.specs.Answer.{driverCapacity}

@@ -3,8 +3,8 @@ use Prim.Native.Nat.{ℕ, zero, suc, _+_, _-_, _*_, _<_, _≤_}
 use native.Mathlib.Nat.{add-sub-cancel-left}
 use native.Mathlib.Omega.{arith}
 use mathlib.Core.Path.{_≡_, refl, sym, ap, _∙_}
-use mathlib.Core.List.{List, [], _∷_}
-use lib.ListN.{length, getD, take, drop, length-take, length-drop, List·getD-eq-default}
+use mathlib.Core.List.{List}
+use lib.ListN.{length, take, drop, length-take, length-drop, List·getD-eq-default}
 use borrow.Author.Tests.{lt-ltb, le-ltb}
 use Rattle.netlist.specs.declared.Record.{Record}
 use Rattle.netlist.specs.Kinds.{width, arities, arity}
@@ -33,16 +33,6 @@ one-slot (suc (suc (suc (suc (suc (suc k)))))) l n h = absurd (omega arith)
 pub no-slot : (kind : ℕ) → kind < 1 → 0 ≡ arity kind
 no-slot zero h = refl
 no-slot (suc k) h = absurd (omega arith)
-
--- an entry below the length does not depend on the default
-pub getD-any : (l : List ℕ) (i d e : ℕ) → i < length l → getD l i d ≡ getD l i e
-getD-any [] i d e h = absurd (omega arith)
-getD-any (x ∷ l) zero d e h = refl
-getD-any (x ∷ l) (suc i) d e h = getD-any l i d e (omega arith)
-
--- past its end a list gives the default
-pub getD-past : (l : List ℕ) (n i d : ℕ) → length l ≡ n → n ≤ i → d ≡ getD l i d
-getD-past l n i d e h = sym (List·getD-eq-default l d (omega arith))
 
 module _ (bytes : List ℕ) (k : ℕ) where
   -- a part as code cuts it, as the definition has it

@@ -1,17 +1,13 @@
 -- Document 01, 'Records': a record from its ten bytes, and a netlist by index from a byte list.
-use Prim.Native.Nat.{ℕ, zero, suc, _+_, _*_, _/_}
+use Prim.Native.Nat.{ℕ, _+_, _*_, _/_}
 use mathlib.Core.Bool.{Bool, cond, _&&_}
-use mathlib.Core.List.{List, [], _∷_, _++_}
+use mathlib.Core.List.{List}
 use lib.ListN.{length, getD, take, drop, replicate}
 use lib.Dec.{ltb, eqb}
+use Rattle.facts.specs.Lists.{tabulate}
 use Rattle.facts.specs.Sums.{count₂, seek}
 use Rattle.netlist.specs.declared.Record.{Record}
 use Rattle.netlist.specs.Kinds.{width, slots, unused, absent, arity, output}
-
--- f 0, .., f (n - 1)
-abbrev pub tabulate : {A : Type 0} → (ℕ → A) → ℕ → List A
-tabulate f zero = []
-tabulate f (suc n) = tabulate f n ++ (f n ∷ [])
 
 -- the two-byte field at a place, low byte first
 abbrev pub field : List ℕ → ℕ → ℕ

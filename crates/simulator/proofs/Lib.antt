@@ -1,4 +1,3 @@
-pub mod Areas
 pub mod Logic
 pub mod Waves
 pub mod Steps

@@ -8,13 +8,13 @@ use native.Mathlib.Nat.{add-zero, add-suc}
 use lib.ListN.{getD}
 use lib.Dec.{leb, eqb}
 use Rattle.facts.specs.Sums.{bit, count}
-use Rattle.facts.proofs.Sums.{count-cong}
+use Rattle.facts.specs.Lists.{tabulate}
+use Rattle.facts.proofs.Sums.{count-cong, on-bit}
+use Rattle.facts.proofs.Lists.{getD-tabulate}
 use Rattle.netlist.specs.Kinds.{arity}
-use Rattle.netlist.specs.Records.{Netlist, isOutput, fanin, tabulate}
+use Rattle.netlist.specs.Records.{Netlist, isOutput, fanin}
 use Rattle.netlist.specs.Source.{IsSource}
 use Rattle.simulator.specs.Logic.{on, isInput, turned, onesBelow, threshold, gate, next, values, plain, outputsBelow}
-use Rattle.netlist.proofs.Lists.{getD-tabulate}
-use Rattle.simulator.proofs.Areas.{on-bit}
 
 -- a kind's function goes by its used slots alone
 pub gate-cong : (k v : ℕ) (f g : ℕ → Bool) → ((j : ℕ) → j < arity k → f j ≡ g j) → gate k v f ≡ gate k v g

@@ -6,13 +6,13 @@ use mathlib.Core.List.{List, [], _∷_, _++_, append-nil, append-assoc}
 use native.Mathlib.Omega.{arith}
 use native.Mathlib.Nat.{mul-le-mul, mul-le-mul-right, zero-add, zero-mul, add-zero, add-sub-cancel-left, suc-mul}
 use native.Mathlib.Numerals.{add-one}
-use lib.ListN.{length, getD, take, drop, set, replicate, length-drop, length-set, drop-of-length-le, List·getD-eq-default}
+use lib.ListN.{length, getD, take, drop, set, replicate, length-drop, length-set, drop-of-length-le}
 use lib.Seq.{take-all, take-nil, drop-drop}
 use lib.Dec.{eqb}
-use borrow.Author.Fill.{fill-more}
 use borrow.Author.Tests.{ne-eqb}
 use Rattle.facts.specs.Sums.{bit, sum, count}
 use Rattle.facts.proofs.Sums.{bit-le, rank-lt, count-le}
+use Rattle.facts.proofs.Areas.{Written, length-written, take-written, drop-written, written-more, written-none, written-all}
 use Rattle.netlist.specs.Kinds.{sourceLimit, output}
 use Rattle.netlist.specs.Records.{netlist, recordAt, recordCount, isOutput}
 use Rattle.netlist.specs.Records
@@ -25,39 +25,6 @@ use Rattle.simulator.specs.Step.{rowLimit, stepped}
 use Rattle.simulator.specs.PrivateStep.{Buffered}
 use Rattle.simulator.specs.declared.Shape.{Shape}
 use Rattle.simulator.proofs.Rows.{length-after, length-outputRows}
-use Rattle.simulator.proofs.Writes.{Written, length-written, take-written, drop-written, written-more, written-none, written-all}
-
--- the first i bytes of an area are zeros
-pub record Zeroing (n : ℕ) (area old : List ℕ) (i : ℕ) : Type 0 where
-  pub within : i ≤ n
-  pub all : n ≡ length old
-  pub same : length area ≡ length old
-  pub so-far : area ≡ replicate i 0 ++ drop i old
-
-module _ (n : ℕ) (old : List ℕ) where
-  pub zeroing-start : n ≡ length old → Zeroing n old old 0
-  zeroing-start e = record { within = omega arith; all = e; same = refl; so-far = refl }
-
-  pub zeroing-more : (area : List ℕ) (i : ℕ) → Zeroing n area old i → i < n → Zeroing n (set area i 0) old (i + 1)
-  zeroing-more area i c h =
-      record {
-        within = omega arith;
-        all = c .all;
-        same = length-set area i 0 ∙ c .same;
-        so-far = ap (λ (l : List ℕ). set l i 0) (c .so-far) ∙ fill-more i 0 old (omega (arith, c .all));
-      }
-
-  pub zeroing-end : (area : List ℕ) (i : ℕ) → Zeroing n area old i → n ≤ i → area ≡ replicate (length old) 0
-  zeroing-end area i c h =
-      let e : i ≡ length old = omega (arith, c .within, c .all) in
-      c .so-far
-      ∙ ap (λ (l : List ℕ). replicate i 0 ++ l) (drop-of-length-le old {i = i} (omega arith))
-      ∙ append-nil (replicate i 0)
-      ∙ ap (λ (k : ℕ). replicate k 0) e
-
--- past its end an area holds 0
-pub byte-past : (area : List ℕ) (i : ℕ) → length area ≤ i → 0 ≡ getD area i 0
-byte-past area i h = sym (List·getD-eq-default area 0 h)
 
 module _ (is : Bool) (k b : ℕ) (row : List ℕ) where
   pub put-room : OutputRoom is k row → is ≡ true → k < length row

@@ -13,13 +13,14 @@ use borrow.Author.Tests.{lt-ltb, le-ltb, ltb-true, ne-eqb}
 use Rattle.facts.specs.declared.Checked.{Checked}
 use Rattle.facts.specs.declared.Checked.the-variants.{Passed, Refused}
 use Rattle.facts.specs.Sums.{bit, count}
-use Rattle.netlist.specs.Records.{Netlist, netlist, depth, tabulate}
+use Rattle.facts.specs.Lists.{tabulate}
+use Rattle.facts.proofs.Lists.{tabulate-cong}
+use Rattle.netlist.specs.Records.{Netlist, netlist, depth}
 use Rattle.simulator.specs.Logic.{on, isInput, inputs, valueOf, next, outputs, outputRow}
 use Rattle.simulator.specs.Step.{renewedBelow, older, stepped, stepAnswer, stepArea}
 use Rattle.simulator.specs.Run.{rowAt, zeros, after, runAnswer, runArea, runOutputs}
 use Rattle.simulator.specs.PrivateRun.{IsRow, IsRun}
 use Rattle.simulator.specs.Waves.{rowOfStep, counted, taken, leaves}
-use Rattle.simulator.proofs.Areas.{tabulate-cong}
 use Rattle.simulator.proofs.Accepted.{step-passed, run-passed}
 use Rattle.simulator.proofs.Rows.{length-after, outputRows-at, outputs-written}
 

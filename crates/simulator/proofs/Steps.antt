@@ -8,11 +8,11 @@ use lib.ListN.{length, getD, take, length-append}
 use lib.Seq.{take-at, getD-take}
 use lib.Dec.{eqb}
 use Rattle.facts.specs.Sums.{bit}
+use Rattle.facts.proofs.Lists.{length-tabulate, getD-tabulate}
+use Rattle.facts.proofs.Sums.{on-bit}
 use Rattle.netlist.specs.Records.{Netlist}
 use Rattle.simulator.specs.Logic.{on, next}
 use Rattle.simulator.specs.Step.{renewedBelow, renewed, older, stepped}
-use Rattle.netlist.proofs.Lists.{length-tabulate, getD-tabulate}
-use Rattle.simulator.proofs.Areas.{on-bit}
 
 pub length-below : (m : Netlist) (row held : List ℕ) (n : ℕ) → length (renewedBelow m row held n) ≡ n
 unfolding renewedBelow

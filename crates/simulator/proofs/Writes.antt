@@ -1,82 +1,30 @@
 -- Laws of loops that write an area from the front: what is written so far, then the rest as it was.
-use Prim.Native.Nat.{ℕ, zero, suc, _+_, _*_, _-_, _^_, _<_, _≤_}
+use Prim.Native.Nat.{ℕ, suc, _+_, _*_, _-_, _^_, _<_, _≤_}
 use mathlib.Core.Path.{_≡_, refl, sym, _∙_, ap, ap₂, subst, subst₂}
 use mathlib.Core.Bool.{Bool, false, not}
-use mathlib.Core.List.{List, [], _∷_, _++_, append-nil, append-assoc}
+use mathlib.Core.List.{List, [], _∷_, _++_, append-assoc}
 use native.Mathlib.Omega.{arith}
-use native.Mathlib.Nat.{add-sub-of-le, add-zero, add-suc, sub-zero, sub-self}
+use native.Mathlib.Nat.{add-sub-of-le, add-zero, sub-zero, sub-self}
 use native.Mathlib.Numerals.{add-one}
 use native.Mathlib.Decide.{decLt}
-use lib.ListN.{length, getD, take, drop, set, length-append, length-set, length-drop, take-append-drop, drop-of-length-le, List·getD-eq-default, List·getD-append}
-use lib.Seq.{take-all, drop-cons, set-at, append-snoc, take-at, drop-at, drop-drop, drop-append-add, getD-take, length-take-le}
+use lib.ListN.{length, getD, take, drop, set, length-set, length-drop, List·getD-eq-default, List·getD-append}
+use lib.Seq.{take-all, drop-at, getD-take, length-take-le}
 use lib.Dec.{eqb}
 use Rattle.facts.specs.Sums.{bit, sum, count}
-use Rattle.facts.proofs.Sums.{bit-le}
+use Rattle.facts.proofs.Sums.{bit-le, on-bit}
+use Rattle.facts.proofs.Areas.{Written, take-written, drop-written, written-more, written-none, written-all, written-part}
+use Rattle.facts.proofs.Lists.{getD-tabulate, tabulate-cong, tabulate-append}
 use Rattle.netlist.specs.Kinds.{input}
-use Rattle.netlist.specs.Records.{Netlist, netlist, recordAt, recordCount, slot, fanin, tabulate}
+use Rattle.netlist.specs.Records.{Netlist, netlist, recordAt, recordCount, slot, fanin}
 use Rattle.simulator.specs.Logic.{on, isInput, next, values}
 use Rattle.simulator.specs.PrivateLogic.{valueIn, Wired}
 use Rattle.netlist.specs.Source.{IsSource}
 use Rattle.verifier.specs.Legal.{Named}
 use Rattle.simulator.specs.Step.{renewedBelow, older, stepped}
 use Rattle.simulator.specs.PrivateStep.{Buffered, copied}
-use Rattle.netlist.proofs.Lists.{getD-tabulate}
-use Rattle.simulator.proofs.Areas.{on-bit, tabulate-cong}
 use Rattle.simulator.proofs.Logic.{next-cong}
 use Rattle.simulator.proofs.Steps.{length-below, length-older}
 use Rattle.simulator.proofs.Waves.{next-buffer}
-
--- the first bytes are new, the rest is as it was
-pub record Written (new : List ℕ) (k : ℕ) (area old : List ℕ) : Type 0 where
-  pub long : length new ≡ k
-  pub parts : area ≡ new ++ drop k old
-
-pub length-written : (new : List ℕ) (k : ℕ) (area old : List ℕ) → Written new k area old → k ≤ length old → length area ≡ length old
-length-written new k area old w h = ap length (w .parts) ∙ length-append new (drop k old) ∙ simp length-drop (omega (arith, w .long))
-
--- one byte more
-pub written-more : (new : List ℕ) (k b : ℕ) (area old : List ℕ) → Written new k area old → k < length old →
-    Written (new ++ (b ∷ [])) (suc k) (set area k b) old
-written-more new k b area old w h =
-    record {
-      long = length-append new (b ∷ []) ∙ omega (arith, w .long);
-      parts =
-          ap (λ (l : List ℕ). set l k b) (w .parts ∙ ap (λ (l : List ℕ). new ++ l) (drop-cons old k 0 h))
-          ∙ set-at new (getD old k 0) (drop (suc k) old) b k (w .long)
-          ∙ sym (append-snoc new b (drop (suc k) old));
-    }
-
--- what is read: the new bytes, or the rest past them
-pub take-written : (new : List ℕ) (k : ℕ) (area old : List ℕ) → Written new k area old → take k area ≡ new
-take-written new k area old w = ap (take k) (w .parts) ∙ take-at new (drop k old) k (w .long)
-
-pub drop-written : (new : List ℕ) (k m : ℕ) (area old : List ℕ) → Written new k area old → k ≤ m → drop m area ≡ drop m old
-drop-written new k m area old w h =
-    ap₂ drop (sym e) (w .parts)
-    ∙ drop-append-add new (drop k old) (m - k)
-    ∙ drop-drop (m - k) k old
-    ∙ ap (λ (n : ℕ). drop n old) (add-sub-of-le h)
-  where
-    e : length new + (m - k) ≡ m
-    e = omega (arith, w .long)
-
--- nothing is written yet, and the whole
-pub written-none : (old : List ℕ) → Written [] 0 old old
-written-none old = record { long = refl; parts = refl }
-
-pub written-all : (new : List ℕ) (k : ℕ) (area old : List ℕ) → Written new k area old → length old ≤ k → area ≡ new
-written-all new k area old w h =
-    w .parts ∙ ap (λ (l : List ℕ). new ++ l) (drop-of-length-le old h) ∙ append-nil new
-
--- the first n bytes are as they were, and nothing is written after them yet
-written-part : (n : ℕ) (old : List ℕ) → n ≤ length old → Written (take n old ++ []) (n + 0) old old
-written-part n old h =
-    record {
-      long = ap length (append-nil (take n old)) ∙ length-take-le n old h ∙ sym (add-zero n);
-      parts =
-          sym (take-append-drop n old)
-          ∙ ap₂ (λ (l : List ℕ) (k : ℕ). l ++ drop k old) (sym (append-nil (take n old))) (sym (add-zero n));
-    }
 
 -- the first m bytes of old are kept in the next m, up to byte i
 pub record Keeping (m : ℕ) (area old : List ℕ) (i : ℕ) : Type 0 where
@@ -340,14 +288,6 @@ renewed-cong : (m : Netlist) (row : List ℕ) (n : ℕ) (a b : List ℕ) → ((i
 unfolding renewedBelow
 renewed-cong m row n a b h =
     tabulate-cong _ _ n (λ i l. ap bit (next-cong m row (on a) (on b) i (λ j k. h (fanin m i j))))
-
--- a function's values below n, and the k after them
-tabulate-append : (f : ℕ → ℕ) (n k : ℕ) → tabulate f (n + k) ≡ tabulate f n ++ tabulate (λ j. f (n + j)) k
-tabulate-append f n zero = ap (tabulate f) (add-zero n) ∙ sym (append-nil (tabulate f n))
-tabulate-append f n (suc k) =
-    ap (tabulate f) (add-suc n k)
-    ∙ ap (λ (l : List ℕ). l ++ (f (n + k) ∷ [])) (tabulate-append f n k)
-    ∙ append-assoc (tabulate f n) _ _
 
 -- a byte of kept values is its value
 older-bit : (m : ℕ) (area : List ℕ) (i : ℕ) → getD (older m area) i 0 ≡ bit (on (older m area) i)

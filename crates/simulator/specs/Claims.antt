@@ -6,7 +6,8 @@ use mathlib.Core.List.{List, []}
 use lib.ListN.{length, getD}
 use Rattle.facts.specs.declared.Checked.the-variants.{Passed}
 use Rattle.facts.specs.Sums.{bit}
-use Rattle.netlist.specs.Records.{netlist, recordCount, depth, tabulate}
+use Rattle.facts.specs.Lists.{tabulate}
+use Rattle.netlist.specs.Records.{netlist, recordCount, depth}
 use Rattle.verifier.specs.Checks.{verifyChecks}
 use Rattle.simulator.specs.Logic.{inputs, outputs, next, values, plain, outputRow}
 use Rattle.simulator.specs.Evaluate.{evaluateAnswer, evaluateArea}

@@ -4,7 +4,8 @@ use mathlib.Core.Path.{_≡_}
 use mathlib.Core.List.{List}
 use lib.ListN.{getD}
 use Rattle.netlist.specs.Kinds.{buffer}
-use Rattle.netlist.specs.Records.{recordCount, recordAt, slot, tabulate}
+use Rattle.facts.specs.Lists.{tabulate}
+use Rattle.netlist.specs.Records.{recordCount, recordAt, slot}
 
 -- from record n on, a mapped netlist's records are buffers that name one of its records
 pub record Buffered (mapped : List ℕ) (n : ℕ) : Type 0 where

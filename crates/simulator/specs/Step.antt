@@ -7,7 +7,8 @@ use lib.Dec.{ltb, eqb}
 use Rattle.facts.specs.declared.Checked.{Checked}
 use Rattle.facts.specs.Checks.{check, _andThen_}
 use Rattle.facts.specs.Sums.{bit}
-use Rattle.netlist.specs.Records.{Netlist, netlist, tabulate}
+use Rattle.facts.specs.Lists.{tabulate}
+use Rattle.netlist.specs.Records.{Netlist, netlist}
 use Rattle.verifier.specs.Checks.{verifyChecks}
 use Rattle.simulator.specs.Logic.{on, inputs, next}
 use Rattle.simulator.specs.Evaluate.{written, bitChecks}

@@ -1,10 +1,9 @@
 -- Laws of checks 11 to 17, with premises as the code has them: what each test gives of the check's answer.
-use Prim.Native.Nat.{ℕ, zero, suc, _+_, _-_, _%_, _^_, _<_, _≤_}
+use Prim.Native.Nat.{ℕ, zero, suc, _+_, _%_, _^_, _<_, _≤_}
 use native.Mathlib.Omega.{arith}
-use native.Mathlib.Nat.{add-sub-of-le, add-zero, zero-add, suc-add, add-suc}
 use native.Mathlib.Numerals.{add-one}
-use mathlib.Core.Path.{_≡_, refl, sym, ap, ap₂, subst, _∙_}
-use mathlib.Core.Bool.{Bool, true, false, not, _&&_, _||_}
+use mathlib.Core.Path.{_≡_, refl, sym, ap, _∙_}
+use mathlib.Core.Bool.{Bool, true, false, not, _&&_}
 use mathlib.Core.List.{List}
 use mathlib.Core.Logic.{_≢_}
 use lib.ListN.{length}
@@ -12,12 +11,12 @@ use lib.Dec.{ltb, leb, eqb}
 use borrow.Author.Tests.{lt-ltb, le-ltb, le-leb, lt-leb, eq-eqb, ne-eqb, not-true}
 use Rattle.facts.specs.declared.Checked.{Checked}
 use Rattle.facts.specs.declared.Checked.the-variants.{Passed, Refused}
-use Rattle.facts.specs.Checks.{check, _andThen_, scan}
+use Rattle.facts.specs.Checks.{check, scan}
 use Rattle.facts.specs.Sums.{any}
 use Rattle.facts.proofs.Bools.{true-false}
 use Rattle.facts.proofs.Reflect.{reflect, unlike-none}
-use Rattle.facts.proofs.Sums.{any-none}
-use Rattle.facts.proofs.Loops.{NoneYet, any-more, any-found, any-end, Scanning}
+use Rattle.facts.proofs.Sums.{any-none, any-cong}
+use Rattle.facts.proofs.Loops.{NoneYet, any-more, any-found, any-end}
 use Rattle.netlist.specs.declared.Record.{Record}
 use Rattle.netlist.specs.Kinds.{width, slots, unused, topLevel, mappedLimit, output, buffer, arity}
 use Rattle.netlist.specs.Records.{Netlist, netlist, recordCount, recordAt, blank, slot}
@@ -49,11 +48,6 @@ module _ (kind : ℕ) (r : Record) (j n : ℕ) (e : n ≡ arity kind) (i : NoneY
 
     pub empty-kept : x ≡ unused → NoneYet (badEmpty kind blank r) slots (j + 1)
     empty-kept g = any-more (badEmpty kind blank r) slots j (not (eqb x unused)) i l here (rw (eq-eqb x unused g))
-
-any-cong : (p q : ℕ → Bool) (n : ℕ) → ((j : ℕ) → j < n → p j ≡ q j) → any p n ≡ any q n
-unfolding any
-any-cong p q zero h = refl
-any-cong p q (suc n) h = ap₂ _||_ (any-cong p q n (λ j l. h j (omega arith))) (h n (omega arith))
 
 -- where a's unused slots name nothing, those of r are held to a's as to a blank record's
 empty-as : (a r : Record) → any (badEmpty (a .kind) blank a) slots ≡ false → any (badEmpty (a .kind) blank r) slots ≡ any (badEmpty (a .kind) a r) slots
@@ -191,38 +185,6 @@ module _ (n m : Netlist) (records size : ℕ) (sized : Sized n m records size) w
       record {
         driver = λ k l. let g : k < n .size = omega (arith, sized .records) in no-buffer n (sized .source) k g (p .kinds k g);
       }
-
--- checks that agree on every place
-pub scan-cong : (f g : ℕ → Checked) (n : ℕ) → ((k : ℕ) → k < n → f k ≡ g k) → scan f 0 n ≡ scan g 0 n
-unfolding scan
-scan-cong f g n h = from 0 n (λ k l. h k (omega arith))
-  where
-    from : (i a : ℕ) → ((k : ℕ) → k < i + a → f k ≡ g k) → scan f i a ≡ scan g i a
-    from i zero e = refl
-    from i (suc a) e = ap₂ _andThen_ (e i (omega arith)) (from (suc i) a (λ k l. e k (omega arith)))
-
--- a scan goes on where its first part passes, and stops where that stops
-module _ (f : ℕ → Checked) where
-  scan-split : (i a b : ℕ) → scan f i (a + b) ≡ (scan f i a andThen scan f (i + a) b)
-  unfolding scan
-  scan-split i zero b = rw (add-zero i, zero-add b)
-  scan-split i (suc a) b = rw (suc-add a b, add-suc i a, ← suc-add i a, scan-split (suc i) a b) (go (f i))
-    where
-      go : (c : Checked) → (c andThen (scan f (suc i) a andThen scan f (suc i + a) b)) ≡ ((c andThen scan f (suc i) a) andThen scan f (suc i + a) b)
-      go Passed = refl
-      go (Refused number place) = refl
-
-  module _ (a n : ℕ) (l : a ≤ n) where
-    parts : scan f 0 n ≡ (scan f 0 a andThen scan f a (n - a))
-    parts =
-        subst (λ (k : ℕ). scan f 0 k ≡ (scan f 0 a andThen scan f a (n - a))) (add-sub-of-le l)
-        (rw (zero-add a) at (scan-split 0 a (n - a)))
-
-    pub scan-onward : scan f 0 a ≡ Passed → Scanning f n a
-    scan-onward h = record { within = l; rest = sym (parts ∙ rw h) }
-
-    pub scan-early : (number place : ℕ) → scan f 0 a ≡ Refused number place → scan f 0 n ≡ Refused number place
-    scan-early number place h = parts ∙ rw h
 
 module _ (n : Netlist) (s : ℕ) (m : Netlist) where
   pub legal-places : (number place : ℕ) → scan (placeChecks n m) 0 (m .size) ≡ Refused number place → Refused number place ≡ legalChecks n s m

@@ -1,11 +1,10 @@
 -- The counts of check 17: a count is the number of slots that a record feeds, cut off at the stop.
-use Prim.Native.Nat.{ℕ, zero, suc, _+_, _-_, _<_, _≤_, min}
+use Prim.Native.Nat.{ℕ, zero, suc, _+_, _<_, _≤_, min}
 use native.Mathlib.Omega.{arith}
 use native.Mathlib.Decide.{decLt}
-use native.Mathlib.Nat.{add-sub-of-le}
 use native.Mathlib.Numerals.{add-one}
-use mathlib.Core.Path.{_≡_, refl, sym, ap, subst, _∙_}
-use mathlib.Core.Bool.{Bool, true, false, cond, _&&_}
+use mathlib.Core.Path.{_≡_, refl, sym, ap, _∙_}
+use mathlib.Core.Bool.{Bool, true, false, cond}
 use mathlib.Core.List.{List}
 use lib.ListN.{length, getD, set, replicate, length-set, length-replicate, getD-replicate}
 use lib.Seq.{set-getD, getD-set-same, getD-set-other}
@@ -15,10 +14,10 @@ use Rattle.facts.specs.Sums.{bit, sum, count, count₂, any}
 use Rattle.facts.specs.declared.Checked.{Checked}
 use Rattle.facts.specs.declared.Checked.the-variants.{Passed, Refused}
 use Rattle.facts.specs.Checks.{scan}
-use Rattle.facts.proofs.Bools.{and-l, true-false}
-use Rattle.facts.proofs.Loops.{NoneYet, any-start, any-more, any-found, any-end, Scanning, scan-start, scan-more, scan-stop, scan-end}
+use Rattle.facts.proofs.Bools.{true-false}
+use Rattle.facts.proofs.Loops.{NoneYet, any-start, any-more, any-found, any-end, Scanning, scan-start, scan-more, scan-stop, scan-end, scan-cong, scan-onward, scan-early}
 use Rattle.facts.proofs.Reflect.{reflect, scan-passed}
-use Rattle.facts.proofs.Sums.{count-append, count-cong, count-none}
+use Rattle.facts.proofs.Sums.{count-used}
 use Rattle.netlist.specs.declared.Record.{Record}
 use Rattle.netlist.specs.Kinds.{slots, buffer, arity}
 use Rattle.netlist.specs.Records.{Netlist, netlist, recordAt, recordCount, names, feeds, slot}
@@ -28,7 +27,7 @@ use Rattle.verifier.specs.Legal.{capacityOf}
 use Rattle.verifier.specs.Checks.{differs, noBuffer, slotChecks, placeChecks, traceCheck, feedCheck, legalChecks}
 use Rattle.verifier.specs.PrivateWalking.{Sized, PlacesPassed}
 use Rattle.verifier.specs.PrivateFeeding.{stop, more, fedOnce, fedBy, tally, badFanin, bufferChecks, Fed, FedAtMost, Tallied, TalliedIfPassed, capacityAt, countCheck}
-use Rattle.verifier.proofs.Checks.{slots-good, slots-passed, kept-bad, kept-slots, placed, placed-driven, scan-cong, scan-onward, scan-early, legal-places, legal-traces, legal-feeds}
+use Rattle.verifier.proofs.Checks.{slots-good, slots-passed, kept-bad, kept-slots, placed, placed-driven, legal-places, legal-traces, legal-feeds}
 
 module _ (counts : List ℕ) (x : ℕ) where
   pub feed-full : stop ≤ getD counts x 0 → counts ≡ fedOnce counts x
@@ -80,17 +79,6 @@ by-count counts r zero x l h = omega arith
 by-count counts r (suc n) x l h =
     let ih = by-count counts r n x l h in
     once-count (fedBy counts r n) (slot r n) x (rw (by-length counts r n) l) (omega arith) ∙ omega arith
-
--- among a record's slots only the used ones name
-count-used : (p : ℕ → Bool) (a w : ℕ) → a ≤ w → count (λ j. ltb j a && p j) w ≡ count p a
-count-used p a w h =
-    subst (λ (n : ℕ). count (λ j. ltb j a && p j) n ≡ count p a) (add-sub-of-le h)
-    (omega (
-      arith,
-      count-append (λ j. ltb j a && p j) a (w - a),
-      count-cong (λ j. ltb j a && p j) p a (λ j l. rw (lt-ltb j a l)),
-      count-none (λ j. ltb (a + j) a && p (a + j)) (w - a) (λ j l e. omega (arith, ltb-true (a + j) a (and-l (ltb (a + j) a) (p (a + j)) e))),
-    ))
 
 -- a count is the number of slots that name its record, cut off at the stop
 tally-count :

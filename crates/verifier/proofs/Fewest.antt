@@ -6,14 +6,14 @@ use mathlib.Core.Logic.{_≢_}
 use mathlib.Core.Bool.{Bool, true, false, _&&_}
 use lib.Dec.{eqb, lit<}
 use lib.ListN.{getD, List·getD-eq-default}
-use borrow.Author.Tests.{ltb-true, lt-ltb, eqb-true, eqb-false, eq-eqb, ne-eqb, le-leb}
+use borrow.Author.Tests.{ltb-true, lt-ltb, eqb-true, eq-eqb, ne-eqb, le-leb}
 use native.Mathlib.Omega.{arith}
 use native.Mathlib.Nat.{add-suc, add-sub-of-le}
 use native.Mathlib.Numerals.{add-one}
 use native.Mathlib.Decide.{ℕ-discrete, decLe, decLt}
-use Rattle.facts.specs.Sums.{bit, sum, count, count₂}
-use Rattle.facts.proofs.Bools.{and-l, and-r, and-i}
-use Rattle.facts.proofs.Sums.{sum-append, sum-cong, sum-mono, term-le, count-append, count-cong, count-mono, count-none, count₂-mono, double-count, fibres₁}
+use Rattle.facts.specs.Sums.{sum, count, count₂}
+use Rattle.facts.proofs.Bools.{and-l, and-r, and-i, eqb-same}
+use Rattle.facts.proofs.Sums.{sum-cong, sum-mono, count-cong, count-mono, count₂-mono, double-count, fibres₁, count-some, count-above}
 use Rattle.netlist.specs.Kinds.{slots, topLevel, buffer, arity}
 use Rattle.netlist.specs.Records.{Netlist, netlist, used, fanin, names, feeds}
 use Rattle.netlist.specs.Source.{IsSource}
@@ -28,43 +28,9 @@ use Rattle.verifier.specs.Fewest.{onNet, onNetAt, buffersOn, buffersOnAt
 use Rattle.verifier.proofs.Accepted.{buffers-all, accepted-exactly}
 use Rattle.verifier.proofs.Trace.{buffer-slot, buffer-named, driver-traces, traces-driver, driver-end, driver-here, driver-back, driver-under}
 
--- tests of equal truth are the same
-eqb-same : (a b c d : ℕ) → (a ≡ b → c ≡ d) → (c ≡ d → a ≡ b) → eqb a b ≡ eqb c d
-eqb-same a b c d f g = go (eqb a b) refl
-  where
-    go : (t : Bool) → eqb a b ≡ t → eqb a b ≡ eqb c d
-    go true e = e ∙ sym (eq-eqb c d (f (eqb-true a b e)))
-    go false e = e ∙ sym (ne-eqb c d (λ h. eqb-false a b e (g h)))
-
 -- slot j of record i hangs on d's net at a level: it is used, traces back to d, and its record stands there
 hangs : Netlist → ℕ → ℕ → ℕ → ℕ → Bool
 hangs m d level i j = used m i j && (eqb (driver m (fanin m i j)) d && eqb (m .at i .level) level)
-
-bit-at-most : (b : Bool) (y : ℕ) → (b ≡ true → 1 ≤ y) → bit b ≤ y
-bit-at-most true y h = h refl
-bit-at-most false y h = omega arith
-
-count-some : (p : ℕ → Bool) (j n : ℕ) → j < n → p j ≡ true → 1 ≤ count p n
-unfolding count
-count-some p j n l h = rw h at (term-le (λ i. bit (p i)) j n l)
-
--- terms f below a, and numbers with q from there on, under the terms g
-parts :
-    (f g : ℕ → ℕ) (q : ℕ → Bool) (a e : ℕ) →
-    ((i : ℕ) → i < a → f i ≤ g i) →
-    ((i : ℕ) → i < a → q i ≡ true → ⊥) →
-    ((i : ℕ) → i < e → q (a + i) ≡ true → 1 ≤ g (a + i)) →
-    count q (a + e) + sum f a ≤ sum g (a + e)
-unfolding count
-parts f g q a e low none high =
-    omega (
-      arith,
-      sum-append g a e,
-      count-append q a e,
-      count-none q a none,
-      sum-mono f g a low,
-      sum-mono (λ i. bit (q (a + i))) (λ i. g (a + i)) e (λ i l. bit-at-most (q (a + i)) (g (a + i)) (high i l)),
-    )
 
 -- a row's entry is the number of sinks, or 0 past its end
 row-le : (n : Netlist) (d x : ℕ) → getD (row n d) x 0 ≤ sinks n d x
@@ -164,7 +130,7 @@ module _ (n : Netlist) (s : ℕ) (m : Netlist) (source : IsSource n) (legal : Le
       count (onNetAt m d level) size + sum (λ i. count (sinkAt n d x i) slots) (n .size)
       ≤ sum (λ i. count (hangs m d level i) slots) size)
       (add-sub-of-le (legal .whole))
-      (parts
+      (count-above
       (λ i. count (sinkAt n d x i) slots)
       (λ i. count (hangs m d level i) slots)
       (onNetAt m d level)

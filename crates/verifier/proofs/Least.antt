@@ -1,13 +1,13 @@
 -- A legal netlist with the fewest buffers in all has the fewest on each net and at each level, since each is at least the fewest
 -- and they sum up to it.
-use Prim.Native.Nat.{ℕ, zero, suc, _+_, _-_, _≤_, _<_}
+use Prim.Native.Nat.{ℕ, suc, _+_, _-_, _≤_, _<_}
 use native.Mathlib.Decide.{decLt}
 use native.Mathlib.Omega.{arith}
-use mathlib.Core.Path.{_≡_, sym, subst}
+use mathlib.Core.Path.{_≡_, subst}
 use borrow.Author.Tests.{eqb-true}
 use Rattle.facts.specs.Sums.{sum}
 use Rattle.facts.proofs.Bools.{and-l, and-r}
-use Rattle.facts.proofs.Sums.{sum-mono, count-none}
+use Rattle.facts.proofs.Sums.{count-none, tight}
 use Rattle.netlist.specs.Kinds.{topLevel}
 use Rattle.netlist.specs.Records.{Netlist}
 use Rattle.netlist.specs.Source.{IsSource}
@@ -17,19 +17,6 @@ use Rattle.verifier.specs.Legal.{Legal}
 use Rattle.verifier.specs.Checks.{bufferCount}
 use Rattle.verifier.specs.Fewest.{onNet, onNetAt, buffersOn, buffersOnAt, LeastEverywhere}
 use Rattle.verifier.proofs.Fewest.{above, at-levels, on-nets, in-all, levels-sum, nets-sum}
-
--- larger terms with no larger sum are the same
-tight : (f g : ℕ → ℕ) (n : ℕ) → ((i : ℕ) → i < n → f i ≤ g i) → sum g n ≤ sum f n → (i : ℕ) → i < n → g i ≤ f i
-unfolding sum
-tight f g zero h e i l = absurd (omega arith)
-tight f g (suc n) h e i l =
-    elim (decLt i n) [
-      | yes b ↦ tight f g n (λ j k. h j (omega arith)) (omega (arith, h n (omega arith))) i b
-      | no b ↦
-          let last : i ≡ n = omega arith in
-          subst (λ (j : ℕ). g j ≤ f j) (sym last)
-          (omega (arith, sum-mono f g n (λ j k. h j (omega arith))))
-    ]
 
 module _ (n : Netlist) (s : ℕ) (m : Netlist) (p : 0 < s) (source : IsSource n) (legal : Legal n s m)
     (few : bufferCount m ≤ sum (λ d. fewest s (row n d)) (n .size)) where

@@ -1,6 +1,6 @@
 -- `slot` meets its contract: below the number of slots an entry, else the default.
 use borrow.Author.Needs.{needs}
-use Rattle.netlist.proofs.Records.{getD-any, getD-past}
+use Rattle.facts.proofs.Lists.{getD-any, getD-past}
 use Rattle.netlist.proofs.slot.Statement.{statement}
 use Rattle.netlist.proofs.slot.Tie as tie
 

@@ -1,5 +1,5 @@
 -- `byte_at` meets its contract: past the end an area holds 0.
-use Rattle.simulator.proofs.Playing.{byte-past}
+use Rattle.facts.proofs.Lists.{getD-past}
 use borrow.Author.Needs.{needs}
 use Rattle.simulator.proofs.phase_run.byte_at.Statement.{statement}
 use Rattle.simulator.proofs.phase_run.byte_at.Tie as tie
@@ -11,7 +11,7 @@ returns : tie.Need-returns
 returns c = search needs
 
 returns-2 : tie.Need-returns-2
-returns-2 c = search byte-past
+returns-2 c = search getD-past
 
 pub byte-at-spec : {M : Type 1} → statement M
 byte-at-spec = tie.close (tie.spec shared-slice-read-result returns returns-2)

@@ -1,7 +1,7 @@
 -- `clear` meets its contract: the first i bytes are zeros, the rest is as it was.
 use borrow.Author.Needs.{needs}
 use Prim.Native.Nat.{_-_}
-use Rattle.simulator.proofs.Playing.{Zeroing, zeroing-start, zeroing-more, zeroing-end}
+use Rattle.facts.proofs.Areas.{Zeroing, zeroing-start, zeroing-more, zeroing-end}
 use Rattle.simulator.proofs.phase_run.clear.Statement.{statement}
 use Rattle.simulator.proofs.phase_run.clear.Tie as tie
 
