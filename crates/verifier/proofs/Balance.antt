@@ -1,11 +1,11 @@
 -- A legal mapped netlist of a source is path-balanced and properly branched: its records are the source's, at their levels, and buffers.
-use Prim.Native.Nat.{ℕ, _≤_, _<_}
+use Prim.Native.Nat.{ℕ, _<_}
 use native.Mathlib.Decide.{decLt}
 use native.Mathlib.Omega.{arith}
 use mathlib.Core.Path.{_≡_, sym, _∙_}
 use mathlib.Core.Logic.{_≢_}
 use borrow.Author.Tests.{leb-true, eq-eqb, ne-eqb}
-use Rattle.netlist.specs.Kinds.{input, majority, output, buffer}
+use Rattle.netlist.specs.Kinds.{majority, output, buffer}
 use Rattle.netlist.specs.Records.{Netlist, netlist, depth}
 use Rattle.netlist.specs.Source.{IsSource, OutputsAt}
 use Rattle.verifier.specs.Legal.{Legal}
