@@ -5,6 +5,7 @@ use mathlib.Core.Bool.{Bool, true, false, cond}
 use mathlib.Core.List.{List}
 use native.Mathlib.Omega.{arith}
 use lib.ListN.{length, getD, length-set, length-replicate}
+use lib.Seq.{ext-getD}
 use native.Mathlib.Numerals.{add-one}
 use lib.Dec.{ltb, eqb}
 use borrow.Author.Tests.{eq-eqb, ne-eqb, lt-ltb, le-ltb, ltb-true, ltb-false}
@@ -12,12 +13,15 @@ use Rattle.facts.proofs.Bools.{and-i, and-l}
 use Rattle.facts.specs.Sums.{bit, sum, count, count₂}
 use Rattle.facts.proofs.Sums.{count-suc, count-false, count-le, count-stop, count₂-le}
 use Rattle.netlist.proofs.Checks.{arity-slots}
-use Rattle.fanout.proofs.Rows.{added-at, level-test, sink-above, zeros-at}
+use Rattle.fanout.specs.Walk.{Filled}
+use Rattle.fanout.proofs.Nets.{row-length, row-at}
+use Rattle.fanout.proofs.Lists.{getD-replicated}
+use Rattle.fanout.proofs.Rows.{added-at, level-test, sink-above}
 use Rattle.netlist.specs.declared.Record.{Record}
 use Rattle.netlist.specs.Kinds.{slots, topLevel, arity}
 use Rattle.netlist.specs.Records.{Netlist, slot, used, fanin, names}
 use Rattle.netlist.specs.Source.{IsSource}
-use Rattle.fanout.specs.Nets.{sinkAt, added, row}
+use Rattle.fanout.specs.Nets.{sinkAt, sinks, added}
 use Rattle.fanout.specs.Filling.{sinksSoFar, RowSoFar, RowAtRecord, Empty, SinkRoom, Slot, farther, rowWith, farWith}
 
 -- one slot, whose content is t
@@ -232,7 +236,7 @@ module _ (m : Netlist) (d below n : ℕ) where
       }
     where
       zero-at : (x : ℕ) → getD row x 0 ≡ 0
-      zero-at x = ap (λ (r : List ℕ). getD r x 0) (h .zeros) ∙ zeros-at (suc topLevel) x
+      zero-at x = ap (λ (r : List ℕ). getD r x 0) (h .zeros) ∙ getD-replicated (suc topLevel) x 0
 
   module _ (row : List ℕ) (far k : ℕ) (h : Records m d below n row far k) where
     pub records-room : k < n → RowAtRecord m d below k row far
@@ -255,6 +259,17 @@ module _ (m : Netlist) (d below n : ℕ) where
           filled = rw (add-one k) f;
         }
 
-    pub records-end : n ≤ k → RowSoFar m d (m .size) 0 row far
+    pub records-end : n ≤ k → Filled m d row far
+    unfolding sinks count sum
     records-end l =
-        subst (λ (k : ℕ). RowSoFar m d k 0 row far) (let e : k ≡ m .size = omega (arith, h .size, h .within) in e) (h .filled)
+        let f : RowSoFar m d (m .size) 0 row far =
+        subst (λ (k : ℕ). RowSoFar m d k 0 row far) (let e : k ≡ m .size = omega (arith, h .size, h .within) in e) (h .filled) in
+        record {
+          counted =
+              ext-getD 0 row (Rattle.fanout.specs.Nets.row m d) (f .long ∙ sym (row-length m d))
+              (λ x b.
+              let g : x ≤ topLevel = omega (arith, f .long) in
+              omega (arith, f .entry x g, row-at m d x g));
+          near = f .within;
+          beyond = f .past;
+        }

@@ -1,3 +1,4 @@
+pub mod Lists
 pub mod Nets
 pub mod Rows
 pub mod Least

@@ -42,6 +42,24 @@ nodes-past s r k l = rw (drop-of-length-le r l) refl
 pub buffers-past : (s : ℕ) (r : List ℕ) (k : ℕ) → 0 < s → length r ≤ suc k → buffersAt s r k ≡ 0
 buffers-past s r k h l = rw (nodes-past s r (suc k) l) (up-zero s h)
 
+-- a row without sinks has no nodes and no buffers
+pub nodes-none : (s : ℕ) (r : List ℕ) → 0 < s → ((x : ℕ) → getD r x 0 ≡ 0) → nodes s r ≡ 0
+unfolding nodes
+nodes-none s [] p h = refl
+nodes-none s (here ∷ further) p h =
+    omega (arith, ap (up s) (nodes-none s further p (λ x. h (suc x))), up-zero s p, h 0)
+
+pub buffers-none : (s : ℕ) (r : List ℕ) → 0 < s → ((x : ℕ) → getD r x 0 ≡ 0) → buffers s r ≡ 0
+unfolding buffers
+buffers-none s [] p h = refl
+buffers-none s (here ∷ further) p h =
+    omega (
+      arith,
+      ap (up s) (nodes-none s further p (λ x. h (suc x))),
+      up-zero s p,
+      buffers-none s further p (λ x. h (suc x)),
+    )
+
 -- the nodes at a distance: its buffers and its sinks
 pub nodes-at : (s : ℕ) (r : List ℕ) (k : ℕ) → 0 < s → nodesAt s r k ≡ buffersAt s r k + getD r k 0
 unfolding nodes

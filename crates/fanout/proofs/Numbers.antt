@@ -5,7 +5,6 @@ use mathlib.Core.List.{List}
 use mathlib.Core.Logic.{⊎-elim}
 use native.Mathlib.Omega.{arith}
 use Rattle.facts.specs.Refusals.{FirstAt}
-use Rattle.netlist.specs.Kinds.{topLevel}
 use Rattle.netlist.specs.Records.{netlist}
 use Rattle.netlist.proofs.Source.{input-passed}
 use Rattle.fanout.specs.declared.Count.{Count}
@@ -14,9 +13,8 @@ use Rattle.fanout.specs.Nets.{row, fewest}
 use Rattle.fanout.specs.Trees.{Net, netOf}
 use Rattle.fanout.specs.Answer.{driverCapacity, noTree, countNumbers, countAnswer}
 use Rattle.fanout.specs.Promises.{LeastTree, Asked, CountFails, NumbersExactly}
-use Rattle.fanout.proofs.Nets.{row-length}
 use Rattle.fanout.proofs.Rows.{row-of-net}
-use Rattle.fanout.proofs.Walking.{fewest-few}
+use Rattle.fanout.proofs.Walking.{fewest-small}
 use Rattle.fanout.proofs.Promises.{tree-exactly, fewest-attained}
 use Rattle.fanout.proofs.Call.{no-tree-exactly, fewest-exactly, refused-exactly}
 
@@ -53,8 +51,7 @@ module _ (s : ℕ) (source : List ℕ) (d : ℕ) where
         arith,
         t .least (a .tree) (a .legal),
         a .inAll,
-        fewest-few net s r pos counts topLevel (omega (arith, row-length (netlist source) d)),
-        i .isSource .isSource .few,
+        fewest-small (netlist source) s d (i .isSource .isSource) (i .low),
       )
 
   -- refusals are numbered from 1 on

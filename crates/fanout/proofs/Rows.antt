@@ -12,13 +12,15 @@ use lib.Dec.{eqb, ltb, leb}
 use borrow.Author.Tests.{eqb-true, eq-eqb, ne-eqb, ltb-true, leb-true}
 use Rattle.facts.specs.Sums.{bit, sum, count}
 use Rattle.facts.proofs.Bools.{and-l, and-r}
-use Rattle.facts.proofs.Sums.{sum-first, count-cong, count-none, count₂-flat}
+use Rattle.facts.proofs.Sums.{sum-first, count-cong, count-none, count₂-flat, count₂-le, count₂-none}
 use Rattle.netlist.specs.Kinds.{slots, topLevel, arity}
 use Rattle.netlist.specs.Records.{Netlist, names, used, fanin}
 use Rattle.netlist.specs.Source.{IsSource}
 use Rattle.fanout.specs.Nets.{sinkAt, sinks, row, added}
 use Rattle.fanout.specs.Trees.{RowOf, netOf, netAt, sinksAt}
 use Rattle.fanout.specs.Worked.{addedAll, rowAt}
+use Rattle.fanout.specs.Walk.{sinkLimit}
+use Rattle.fanout.proofs.Lists.{getD-replicated}
 use Rattle.fanout.proofs.Nets.{row-length, row-at}
 
 -- one more sink at x, and the others as they were
@@ -63,12 +65,6 @@ within-at [] x e l = absurd (omega arith)
 within-at (d ∷ ds) zero e l = first-within d ds e .0
 within-at (d ∷ ds) (suc x) e l = within-at ds x (others-within d ds e) (omega arith)
 
--- a row of zeros
-pub zeros-at : (n k : ℕ) → getD {A = ℕ} (replicate n 0) k 0 ≡ 0
-zeros-at zero k = refl
-zeros-at (suc n) zero = refl
-zeros-at (suc n) (suc k) = zeros-at n k
-
 -- the row of a list of distances
 pub row-of-distances : (ds : List ℕ) → within ds ≡ true → RowOf (netAt ds) (rowAt ds)
 unfolding sinksAt
@@ -76,7 +72,7 @@ row-of-distances ds e =
     record {
       entry = λ k.
           addedAll-at (replicate (suc topLevel) 0) ds k (length-replicate {A = ℕ} (suc topLevel) 0) e
-          ∙ ap (λ (n : ℕ). n + sinksAt (netAt ds) k) (zeros-at (suc topLevel) k)
+          ∙ ap (λ (n : ℕ). n + sinksAt (netAt ds) k) (getD-replicated (suc topLevel) k 0)
           ∙ zero-add (sinksAt (netAt ds) k);
       above = λ x l h. within-at ds x e l;
     }
@@ -87,6 +83,14 @@ level-test a b k l =
     elim (ℕ-discrete a (b + k)) [
       | yes e ↦ eq-eqb a (b + k) e ∙ sym (eq-eqb (a - b) k (omega arith))
       | no g ↦ ne-eqb a (b + k) g ∙ sym (ne-eqb (a - b) k (λ e. g (omega arith)))
+    ]
+
+-- a distance without sinks
+pub row-none : (m : Netlist) (d x : ℕ) → sinks m d x ≡ 0 → getD (row m d) x 0 ≡ 0
+row-none m d x e =
+    elim (decLe x topLevel) [
+      | yes h ↦ row-at m d x h ∙ e
+      | no g ↦ List·getD-eq-default (row m d) 0 {n = x} (omega (arith, row-length m d))
     ]
 
 module _ (m : Netlist) (d : ℕ) (source : IsSource m) where
@@ -138,3 +142,24 @@ module _ (m : Netlist) (d : ℕ) (source : IsSource m) where
         entry = entry-at;
         above = λ x l e. omega (arith, sink-above (x / slots) (x % slots) (record-of x l) e);
       }
+
+  -- its entries are small, and no sink stands beside the driver
+  pub row-small : (k : ℕ) → getD (row m d) k 0 ≤ sinkLimit
+  unfolding sinks
+  row-small k =
+      elim (decLe k topLevel) [
+        | yes h ↦ omega (arith, row-at m d k h, count₂-le (sinkAt m d k) slots (m .size), source .few)
+        | no g ↦ omega (arith, List·getD-eq-default (row m d) 0 {n = k} (omega (arith, row-length m d)))
+      ]
+
+  pub row-apart : getD (row m d) 0 0 ≡ 0
+  unfolding sinks
+  row-apart =
+      row-none m d 0
+      (count₂-none (sinkAt m d 0) slots (m .size)
+      (λ i j l b e.
+      omega (
+        arith,
+        sink-above i j l (and-l (names m d i j) _ e),
+        eqb-true (m .at i .level) (m .at d .level + 0) (and-r (names m d i j) _ e),
+      )))

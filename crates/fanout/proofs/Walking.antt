@@ -1,215 +1,212 @@
--- Laws of the walk down a row, with premises as the code has them; and that a net's row can be walked: nodes never outnumber sinks.
-use Prim.Native.Nat.{ℕ, zero, suc, _+_, _*_, _-_, _≤_, _<_, _/_, _^_}
+-- Laws of the walk down a row in place: from distance k on the row holds the buffers, or nothing where they are not kept; and that
+-- the row of a source's driver can be walked.
+use Prim.Native.Nat.{ℕ, suc, _+_, _-_, _*_, _≤_, _<_, _/_}
 use mathlib.Core.Path.{_≡_, refl, sym, _∙_, ap, subst}
-use mathlib.Core.Bool.{Bool, true, _&&_, _||_}
-use mathlib.Core.List.{List}
-use mathlib.Core.Logic.{⊎-elim}
+use mathlib.Core.Bool.{Bool, true, false, cond}
+use mathlib.Core.List.{List, [], _∷_}
 use native.Mathlib.Omega.{arith}
-use native.Mathlib.Nat.{mul-le-mul-right, one-mul}
-use lib.ListN.{length, getD, drop}
-use lib.Dec.{ltb, eqb}
-use borrow.Author.Tests.{le-leb, lt-leb, lt-ltb, ltb-true, eqb-true}
-use lib.Seq.{ext-getD}
-use Rattle.facts.specs.Sums.{sum, count}
-use Rattle.facts.proofs.Bools.{and-l, and-r, and-i}
-use Rattle.facts.proofs.Reflect.{either}
-use Rattle.facts.proofs.Sums.{sum-mono, sum-const, count-or, count-mono, count-le}
+use native.Mathlib.Nat.{mul-le-mul-right, mul-suc}
+use native.Mathlib.Decide.{decLt, ℕ-discrete}
+use mir.Val.{Fits}
+use mir.Syntax.{w32}
+use lib.ListN.{length, getD, drop, set, replicate, length-set, length-drop}
+use lib.Seq.{getD-set-same, getD-set-other, getD-drop}
+use borrow.Author.Tests.{le-leb, lt-leb}
 use Rattle.netlist.specs.Kinds.{topLevel}
-use Rattle.netlist.specs.Records.{netlist, recordCount}
-use Rattle.netlist.specs.Source.{Input}
-use Rattle.fanout.specs.declared.Count.{Count}
+use Rattle.netlist.specs.Records.{Netlist, netlist}
+use Rattle.netlist.specs.Source.{IsSource, Input}
+use Rattle.fanout.specs.declared.TreeTotals.{TreeTotals}
 use Rattle.fanout.specs.declared.Count.the-variants.{Fewest, NoTree}
-use Rattle.fanout.specs.Nets.{row, sinks, up, nodes, buffers, nodesAt, buffersAt, fewest}
-use Rattle.fanout.specs.Trees.{Net, RowOf, sinksAt, netOf}
+use Rattle.fanout.specs.Nets.{row, up, nodes, buffers, nodesAt, buffersAt, fewest}
 use Rattle.fanout.specs.Answer.{treeCount, driverCapacity}
-use Rattle.fanout.specs.Filling.{RowSoFar, Few, CountableRow, CountedDown, sinkLimit}
-use Rattle.fanout.proofs.Rows.{row-of-net}
-use Rattle.fanout.proofs.Nets.{row-length, row-at, up-zero, nodes-at, nodes-past, none-past, buffers-from, fewest-sum, minimal}
+use Rattle.fanout.specs.Walk.{sinkLimit, nodeLimit, Filled, Walkable, Walked}
+use Rattle.fanout.proofs.Lists.{zeros}
+use Rattle.fanout.proofs.Nets.{up-le, up-zero, nodes-at, nodes-none, buffers-from, buffers-none, row-length}
+use Rattle.fanout.proofs.Rows.{row-small, row-apart}
 
--- the three divisions
-module _ (s n : ℕ) where
-  pub up-two : s ≡ 2 → (n + 1) / 2 ≡ up s n
-  up-two e = rw e refl
+-- at most half of the nodes, rounded up
+up-half : (s m : ℕ) → 2 ≤ s → up s m ≤ (m + 1) / 2
+up-half s m l = up-le s m ((m + 1) / 2) (omega arith) (omega (arith, mul-le-mul-right {m = 2} {n = s} ((m + 1) / 2) l))
 
-  pub up-three : s ≡ 3 → (n + 2) / 3 ≡ up s n
-  up-three e = rw e refl
+-- entries of at most c give at most 2 c nodes at each distance
+nodes-small : (s c : ℕ) (r : List ℕ) → 2 ≤ s → ((k : ℕ) → getD r k 0 ≤ c) → nodes s r ≤ 2 * c
+unfolding nodes
+nodes-small s c [] l h = omega arith
+nodes-small s c (here ∷ further) l h =
+    omega (arith, up-half s (nodes s further) l, nodes-small s c further l (λ k. h (suc k)), h 0)
 
-  pub up-four : Few s n → (s ≡ 2 → ⊥) → (s ≡ 3 → ⊥) → (n + 3) / 4 ≡ up s n
-  up-four h a b = let e : s ≡ 4 = omega arith in rw e refl
+buffers-small : (s c : ℕ) (r : List ℕ) → 2 ≤ s → ((k : ℕ) → getD r k 0 ≤ c) → buffers s r ≤ 2 * c * length r
+unfolding buffers
+buffers-small s c [] l h = omega arith
+buffers-small s c (here ∷ further) l h =
+    omega (
+      arith,
+      up-half s (nodes s further) l,
+      nodes-small s c further l (λ k. h (suc k)),
+      buffers-small s c further l (λ k. h (suc k)),
+      mul-suc (2 * c) (length further),
+    )
 
-module _ (net : Net) (s : ℕ) (r : List ℕ) (pos : 0 < s) (counts : RowOf net r) where
-  -- sink x stands at distance k, beyond it
-  abbrev there : ℕ → ℕ → Bool
-  there k x = net .sink x && eqb (net .distance x) k
+-- the most buffers of a net, far above what is reached
+abbrev pub bufferLimit : ℕ
+bufferLimit = nodeLimit * suc topLevel
 
-  abbrev beyond : ℕ → ℕ → Bool
-  beyond k x = net .sink x && ltb k (net .distance x)
+pub fewest-small : (n : Netlist) (s d : ℕ) → IsSource n → 2 ≤ s → fewest s (row n d) ≤ bufferLimit
+fewest-small n s d i l =
+    omega (
+      arith,
+      buffers-small s sinkLimit (drop 1 (row n d)) l
+          (λ k. omega (arith, getD-drop 1 (row n d) k 0, row-small n d i (1 + k))),
+      length-drop 1 (row n d),
+      row-length n d,
+    )
 
-  -- the sinks at a distance and those beyond it
-  from : (k : ℕ) → count (beyond k) (net .places) + getD r k 0 ≡ count (λ x. beyond k x || there k x) (net .places)
-  unfolding sinksAt
-  from k =
-      omega (
-        arith,
-        counts .entry k,
-        count-or (beyond k) (there k) (net .places)
-            (λ x l a b.
-            omega (
-              arith,
-              ltb-true k (net .distance x) (and-r (net .sink x) _ a),
-              eqb-true (net .distance x) k (and-r (net .sink x) _ b),
-            )),
-      )
+-- at distance k: its nodes, the buffers from there on, and the row, whose entries are sinks below k, and buffers or nothing from k on
+pub record Walking (s : ℕ) (counts : List ℕ) (keep : Bool) (row : List ℕ) (k nodes buffers : ℕ) : Type 0 where
+  pub from : 1 ≤ k
+  pub to : k ≤ suc topLevel
+  pub here : nodes ≡ nodesAt s counts k
+  pub further : buffers ≡ Rattle.fanout.specs.Nets.buffers s (drop k counts)
+  pub size : length row ≡ suc topLevel
+  pub below : (x : ℕ) → x < k → getD row x 0 ≡ getD counts x 0
+  pub above : (x : ℕ) → k ≤ x → getD row x 0 ≡ cond keep (buffersAt s counts x) 0
 
-  -- those beyond a distance carry as buffers would
-  carry : (k : ℕ) → 0 < k → count (beyond (suc k)) (net .places) + getD r (suc k) 0 ≤ s * count (beyond k) (net .places)
-  carry k h =
-      omega (
-        arith,
-        from (suc k),
-        count-mono (λ x. beyond (suc k) x || there (suc k) x) (beyond k) (net .places) (λ x l e. nearer x e),
-        mul-le-mul-right (count (beyond k) (net .places)) pos,
-        one-mul (count (beyond k) (net .places)),
-      )
-    where
-      nearer : (x : ℕ) → (beyond (suc k) x || there (suc k) x) ≡ true → beyond k x ≡ true
-      nearer x e =
-          ⊎-elim
-          (λ a. still x (and-l (net .sink x) _ a) (omega (arith, ltb-true (suc k) (net .distance x) (and-r (net .sink x) _ a))))
-          (λ a. still x (and-l (net .sink x) _ a) (omega (arith, eqb-true (net .distance x) (suc k) (and-r (net .sink x) _ a))))
-          (either (beyond (suc k) x) (there (suc k) x) .0 e)
-        where
-          still : (x : ℕ) → net .sink x ≡ true → k < net .distance x → beyond k x ≡ true
-          still x a l = and-i (net .sink x) _ a (lt-ltb k (net .distance x) l)
+module _ (s : ℕ) (counts : List ℕ) (far : ℕ) (w : Walkable s counts far) where
+  pos : 0 < s
+  pos = omega (arith, w .low)
 
-  -- nodes never outnumber sinks
-  pub nodes-few : (k : ℕ) → 0 < k → nodesAt s r k ≤ net .places
-  nodes-few k h =
-      omega (
-        arith,
-        nodes-at s r k pos,
-        minimal s r (λ k. count (beyond k) (net .places)) pos carry k h,
-        from k,
-        count-le (λ x. beyond k x || there k x) (net .places),
-      )
+  none : (k x : ℕ) → far < k → getD (drop k counts) x 0 ≡ 0
+  none k x l = getD-drop k counts x 0 ∙ w .beyond (k + x) (omega arith)
 
-  -- so the fewest buffers are few
-  pub fewest-few : (n : ℕ) → length r ≤ suc n → fewest s r ≤ net .places * n
-  fewest-few n l =
-      omega (
-        arith,
-        fewest-sum s r n pos l,
-        sum-mono (λ k. buffersAt s r (suc k)) (λ k. net .places) n
-            (λ k b. omega (arith, nodes-at s r (suc k) pos, nodes-few (suc k) (omega arith))),
-        sum-const (net .places) n,
-      )
+  -- beyond far nothing is left
+  left-none : (keep : Bool) (x : ℕ) → far < x → cond keep (buffersAt s counts x) 0 ≡ 0
+  left-none true x l = ap (up s) (nodes-none s (drop (suc x) counts) pos (λ y. none (suc x) y (omega arith))) ∙ up-zero s pos
+  left-none false x l = refl
 
--- where no sinks are left there are no nodes and no buffers
-all-past : (s : ℕ) (r : List ℕ) (n k : ℕ) → 0 < s → length r ≤ k + n → ((x : ℕ) → k ≤ x → getD r x 0 ≡ 0) →
-    (nodesAt s r k ≡ 0) × (buffers s (drop k r) ≡ 0)
-all-past s r zero k pos l z = (nodes-past s r k (omega arith), none-past s r k (omega arith))
-all-past s r (suc n) k pos l z =
-    let h = all-past s r n (suc k) pos (omega arith) (λ x g. z x (omega arith)) in
-    let e : buffersAt s r k ≡ 0 = ap (up s) (h .0) ∙ up-zero s pos in
-    (omega (arith, nodes-at s r k pos, z k (omega arith), e), omega (arith, buffers-from s r k pos, h .1, e))
-
-module _ (s : ℕ) (r : List ℕ) (far : ℕ) (can : CountableRow s r far) where
-  pub walk-start : CountedDown s r (far + 1) 0 0
-  walk-start =
-      let h = all-past s r (length r) (far + 1) (omega (arith, can .low)) (omega arith) (λ x l. can .past x (omega arith)) in
+  pub walk-start : (keep : Bool) → Walking s counts keep counts (far + 1) 0 0
+  walk-start keep =
       record {
-        above = omega arith;
-        within = omega (arith, can .within);
-        nodesThere = sym (h .0);
-        buffersFrom = sym (h .1);
-        small = omega (arith, can .within);
+        from = omega arith;
+        to = omega (arith, w .near);
+        here = sym (nodes-none s (drop (far + 1) counts) pos (λ x. none (far + 1) x (omega arith)));
+        further = sym (buffers-none s (drop (far + 1) counts) pos (λ x. none (far + 1) x (omega arith)));
+        size = w .size;
+        below = λ x l. refl;
+        above = λ x l. w .beyond x (omega arith) ∙ sym (left-none keep x (omega arith));
       }
 
-  module _ (k nodes total : ℕ) (w : CountedDown s r k nodes total) where
-    pub walk-few : Few s nodes
-    walk-few =
-        record { low = can .low; high = can .high; nodes = omega (arith, w .nodesThere, can .few k (w .above)) }
+  small-from : (k x : ℕ) → getD (drop k counts) x 0 ≤ sinkLimit
+  small-from k x = omega (arith, getD-drop k counts x 0, w .small (k + x))
 
-    module _ (carriers : ℕ) (l : 1 < k) (e : carriers ≡ up s nodes) where
-      -- the nodes and buffers one level nearer
-      step : k ≡ suc (k - 1)
-      step = omega arith
+  module _ (keep : Bool) (row : List ℕ) (k nodes buffers : ℕ) (h : Walking s counts keep row k nodes buffers) where
+    pub walk-few : nodes ≤ nodeLimit
+    walk-few = omega (arith, h .here, nodes-small s sinkLimit (drop k counts) (w .low) (small-from k))
 
-      carriers-are : carriers ≡ buffersAt s r (k - 1)
-      carriers-are = e ∙ ap (up s) (w .nodesThere ∙ ap (nodesAt s r) step)
+    module _ (l : 1 < k) (b : ℕ) (e : b ≡ up s nodes) where
+      pub walk-room : k - 1 < suc topLevel
+      walk-room = omega (arith, h .to)
 
-      there-now : carriers + getD r (k - 1) 0 ≡ nodesAt s r (k - 1)
-      there-now = omega (arith, nodes-at s r (k - 1) (omega (arith, can .low)), carriers-are)
+      next : k ≡ suc (k - 1)
+      next = omega arith
 
-      from-now : total + carriers ≡ buffers s (drop (k - 1) r)
-      from-now =
+      carried : b ≡ buffersAt s counts (k - 1)
+      carried = e ∙ ap (up s) (h .here ∙ ap (nodesAt s counts) next)
+
+      nodes-here : b + getD row (k - 1) 0 ≡ nodesAt s counts (k - 1)
+      nodes-here = omega (arith, carried, h .below (k - 1) (omega arith), nodes-at s counts (k - 1) pos)
+
+      all-buffers : buffers + b ≡ Rattle.fanout.specs.Nets.buffers s (drop (k - 1) counts)
+      all-buffers =
           omega (
             arith,
-            buffers-from s r (k - 1) (omega (arith, can .low)),
-            carriers-are,
-            w .buffersFrom,
-            ap (λ (k : ℕ). buffers s (drop k r)) step,
+            carried,
+            h .further,
+            ap (λ (k : ℕ). Rattle.fanout.specs.Nets.buffers s (drop k counts)) next,
+            buffers-from s counts (k - 1) pos,
           )
 
-      pub walk-more : CountedDown s r (k - 1) (carriers + getD r (k - 1) 0) (total + carriers)
-      walk-more =
+      pub walk-nodes : Fits w32 (b + getD row (k - 1) 0)
+      walk-nodes =
+          omega (arith, nodes-here, nodes-small s sinkLimit (drop (k - 1) counts) (w .low) (small-from (k - 1)))
+
+      pub walk-buffers : Fits w32 (buffers + b)
+      walk-buffers =
+          omega (
+            arith,
+            all-buffers,
+            buffers-small s sinkLimit (drop (k - 1) counts) (w .low) (small-from (k - 1)),
+            length-drop (k - 1) counts,
+            w .size,
+          )
+
+      pub walk-more : (v : ℕ) → v ≡ cond keep b 0 →
+          Walking s counts keep (set row (k - 1) v) (k - 1) (b + getD row (k - 1) 0) (buffers + b)
+      walk-more v q =
           record {
-            above = omega arith;
-            within = omega (arith, w .within);
-            nodesThere = there-now;
-            buffersFrom = from-now;
-            small = omega (arith, w .small, can .few (k - 1) (omega arith), there-now);
+            from = omega arith;
+            to = omega (arith, h .to);
+            here = nodes-here;
+            further = all-buffers;
+            size = length-set row (k - 1) v ∙ h .size;
+            below = λ x m. getD-set-other row (k - 1) x v 0 (λ g. omega arith) ∙ h .below x (omega arith);
+            above = λ x m. at x m (ℕ-discrete x (k - 1));
           }
+        where
+          at : (x : ℕ) → k - 1 ≤ x → Dec (x ≡ k - 1) → getD (set row (k - 1) v) x 0 ≡ cond keep (buffersAt s counts x) 0
+          at x m (yes g) =
+              rw g (getD-set-same row (k - 1) v 0 (omega (arith, h .to, h .size)) ∙ q ∙ ap (λ (c : ℕ). cond keep c 0) carried)
+          at x m (no g) = getD-set-other row (k - 1) x v 0 g ∙ h .above x (omega arith)
 
-      pub nodes-fit : carriers + getD r (k - 1) 0 < 2 ^ 32
-      nodes-fit = omega (arith, can .few (k - 1) (omega arith), there-now)
+    pub walk-end : k ≤ 1 → Walked s counts keep row (record { nodes = nodes; buffers = buffers })
+    walk-end l =
+        record {
+          nodes = h .here ∙ ap (nodesAt s counts) last;
+          buffers = h .further ∙ ap (λ (k : ℕ). Rattle.fanout.specs.Nets.buffers s (drop k counts)) last;
+          size = h .size;
+          apart = h .below 0 (omega (arith, h .from)) ∙ w .apart;
+          at = λ x m. h .above x (omega arith);
+        }
+      where
+        last : k ≡ 1
+        last = omega (arith, h .from)
 
-      pub buffers-fit : total + carriers < 2 ^ 32
-      buffers-fit = omega (arith, walk-more .small)
+-- a row whose buffers are not kept is all zero after the walk
+pub walked-clear : (s : ℕ) (counts after : List ℕ) (t : TreeTotals) → Walked s counts false after t → after ≡ replicate (suc topLevel) 0
+walked-clear s counts after t w = zeros (suc topLevel) after (w .size) (λ x. at x (decLt 0 x))
+  where
+    at : (x : ℕ) → Dec (0 < x) → getD after x 0 ≡ 0
+    at x (yes m) = w .at x (omega arith)
+    at x (no m) = let e : x ≡ 0 = omega arith in rw e (w .apart)
 
-    last : k ≤ 1 → k ≡ 1
-    last l = omega (arith, w .above)
+-- the count that the walk gives
+module _ (s : ℕ) (counts after : List ℕ) (keep : Bool) (t : TreeTotals) (w : Walked s counts keep after t) where
+  walked-tree : t .nodes ≤ driverCapacity → Fewest (t .buffers) ≡ treeCount driverCapacity s counts
+  walked-tree h =
+      rw (le-leb (nodesAt s counts 1) driverCapacity (omega (arith, w .nodes))) (ap Fewest (w .buffers))
 
-    pub walk-tree : k ≤ 1 → nodes ≤ driverCapacity → Fewest total ≡ treeCount driverCapacity s r
-    walk-tree l h =
-        let n : nodes ≡ nodesAt s r 1 = w .nodesThere ∙ ap (nodesAt s r) (last l) in
-        let b : total ≡ buffers s (drop 1 r) = w .buffersFrom ∙ ap (λ (k : ℕ). buffers s (drop k r)) (last l) in
-        rw (le-leb (nodesAt s r 1) driverCapacity (omega arith)) (ap Fewest b)
+  walked-none : driverCapacity < t .nodes → NoTree ≡ treeCount driverCapacity s counts
+  walked-none h = rw (lt-leb (nodesAt s counts 1) driverCapacity (omega (arith, w .nodes))) refl
 
-    pub walk-none : k ≤ 1 → driverCapacity < nodes → NoTree ≡ treeCount driverCapacity s r
-    walk-none l h =
-        let n : nodes ≡ nodesAt s r 1 = w .nodesThere ∙ ap (nodesAt s r) (last l) in
-        rw (lt-leb (nodesAt s r 1) driverCapacity (omega arith)) refl
+-- the row of a source's driver can be walked
+pub walkable : (n : Netlist) (s d far : ℕ) (counts : List ℕ) → IsSource n → (2 ≤ s) × (s ≤ 4) → Filled n d counts far → Walkable s counts far
+walkable n s d far counts i c f =
+    record {
+      low = c .0;
+      high = c .1;
+      size = ap length (f .counted) ∙ row-length n d;
+      near = f .near;
+      apart = ap (λ (r : List ℕ). getD r 0 0) (f .counted) ∙ row-apart n d i;
+      small = λ k. subst (λ (l : List ℕ). getD l k 0 ≤ sinkLimit) (sym (f .counted)) (row-small n d i k);
+      beyond = f .beyond;
+    }
 
--- the filled row of a driver is its row, and can be walked
-module _ (s : ℕ) (source : List ℕ) (d far : ℕ) (r : List ℕ) (i : Input s source)
-    (f : RowSoFar (netlist source) d (recordCount source) 0 r far) where
-  filled-row : r ≡ row (netlist source) d
-  unfolding sinks count sum
-  filled-row =
-      ext-getD 0 r (row (netlist source) d) (f .long ∙ sym (row-length (netlist source) d))
-      (λ x l.
-      let h : x ≤ topLevel = omega (arith, f .long) in
-      omega (arith, f .entry x h, row-at (netlist source) d x h))
+module _ (s : ℕ) (source : List ℕ) (d far : ℕ) (counts : List ℕ) (f : Filled (netlist source) d counts far) where
+  pub input-walkable : Input s source → Walkable s counts far
+  input-walkable i = walkable (netlist source) s d far counts (i .isSource .isSource) (i .low, i .high) f
 
-  pub filled-countable : CountableRow s r far
-  filled-countable =
-      record {
-        low = i .low;
-        high = i .high;
-        within = f .within;
-        past = f .past;
-        few = λ k h. subst (λ (r : List ℕ). nodesAt s r k ≤ sinkLimit) (sym filled-row) (few k h);
-      }
-    where
-      few : (k : ℕ) → 0 < k → nodesAt s (row (netlist source) d) k ≤ sinkLimit
-      few k h =
-          omega (
-            arith,
-            nodes-few (netOf (netlist source) d) s (row (netlist source) d) (omega (arith, i .low))
-                (row-of-net (netlist source) d (i .isSource .isSource)) k h,
-            i .isSource .isSource .few,
-          )
+  module _ (after : List ℕ) (t : TreeTotals) (w : Walked s counts false after t) where
+    pub counted-tree : t .nodes ≤ driverCapacity → Fewest (t .buffers) ≡ treeCount driverCapacity s (row (netlist source) d)
+    counted-tree h = walked-tree s counts after false t w h ∙ ap (treeCount driverCapacity s) (f .counted)
 
-  pub filled-count : (a : Count) → a ≡ treeCount driverCapacity s r → a ≡ treeCount driverCapacity s (row (netlist source) d)
-  filled-count a e = e ∙ ap (treeCount driverCapacity s) filled-row
+    pub counted-none : driverCapacity < t .nodes → NoTree ≡ treeCount driverCapacity s (row (netlist source) d)
+    counted-none h = walked-none s counts after false t w h ∙ ap (treeCount driverCapacity s) (f .counted)

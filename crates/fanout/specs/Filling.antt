@@ -1,16 +1,16 @@
--- What the count's code keeps while it fills the row of one driver and walks it downwards.
-use Prim.Native.Nat.{ℕ, suc, _+_, _*_, _-_, _≤_, _<_, _^_}
+-- What the count's code keeps while it fills the row of one driver.
+use Prim.Native.Nat.{ℕ, suc, _+_, _-_, _≤_, _<_, _^_}
 use mathlib.Core.Path.{_≡_}
 use mathlib.Core.Bool.{cond}
 use mathlib.Core.List.{List}
-use lib.ListN.{length, getD, drop, replicate}
+use lib.ListN.{length, getD, replicate}
 use lib.Dec.{ltb, eqb}
 use Rattle.facts.specs.Sums.{count, count₂}
 use Rattle.netlist.specs.declared.Record.{Record}
-use Rattle.netlist.specs.Kinds.{slots, topLevel, sourceLimit}
+use Rattle.netlist.specs.Kinds.{slots, topLevel}
 use Rattle.netlist.specs.Records.{Netlist, slot}
 use Rattle.netlist.specs.Source.{IsSource}
-use Rattle.fanout.specs.Nets.{sinkAt, added, nodesAt, buffers}
+use Rattle.fanout.specs.Nets.{sinkAt, added}
 
 -- sinks of d at distance x among the records below i and the first j slots of record i
 abbrev pub sinksSoFar : Netlist → ℕ → ℕ → ℕ → ℕ → ℕ
@@ -55,29 +55,3 @@ rowWith d below r j row = cond (eqb (slot r j) d) (added row (r .level - below))
 
 abbrev pub farWith : ℕ → ℕ → Record → ℕ → ℕ → ℕ
 farWith d below r j far = cond (eqb (slot r j) d) (farther far (r .level - below)) far
-
--- the most sinks of a net
-abbrev pub sinkLimit : ℕ
-sinkLimit = slots * sourceLimit
-
--- a capacity, and no more nodes than a net has sinks
-pub record Few (s n : ℕ) : Type 0 where
-  pub low : 2 ≤ s
-  pub high : s ≤ 4
-  pub nodes : n ≤ sinkLimit
-
--- a row whose nodes can be counted: few at each distance, none beyond `far`
-pub record CountableRow (s : ℕ) (r : List ℕ) (far : ℕ) : Type 0 where
-  pub low : 2 ≤ s
-  pub high : s ≤ 4
-  pub within : far ≤ topLevel
-  pub past : (x : ℕ) → far < x → getD r x 0 ≡ 0
-  pub few : (k : ℕ) → 0 < k → nodesAt s r k ≤ sinkLimit
-
--- the walk down to distance k: the nodes there, and the buffers from there on
-pub record CountedDown (s : ℕ) (r : List ℕ) (k nodes total : ℕ) : Type 0 where
-  pub above : 0 < k
-  pub within : k ≤ suc topLevel
-  pub nodesThere : nodes ≡ nodesAt s r k
-  pub buffersFrom : total ≡ buffers s (drop k r)
-  pub small : total + sinkLimit * k ≤ sinkLimit * suc topLevel

@@ -2,5 +2,6 @@ pub mod Nets
 pub mod Trees
 pub mod Answer
 pub mod Filling
+pub mod Walk
 pub mod Worked
 pub mod Promises

@@ -1,12 +1,14 @@
 // One net: its sinks by distance and the fewest buffers of a tree.
 ghost use mathlib.Core.Path.{_≡_};
-ghost use Prim.Native.Nat.{suc};
-ghost use Rattle.netlist.specs.Records.{netlist, recordCount};
+ghost use Prim.Native.Nat.{suc, _/_, _≤_};
+ghost use mathlib.Core.Bool.{cond};
+ghost use Rattle.netlist.specs.Records.{netlist};
 ghost use Rattle.netlist.specs.Source.{Input};
 ghost use Rattle.fanout.specs.Nets.{added, row};
 ghost use Rattle.fanout.specs.Nets;
 ghost use Rattle.fanout.specs.Answer.{treeCount, driverCapacity, countAnswer};
-ghost use Rattle.fanout.specs.Filling.{RowSoFar, RowAtRecord, Empty, SinkRoom, Slot, rowWith, farWith, Few, CountableRow};
+ghost use Rattle.fanout.specs.Filling.{RowSoFar, RowAtRecord, Empty, SinkRoom, Slot, rowWith, farWith};
+ghost use Rattle.fanout.specs.Walk.{nodeLimit, Filled, Walkable, Walked};
 use facts::Checked;
 use netlist::Record;
 
@@ -15,6 +17,12 @@ pub enum Count {
     Fewest(u32),
     NoTree,
     Refused(u32, u32),
+}
+
+// What is left at distance 1 of a net, and the buffers of its tree.
+pub struct TreeTotals {
+    pub nodes: u32,
+    pub buffers: u32,
 }
 
 // Distances of a row, from 0 on.
@@ -77,7 +85,7 @@ fn add_record(
 // The row of the driver's net. Answers the largest distance.
 fn fill(source: &[u8], row: &mut [u32; DISTANCES], driver: usize) -> usize
     requires { ⌜ Empty (netlist (now source)) (now row) ⌝ }
-    ensures { λ f. ⌜ RowSoFar (netlist (now (source .entry))) driver (recordCount (now (source .entry))) 0 (now (row .exit)) f ⌝ }
+    ensures { λ f. ⌜ Filled (netlist (now (source .entry))) driver (now (row .exit)) f ⌝ }
 {
     let below = netlist::level_at(source, driver);
     let n = netlist::record_count(source);
@@ -90,39 +98,52 @@ fn fill(source: &[u8], row: &mut [u32; DISTANCES], driver: usize) -> usize
     far
 }
 
-// n / s, rounded up.
-fn up(s: u32, n: u32) -> u32
-    requires { ⌜ Few s n ⌝ }
-    ensures { λ r. ⌜ r ≡ Nets.up s n ⌝ }
+// x / s, by constants: the compiler has a short way for each.
+pub fn divide(x: u32, s: u32) -> u32
+    requires { ⌜ (2 ≤ s) × (s ≤ 4) ⌝ }
+    ensures { λ r. ⌜ r ≡ x / s ⌝ }
 {
     if s == 2 {
-        return (n + 1) / 2;
+        return x / 2;
     }
     if s == 3 {
-        return (n + 2) / 3;
+        return x / 3;
     }
-    (n + 3) / 4
+    x / 4
 }
 
-// The walk down from the largest distance: the nodes at each distance and the buffers from there on.
-fn walk(row: &[u32; DISTANCES], far: usize, s: u32) -> Count
-    requires { ⌜ CountableRow s (now row) far ⌝ }
-    ensures { λ r. ⌜ r ≡ treeCount driverCapacity s (now (row .entry)) ⌝ }
+// n / s, rounded up.
+fn up(s: u32, n: u32) -> u32
+    requires { ⌜ (2 ≤ s) × (s ≤ 4) ⌝ }
+    requires { ⌜ n ≤ nodeLimit ⌝ }
+    ensures { λ r. ⌜ r ≡ Nets.up s n ⌝ }
 {
-    let mut k = far + 1;
+    divide(n + (s - 1), s)
+}
+
+// b where it is kept, else 0.
+fn kept(keep: bool, b: u32) -> u32
+    ensures { λ r. ⌜ r ≡ cond keep b 0 ⌝ }
+{
+    if keep { b } else { 0 }
+}
+
+// The walk down a row from the largest distance to 1: the nodes left there and the buffers. Each count of sinks becomes the count of buffers at its distance, or 0 where they are not kept.
+pub fn walk(s: u32, far: usize, keep: bool, row: &mut [u32; DISTANCES]) -> TreeTotals
+    requires { ⌜ Walkable s (now row) far ⌝ }
+    ensures { λ r. ⌜ Walked s (now (row .entry)) keep (now (row .exit)) r ⌝ }
+{
     let mut nodes: u32 = 0;
     let mut buffers: u32 = 0;
+    let mut k = far + 1;
     while 1 < k {
         k -= 1;
-        let carriers = up(s, nodes);
-        buffers += carriers;
-        nodes = carriers + row[k];
+        let b = up(s, nodes);
+        nodes = b + row[k];
+        row[k] = kept(keep, b);
+        buffers += b;
     }
-    if nodes <= DRIVER_CAPACITY {
-        Count::Fewest(buffers)
-    } else {
-        Count::NoTree
-    }
+    TreeTotals { nodes, buffers }
 }
 
 // The count of a driver's net.
@@ -132,7 +153,12 @@ fn count_driver(source: &[u8], s: u32, driver: usize) -> Count
 {
     let mut row = [0u32; DISTANCES];
     let far = fill(source, &mut row, driver);
-    walk(&row, far, s)
+    let tree = walk(s, far, false, &mut row);
+    if tree.nodes <= DRIVER_CAPACITY {
+        Count::Fewest(tree.buffers)
+    } else {
+        Count::NoTree
+    }
 }
 
 // The count of one net: checks 1 to 7, then 20, then the fewest buffers or no tree.

@@ -6,8 +6,7 @@ use mathlib.Core.List.{List}
 use native.Mathlib.Omega.{arith}
 use mir.Val.{Fits}
 use mir.Syntax.{w64}
-use lib.ListN.{drop, replicate, length-drop}
-use lib.Seq.{getD-drop}
+use lib.ListN.{replicate}
 use borrow.Author.Tests.{le-leb, lt-leb}
 use Rattle.facts.specs.declared.Checked.{Checked}
 use Rattle.facts.specs.declared.Checked.the-variants.{Passed, Refused}
@@ -15,29 +14,24 @@ use Rattle.facts.specs.Checks.{check}
 use Rattle.facts.specs.Sums.{sum}
 use Rattle.facts.proofs.Sums.{sum-mono, sum-const, sum-last}
 use Rattle.facts.proofs.Loops.{Scanning, scan-start, scan-more, scan-stop, scan-end}
-use Rattle.netlist.specs.Kinds.{slots, topLevel, sourceLimit}
+use Rattle.netlist.specs.Kinds.{topLevel}
 use Rattle.netlist.specs.Records.{Netlist}
 use Rattle.netlist.specs.Source.{IsSource}
-use Rattle.fanout.specs.Nets.{row, nodesAt, buffers}
-use Rattle.fanout.proofs.Nets.{row-length}
-use Rattle.mapper.specs.declared.trees.TreeTotals.{TreeTotals}
+use Rattle.fanout.specs.Nets.{nodesAt}
+use Rattle.fanout.specs.declared.TreeTotals.{TreeTotals}
 use Rattle.mapper.specs.declared.trees.Sizing.{Sizing}
 use Rattle.mapper.specs.declared.trees.Sizing.the-variants.{Total, Stops}
 use Rattle.fanout.specs.Answer.{driverCapacity}
 use Rattle.mapper.specs.Mapped.{netRow, treeSize, bufferTotal}
 use Rattle.mapper.specs.Answer.{treeCheck, treesBelow, treeChecks}
 use Rattle.mapper.specs.Chains.{Chained, Measured, sizingOf}
-use Rattle.mapper.proofs.Measuring.{row-small, net-buffers}
-use Rattle.mapper.proofs.Walking.{buffers-small}
-
--- the most buffers of a net, far above what is reached
-abbrev pub most : ℕ
-most = 2 * (slots * sourceLimit) * suc topLevel
+use Rattle.fanout.proofs.Walking.{bufferLimit, fewest-small}
+use Rattle.mapper.proofs.Measuring.{net-buffers}
 
 pub record Counting (n : Netlist) (s m : ℕ) (row : List ℕ) (total d : ℕ) : Type 0 where
   pub checks : Scanning (treeCheck n s) m d
   pub before : total ≡ sum (treeSize n s) d
-  pub small : total ≤ most * d
+  pub small : total ≤ bufferLimit * d
   pub clear : row ≡ replicate (suc topLevel) 0
 
 module _ (n : Netlist) (s : ℕ) where
@@ -46,24 +40,16 @@ module _ (n : Netlist) (s : ℕ) where
   count-start m row e =
       record { checks = scan-start (treeCheck n s) m; before = refl; small = omega arith; clear = e }
 
-  tree-small : (d : ℕ) → IsSource n → 2 ≤ s → d < n .size → treeSize n s d ≤ most
-  tree-small d i l b =
-      omega (
-        arith,
-        net-buffers n s d 1 i (omega arith) b,
-        buffers-small s (slots * sourceLimit) (drop 1 (row n d)) l
-            (λ k. omega (arith, getD-drop 1 (row n d) k 0, row-small n d (1 + k) i)),
-        length-drop 1 (row n d),
-        row-length n d,
-      )
+  tree-small : (d : ℕ) → IsSource n → 2 ≤ s → d < n .size → treeSize n s d ≤ bufferLimit
+  tree-small d i l b = omega (arith, net-buffers n s d 1 i (omega arith) b, fewest-small n s d i l)
 
   -- the sum of all trees cannot overflow
-  pub total-small : IsSource n → 2 ≤ s → bufferTotal n s ≤ most * n .size
+  pub total-small : IsSource n → 2 ≤ s → bufferTotal n s ≤ bufferLimit * n .size
   total-small i l =
       omega (
         arith,
-        sum-mono (treeSize n s) (λ d. most) (n .size) (λ d b. tree-small d i l b),
-        sum-const most (n .size),
+        sum-mono (treeSize n s) (λ d. bufferLimit) (n .size) (λ d b. tree-small d i l b),
+        sum-const bufferLimit (n .size),
       )
 
   pub count-stop : (row : List ℕ) (total d m : ℕ) (t : TreeTotals) → Counting n s m row total d → d < m → Measured n s d t → driverCapacity < t .nodes →

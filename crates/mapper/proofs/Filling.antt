@@ -1,5 +1,5 @@
 -- Laws of filling a row along the chain of one driver: every sink below slot p is counted.
-use Prim.Native.Nat.{ℕ, suc, _+_, _-_, _≤_, _<_, max}
+use Prim.Native.Nat.{ℕ, suc, _+_, _≤_, _<_, max}
 use mathlib.Core.Path.{_≡_, sym, _∙_, ap}
 use mathlib.Core.List.{List}
 use native.Mathlib.Omega.{arith}
@@ -12,8 +12,9 @@ use Rattle.netlist.specs.Records.{Netlist}
 use Rattle.fanout.specs.Nets.{row}
 use Rattle.fanout.proofs.Nets.{row-length, row-at}
 use Rattle.fanout.proofs.Rows.{added-at}
-use Rattle.mapper.specs.Chains.{nextSink, slotDistance, sinksBelow, Chained, Filled}
-use Rattle.mapper.proofs.Lists.{getD-replicated}
+use Rattle.mapper.specs.Chains.{nextSink, slotDistance, sinksBelow, Chained}
+use Rattle.fanout.specs.Walk.{Filled}
+use Rattle.fanout.proofs.Lists.{getD-replicated}
 use Rattle.mapper.proofs.Following.{sinks-below, OnChain, chain-start, chain-none, chain-all, chain-inside, chain-near, chain-next, chain-on, chain-count}
 
 -- every sink of d below slot p is counted, and none further than top

@@ -10,7 +10,6 @@ pub mod Following
 pub mod Hanging
 pub mod Joining
 pub mod Lines
-pub mod Lists
 pub mod Mapped
 pub mod Measuring
 pub mod Netting
@@ -20,6 +19,5 @@ pub mod Promises
 pub mod ShortChains
 pub mod Threading
 pub mod View
-pub mod Walking
 pub mod Whole
 pub mod Written

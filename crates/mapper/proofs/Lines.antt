@@ -19,7 +19,8 @@ use Rattle.mapper.specs.Chains.{slotDistance, ShortChain, Measured, line
 use Rattle.mapper.proofs.Area.{encoded-cong}
 use Rattle.mapper.proofs.Mapped.{tree-sum, at-place}
 use Rattle.mapper.proofs.Nodes.{pos, IsNode, hangs, buffer-node}
-use Rattle.mapper.proofs.Measuring.{row-none, net-nodes}
+use Rattle.fanout.proofs.Rows.{row-none}
+use Rattle.mapper.proofs.Measuring.{net-nodes}
 use Rattle.mapper.proofs.Hanging.{sink-node, sink-parent, flatNumbered}
 
 -- d's net of one or two sinks

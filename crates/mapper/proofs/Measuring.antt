@@ -1,24 +1,25 @@
 -- Laws of one net's measure: no sink, or a row that is filled and walked; and of clearing a row.
-use Prim.Native.Nat.{ℕ, zero, suc, _+_, _-_, _*_, _≤_, _<_}
-use mathlib.Core.Path.{_≡_, refl, sym, _∙_, ap, subst}
+use Prim.Native.Nat.{ℕ, suc, _+_, _≤_, _<_}
+use mathlib.Core.Path.{_≡_, refl, sym, _∙_, ap}
 use mathlib.Core.Bool.{Bool, true, false, cond}
 use mathlib.Core.List.{List, []}
 use native.Mathlib.Omega.{arith}
 use native.Mathlib.Decide.{decLt, ℕ-discrete}
-use lib.ListN.{length, getD, drop, set, replicate, length-set, List·getD-eq-default}
+use lib.ListN.{length, getD, drop, set, replicate, length-set}
 use lib.Seq.{getD-set-same, getD-set-other, getD-drop, drop-nil}
-use Rattle.facts.proofs.Sums.{count₂-le, count₂-none}
-use Rattle.netlist.specs.Kinds.{slots, topLevel, sourceLimit, isDriver}
+use Rattle.netlist.specs.Kinds.{topLevel, isDriver}
 use Rattle.netlist.specs.Records.{Netlist}
 use Rattle.netlist.specs.Source.{IsSource}
 use Rattle.netlist.proofs.Source.{is-output}
-use Rattle.fanout.specs.Nets.{row, sinks, sinkAt, nodes, buffers, nodesAt, fewest}
-use Rattle.fanout.proofs.Nets.{row-length, row-at}
-use Rattle.mapper.specs.declared.trees.TreeTotals.{TreeTotals}
+use Rattle.fanout.specs.Nets.{row, sinks, nodes, buffers, nodesAt, fewest}
+use Rattle.fanout.specs.declared.TreeTotals.{TreeTotals}
 use Rattle.mapper.specs.Mapped.{netRow}
-use Rattle.mapper.specs.Chains.{Filled, Walkable, Walked, Stale, Measured}
-use Rattle.mapper.proofs.Lists.{zeros}
-use Rattle.mapper.proofs.Nodes.{nodes-none, buffers-none, sink-facts, no-sinks}
+use Rattle.fanout.specs.Walk.{Filled, Walked}
+use Rattle.fanout.proofs.Lists.{zeros}
+use Rattle.fanout.proofs.Nets.{nodes-none, buffers-none}
+use Rattle.fanout.proofs.Rows.{row-none}
+use Rattle.mapper.specs.Chains.{Stale, Measured}
+use Rattle.mapper.proofs.Nodes.{no-sinks}
 
 -- entries below k are zero, and those beyond top
 pub record Clearing (counts : List ℕ) (top k : ℕ) : Type 0 where
@@ -52,33 +53,6 @@ module _ (counts : List ℕ) (top : ℕ) where
   clear-end k h l =
       zeros (suc topLevel) counts (h .size)
       (λ x. elim (decLt x k) [ yes b ↦ h .before x b | no b ↦ h .beyond x (omega arith) ])
-
--- a source's row can be walked
-pub row-small : (n : Netlist) (d k : ℕ) → IsSource n → getD (row n d) k 0 ≤ slots * sourceLimit
-unfolding sinks
-row-small n d k i =
-    elim (decLt topLevel k) [
-      | yes l ↦ omega (arith, List·getD-eq-default (row n d) 0 {n = k} (omega (arith, row-length n d)))
-      | no l ↦ omega (arith, row-at n d k (omega arith), count₂-le (sinkAt n d k) slots (n .size), i .few)
-    ]
-
--- a distance without sinks
-pub row-none : (n : Netlist) (d x : ℕ) → sinks n d x ≡ 0 → getD (row n d) x 0 ≡ 0
-row-none n d x e =
-    elim (decLt topLevel x) [
-      | yes l ↦ List·getD-eq-default (row n d) 0 {n = x} (omega (arith, row-length n d))
-      | no l ↦ row-at n d x (omega arith) ∙ e
-    ]
-
--- no sink stands beside its driver
-pub row-apart : (n : Netlist) (d : ℕ) → IsSource n → getD (row n d) 0 0 ≡ 0
-unfolding sinks
-row-apart n d i =
-    row-none n d 0
-    (count₂-none (sinkAt n d 0) slots (n .size)
-    (λ x j l b t.
-    let h = sink-facts n d 0 x j t in
-    omega (arith, i .lower x j l (h .inUse), ap (λ (y : ℕ). n .at y .level) (h .driver), h .level)))
 
 -- an output's row is as good as none
 module _ (n : Netlist) (s d k : ℕ) (i : IsSource n) (p : 0 < s) (l : d < n .size) where
@@ -123,21 +97,9 @@ measured-none n s d i c l z =
     none : (x : ℕ) → getD (drop 1 (row n d)) x 0 ≡ 0
     none x = getD-drop 1 (row n d) x 0 ∙ row-none n d (1 + x) (z (1 + x))
 
-module _ (n : Netlist) (s d top : ℕ) (counts : List ℕ) (i : IsSource n) (c : (2 ≤ s) × (s ≤ 4)) (f : Filled n d counts top) where
-  pub walkable : Walkable s counts top
-  walkable =
-      record {
-        low = c .0;
-        high = c .1;
-        size = ap length (f .counted) ∙ row-length n d;
-        near = f .near;
-        apart = ap (λ (r : List ℕ). getD r 0 0) (f .counted) ∙ row-apart n d i;
-        small = λ k. subst (λ (l : List ℕ). getD l k 0 ≤ slots * sourceLimit) (sym (f .counted)) (row-small n d k i);
-        beyond = f .beyond;
-      }
-
-  pub measured : (after : List ℕ) (t : TreeTotals) → Walked s counts false after t → d < n .size → Measured n s d t
-  measured after t w l =
-      net-measured n s d i (c .0) l t
-      (w .nodes ∙ ap (λ (r : List ℕ). nodesAt s r 1) (f .counted))
-      (w .buffers ∙ ap (fewest s) (f .counted))
+pub measured : (n : Netlist) (s d top : ℕ) (counts : List ℕ) → IsSource n → (2 ≤ s) × (s ≤ 4) → Filled n d counts top →
+    (after : List ℕ) (t : TreeTotals) → Walked s counts false after t → d < n .size → Measured n s d t
+measured n s d top counts i c f after t w l =
+    net-measured n s d i (c .0) l t
+    (w .nodes ∙ ap (λ (r : List ℕ). nodesAt s r 1) (f .counted))
+    (w .buffers ∙ ap (fewest s) (f .counted))

@@ -14,13 +14,15 @@ use Rattle.facts.proofs.Sums.{sum-last}
 use Rattle.netlist.specs.Kinds.{width, topLevel, mappedLimit}
 use Rattle.netlist.specs.Records.{Netlist}
 use Rattle.fanout.specs.Nets.{row, sinks, up, buffersAt}
-use Rattle.mapper.specs.declared.trees.TreeTotals.{TreeTotals}
+use Rattle.fanout.specs.declared.TreeTotals.{TreeTotals}
 use Rattle.mapper.specs.Bytes.{encoded, put, withRecords}
 use Rattle.mapper.specs.Mapped.{buffersOf, treeSize, blockStart, mappedSize, mapped, Ready}
-use Rattle.mapper.specs.Chains.{slotEnd, namesSlot, slotDistance, Filled, Walked, Stale, ShortChain, GrownNet, Hung, Hooked, onParent, onLine, lineRecord, Noded, Writable, Wrote}
+use Rattle.mapper.specs.Chains.{slotEnd, namesSlot, slotDistance, Stale, ShortChain, GrownNet, Hung, Hooked, onParent, onLine, lineRecord, Noded, Writable, Wrote}
 use Rattle.mapper.proofs.Area.{records-none, records-more, records-length}
 use Rattle.facts.proofs.Blocks.{block-before}
-use Rattle.mapper.proofs.Nodes.{pos, nodes-none}
+use Rattle.fanout.specs.Walk.{Filled, Walked}
+use Rattle.fanout.proofs.Nets.{nodes-none}
+use Rattle.mapper.proofs.Nodes.{pos}
 use Rattle.mapper.proofs.Hanging.{named-sink}
 use Rattle.mapper.proofs.Lines.{line-size, line-written, line-hooked}
 use Rattle.mapper.proofs.Threading.{hung-next}

@@ -4,7 +4,7 @@ use Prim.Native.Nat.{ℕ, zero, suc, _+_, _-_, _≤_, _<_, _/_}
 use mathlib.Core.Path.{_≡_, refl, _∙_, ap, subst, subst⁻¹}
 use mathlib.Core.Logic.{_≢_}
 use mathlib.Core.Bool.{Bool, true, false, cond}
-use mathlib.Core.List.{List, [], _∷_}
+use mathlib.Core.List.{[]}
 use native.Mathlib.Omega.{arith}
 use native.Mathlib.Decide.{decLt}
 use lib.ListN.{getD, drop, List·getD-eq-default}
@@ -19,30 +19,12 @@ use Rattle.netlist.specs.Records.{Netlist, slot, used, fanin, names}
 use Rattle.netlist.specs.Source.{IsSource}
 use Rattle.netlist.proofs.Checks.{arity-slots}
 use Rattle.netlist.proofs.Source.{is-output}
-use Rattle.fanout.specs.Nets.{row, sinks, sinkAt, up, nodes, buffers, nodesAt, buffersAt}
-use Rattle.fanout.proofs.Nets.{div-up, up-zero, nodes-at, row-length, row-at}
+use Rattle.fanout.specs.Nets.{row, sinks, sinkAt, up, nodes, nodesAt, buffersAt}
+use Rattle.fanout.proofs.Nets.{div-up, up-zero, nodes-at, nodes-none, row-length, row-at}
 use Rattle.mapper.specs.Mapped.{netRow, buffersOf, mappedSize, place, parent, bufferRecord, rank, distance, sinkNumber, sinkParent, rewired, mappedAt, Ready}
-use Rattle.mapper.proofs.Lists.{getD-replicated}
+use Rattle.fanout.proofs.Lists.{getD-replicated}
 use Rattle.mapper.proofs.Blocks.{rank-below}
 use Rattle.mapper.proofs.Mapped.{at-source, at-place, place-inside, Placed, placed}
-
--- a row without sinks has no nodes and no buffers
-pub nodes-none : (s : ℕ) (r : List ℕ) → 0 < s → ((x : ℕ) → getD r x 0 ≡ 0) → nodes s r ≡ 0
-unfolding nodes
-nodes-none s [] p h = refl
-nodes-none s (here ∷ further) p h =
-    omega (arith, ap (up s) (nodes-none s further p (λ x. h (suc x))), up-zero s p, h 0)
-
-pub buffers-none : (s : ℕ) (r : List ℕ) → 0 < s → ((x : ℕ) → getD r x 0 ≡ 0) → buffers s r ≡ 0
-unfolding buffers
-buffers-none s [] p h = refl
-buffers-none s (here ∷ further) p h =
-    omega (
-      arith,
-      ap (up s) (nodes-none s further p (λ x. h (suc x))),
-      up-zero s p,
-      buffers-none s further p (λ x. h (suc x)),
-    )
 
 -- what a sink is
 pub record IsSink (n : Netlist) (d k i j : ℕ) : Type 0 where

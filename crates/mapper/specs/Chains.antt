@@ -10,12 +10,12 @@ use Rattle.facts.specs.declared.Checked.the-variants.{Passed, Refused}
 use Rattle.facts.specs.Sums.{count, seek}
 use Rattle.facts.specs.Lists.{tabulate}
 use Rattle.netlist.specs.declared.Record.{Record}
-use Rattle.netlist.specs.Kinds.{width, slots, topLevel, sourceLimit, arity}
+use Rattle.netlist.specs.Kinds.{width, slots, topLevel, arity}
 use Rattle.netlist.specs.Records.{Netlist, netlist, slot, recordCount, recordAt, used, fanin, names}
 use Rattle.netlist.specs.Checks.{inputChecks}
 use Rattle.netlist.specs.Source.{IsSource}
-use Rattle.fanout.specs.Nets.{row, sinks, sinkAt, nodesAt, buffersAt, fewest}
-use Rattle.mapper.specs.declared.trees.TreeTotals.{TreeTotals}
+use Rattle.fanout.specs.Nets.{sinks, sinkAt, nodesAt}
+use Rattle.fanout.specs.declared.TreeTotals.{TreeTotals}
 use Rattle.mapper.specs.declared.sinks.Chain.{Chain}
 use Rattle.mapper.specs.declared.sinks.Chain.the-variants.{Empty, Short, Long}
 use Rattle.mapper.specs.declared.trees.Sizing.{Sizing}
@@ -76,30 +76,6 @@ pub record Chained (n : Netlist) (first next : List ℕ) (d end : ℕ) : Type 0 
   pub firstLong : n .size ≤ length first
   pub nextLong : slotEnd n ≤ length next
   pub stop : end ≡ slotEnd n
-
--- the row of d's net, and a distance beyond which it has no sinks
-pub record Filled (n : Netlist) (d : ℕ) (counts : List ℕ) (top : ℕ) : Type 0 where
-  pub counted : counts ≡ row n d
-  pub near : top ≤ topLevel
-  pub beyond : (k : ℕ) → top < k → getD counts k 0 ≡ 0
-
--- a row that can be walked down from distance top to 1: its entries are small, and zero at 0 and beyond top
-pub record Walkable (s : ℕ) (counts : List ℕ) (top : ℕ) : Type 0 where
-  pub low : 2 ≤ s
-  pub high : s ≤ 4
-  pub size : length counts ≡ suc topLevel
-  pub near : top ≤ topLevel
-  pub apart : getD counts 0 0 ≡ 0
-  pub small : (k : ℕ) → getD counts k 0 ≤ slots * sourceLimit
-  pub beyond : (k : ℕ) → top < k → getD counts k 0 ≡ 0
-
--- a row after the walk: the nodes at distance 1, the tree's buffers, and at each distance from 1 on the buffers there, or nothing where they are not kept
-pub record Walked (s : ℕ) (counts : List ℕ) (keep : Bool) (after : List ℕ) (t : TreeTotals) : Type 0 where
-  pub nodes : t .nodes ≡ nodesAt s counts 1
-  pub buffers : t .buffers ≡ fewest s counts
-  pub size : length after ≡ suc topLevel
-  pub apart : getD after 0 0 ≡ 0
-  pub at : (k : ℕ) → 1 ≤ k → getD after k 0 ≡ cond keep (buffersAt s counts k) 0
 
 -- a row to be cleared up to distance top
 pub record Stale (counts : List ℕ) (top : ℕ) : Type 0 where

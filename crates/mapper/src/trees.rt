@@ -1,67 +1,26 @@
 // The trees of all nets, counted: check 8.
 ghost use mathlib.Core.Path.{_≡_};
 ghost use Prim.Native.Nat.{suc, _*_, _<_, _≤_};
-ghost use mathlib.Core.Bool.{cond};
 ghost use lib.ListN.{replicate};
 ghost use Rattle.facts.specs.Sums.{sum};
 ghost use Rattle.netlist.specs.Kinds.{slots, topLevel};
 ghost use Rattle.netlist.specs.Records.{netlist, recordCount};
 ghost use Rattle.netlist.specs.Checks.{inputChecks};
-ghost use Rattle.fanout.specs.Nets.{up};
 ghost use Rattle.mapper.specs.Mapped.{treeSize, bufferTotal};
 ghost use Rattle.mapper.specs.Answer.{treesBelow, treeChecks};
-ghost use Rattle.mapper.specs.Chains.{Linked, Chained, Walkable, Walked, Measured, sizingOf};
+ghost use Rattle.mapper.specs.Chains.{Linked, Chained, Measured, sizingOf};
 ghost use Rattle.facts.specs.declared.Checked.{Checked};
 use crate::numbers;
 use crate::sinks;
 use crate::sinks::Chain;
 use fanout::DISTANCES;
 use fanout::DRIVER_CAPACITY;
+use fanout::TreeTotals;
 
 // The buffers of all trees, or check 8's refusal: number and place.
 pub(crate) enum Sizing {
     Total(usize),
     Stops(u32, u32),
-}
-
-// What is left at distance 1 of a net, and the buffers of its tree.
-pub(crate) struct TreeTotals {
-    pub(crate) nodes: u32,
-    pub(crate) buffers: u32,
-}
-
-// The buffers that carry n nodes.
-fn carriers(s: u32, n: u32) -> u32
-    requires { ⌜ (2 ≤ s) × (s ≤ 4) ⌝ }
-    requires { ⌜ n ≤ 65535 ⌝ }
-    ensures { λ r. ⌜ r ≡ up s n ⌝ }
-{
-    numbers::divide(n + (s - 1), s)
-}
-
-// b where it is kept, else 0.
-fn kept(keep: bool, b: u32) -> u32
-    ensures { λ r. ⌜ r ≡ cond keep b 0 ⌝ }
-{
-    if keep { b } else { 0 }
-}
-
-// From distance top down to 1: the nodes and buffers; each count of sinks becomes the count of buffers there, or 0 where they are not kept.
-pub(crate) fn walk_down(s: u32, top: usize, keep: bool, row: &mut [u32; DISTANCES]) -> TreeTotals
-    requires { ⌜ Walkable s (now row) top ⌝ }
-    ensures { λ r. ⌜ Walked s (now (row .entry)) keep (now (row .exit)) r ⌝ }
-{
-    let mut nodes: u32 = 0;
-    let mut buffers: u32 = 0;
-    let mut k = top + 1;
-    while 1 < k {
-        k -= 1;
-        let b = carriers(s, nodes);
-        nodes = b + row[k];
-        row[k] = kept(keep, b);
-        buffers += b;
-    }
-    TreeTotals { nodes, buffers }
 }
 
 // d's net: the nodes left at distance 1 and its buffers; one or two sinks have a line of buffers, one at each distance below the largest. The row is all zero before and after.
@@ -93,7 +52,7 @@ fn measure(
         },
         Chain::Long => {
             let top = sinks::fill_row(source, end, first, next, d, row);
-            walk_down(s, top, false, row)
+            fanout::walk(s, top, false, row)
         }
     }
 }

@@ -12,7 +12,6 @@ use crate::numbers;
 use crate::records;
 use crate::sinks;
 use crate::sinks::Chain;
-use crate::trees;
 use fanout::DISTANCES;
 
 // The row, all zero again: only distances up to top were touched.
@@ -33,7 +32,7 @@ fn parent_of(base: u16, s: u32, k: usize, q: u32) -> u16
     requires { ⌜ base + behind s k q < 65536 ⌝ }
     ensures { λ r. ⌜ r ≡ base + behind s k q ⌝ }
 {
-    let back = numbers::divide(q, s);
+    let back = fanout::divide(q, s);
     if k < 2 { base } else { base + back as u16 }
 }
 
@@ -133,7 +132,7 @@ fn grow(
     ensures { λ r. ⌜ GrownNet (netlist (now (source .entry))) s d (now (row .exit)) r ⌝ }
 {
     let top = sinks::fill_row(source, end, first, next, d, row);
-    trees::walk_down(s, top, true, row);
+    fanout::walk(s, top, true, row);
     top
 }
 

@@ -1,5 +1,5 @@
 -- `count_driver` meets its contract: the filled row is the driver's, and the walk counts it.
-use Rattle.fanout.proofs.Walking.{filled-countable, filled-count}
+use Rattle.fanout.proofs.Walking.{input-walkable, counted-tree, counted-none}
 use borrow.Author.Needs.{needs}
 use Rattle.fanout.proofs.count_driver.Statement.{statement}
 use Rattle.fanout.proofs.count_driver.Tie as tie
@@ -8,10 +8,13 @@ fill-requires : tie.Need-fill-requires
 fill-requires c κs = search needs
 
 walk-requires : tie.Need-walk-requires
-walk-requires c κs = search filled-countable
+walk-requires c κs = search input-walkable
 
 returns : tie.Need-returns
-returns c = search filled-count
+returns c = search counted-tree
+
+returns-2 : tie.Need-returns-2
+returns-2 c = search counted-none
 
 pub count-driver-spec : {M : Type 1} → statement M
-count-driver-spec = tie.close (tie.spec fill-requires walk-requires returns)
+count-driver-spec = tie.close (tie.spec fill-requires walk-requires returns returns-2)

@@ -1,39 +1,47 @@
--- `walk` meets its contract: the nodes at distance k, and the buffers from there on.
+-- `walk` meets its contract: from distance k on the row holds the buffers, or nothing.
+use Rattle.fanout.proofs.Walking.{Walking, walk-start, walk-few, walk-room, walk-nodes, walk-buffers, walk-more, walk-end}
 use borrow.Author.Needs.{needs}
-use Rattle.fanout.specs.Filling.{CountedDown}
-use Rattle.fanout.proofs.Walking.{walk-start, walk-few, walk-more, nodes-fit, buffers-fit, walk-tree, walk-none}
 use Rattle.fanout.proofs.walk.Statement.{statement}
 use Rattle.fanout.proofs.walk.Tie as tie
 
 abbrev Inv-loop : tie.InvT-loop
-Inv-loop row far s k₀ nodes₀ buffers₀ k nodes buffers = CountedDown s row k nodes buffers
+Inv-loop s far keep row₀ nodes₀ buffers₀ k₀ row nodes buffers k = Walking s row₀ keep row k nodes buffers
 
 abbrev μ-loop : tie.MeasureT-loop
-μ-loop row far s k₀ nodes₀ buffers₀ k nodes buffers = k
+μ-loop s far keep row₀ nodes₀ buffers₀ k₀ row nodes buffers k = k
 
 add-k : tie.Need-add-k Inv-loop μ-loop
 add-k c = search needs
 
 loop-holds : tie.Need-loop-holds Inv-loop μ-loop
-loop-holds c = search walk-start
+loop-holds c = search (needs, walk-start)
 
 sub-k : tie.Need-sub-k Inv-loop μ-loop
 sub-k c = search needs
 
 up-requires : tie.Need-up-requires Inv-loop μ-loop
-up-requires c κs = search walk-few
-
-add-buffers : tie.Need-add-buffers Inv-loop μ-loop
-add-buffers c = search (needs, buffers-fit)
+up-requires c κs = search (needs, walk-few)
 
 mul-nodes : tie.Need-mul-nodes Inv-loop μ-loop
-mul-nodes c = search needs
+mul-nodes c = search (needs, walk-room)
 
 element-copy-out-nodes : tie.Need-element-copy-out-nodes Inv-loop μ-loop
-element-copy-out-nodes c = search needs
+element-copy-out-nodes c = search (needs, walk-room)
 
 add-nodes : tie.Need-add-nodes Inv-loop μ-loop
-add-nodes c = search (needs, nodes-fit)
+add-nodes c = search (needs, walk-nodes)
+
+kept-requires : tie.Need-kept-requires Inv-loop μ-loop
+kept-requires c κs = search needs
+
+mul-row : tie.Need-mul-row Inv-loop μ-loop
+mul-row c = search needs
+
+element-write-row : tie.Need-element-write-row Inv-loop μ-loop
+element-write-row c = search (needs, walk-room)
+
+add-buffers : tie.Need-add-buffers Inv-loop μ-loop
+add-buffers c = search (needs, walk-buffers)
 
 loop-less : tie.Need-loop-less Inv-loop μ-loop
 loop-less c = search needs
@@ -42,10 +50,7 @@ loop-again : tie.Need-loop-again Inv-loop μ-loop
 loop-again c = search walk-more
 
 returns : tie.Need-returns Inv-loop μ-loop
-returns c = search walk-tree
-
-returns-2 : tie.Need-returns-2 Inv-loop μ-loop
-returns-2 c = search walk-none
+returns c = search walk-end
 
 pub walk-spec : {M : Type 1} → statement M
 walk-spec =
@@ -57,11 +62,13 @@ walk-spec =
     loop-holds
     sub-k
     up-requires
-    add-buffers
     mul-nodes
     element-copy-out-nodes
     add-nodes
+    kept-requires
+    mul-row
+    element-write-row
+    add-buffers
     loop-less
     loop-again
-    returns
-    returns-2)
+    returns)

@@ -1,8 +1,8 @@
 -- `measure` meets its contract: no sink, a line, or a row that is filled and walked.
 use Rattle.mapper.proofs.ShortChains.{no-sink, few-sinks, few-cast, few-fit}
 use Rattle.mapper.proofs.Lines.{measured-few}
-use Rattle.mapper.proofs.Measuring.{measured-none, walkable, measured}
-use Rattle.mapper.proofs.Walking.{walked-clear}
+use Rattle.mapper.proofs.Measuring.{measured-none, measured}
+use Rattle.fanout.proofs.Walking.{walkable, walked-clear}
 use borrow.Author.Needs.{needs}
 use Rattle.mapper.proofs.trees.measure.Statement.{statement}
 use Rattle.mapper.proofs.trees.measure.Tie as tie
@@ -34,8 +34,8 @@ enum-told-2 c = search needs
 fill-row-requires : tie.Need-fill-row-requires
 fill-row-requires c κs = search needs
 
-walk-down-requires : tie.Need-walk-down-requires
-walk-down-requires c κs = search walkable
+walk-requires : tie.Need-walk-requires
+walk-requires c κs = search walkable
 
 returns : tie.Need-returns
 returns c = (search (measured-none, no-sink), search needs)
@@ -59,7 +59,7 @@ measure-spec =
     sub-t17
     enum-told-2
     fill-row-requires
-    walk-down-requires
+    walk-requires
     returns
     returns-2
     returns-3)

@@ -1,5 +1,5 @@
 -- `grow` meets its contract: the row is filled and walked.
-use Rattle.mapper.proofs.Measuring.{walkable}
+use Rattle.fanout.proofs.Walking.{walkable}
 use Rattle.mapper.proofs.Netting.{net-grown}
 use borrow.Author.Needs.{needs}
 use Rattle.mapper.proofs.writing.grow.Statement.{statement}
@@ -8,11 +8,11 @@ use Rattle.mapper.proofs.writing.grow.Tie as tie
 fill-row-requires : tie.Need-fill-row-requires
 fill-row-requires c κs = search needs
 
-walk-down-requires : tie.Need-walk-down-requires
-walk-down-requires c κs = search walkable
+walk-requires : tie.Need-walk-requires
+walk-requires c κs = search walkable
 
 returns : tie.Need-returns
 returns c = search net-grown
 
 pub grow-spec : {M : Type 1} → statement M
-grow-spec = tie.close (tie.spec fill-row-requires walk-down-requires returns)
+grow-spec = tie.close (tie.spec fill-row-requires walk-requires returns)

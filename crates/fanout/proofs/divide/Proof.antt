@@ -1,8 +1,8 @@
 -- `divide` meets its contract: in each case s is the constant.
 use mathlib.Core.Path.{_≡_}
 use native.Mathlib.Omega.{arith}
-use Rattle.mapper.proofs.numbers.divide.Statement.{statement}
-use Rattle.mapper.proofs.numbers.divide.Tie as tie
+use Rattle.fanout.proofs.divide.Statement.{statement}
+use Rattle.fanout.proofs.divide.Tie as tie
 
 returns : tie.Need-returns
 returns c = cc
