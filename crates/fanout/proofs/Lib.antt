@@ -7,5 +7,6 @@ pub mod Promises
 pub mod Worked
 pub mod Call
 pub mod Filling
+pub mod EmptyStretches
 pub mod Walking
 pub mod Numbers

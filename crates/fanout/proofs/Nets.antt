@@ -1,9 +1,9 @@
 -- Laws of one net's counts: rounding up, nodes and buffers per distance, their minimality, lines, and the row's entries.
 use Prim.Native.Nat.{ℕ, zero, suc, _+_, _*_, _-_, _≤_, _<_, _/_}
-use mathlib.Core.Path.{_≡_, refl, ap}
+use mathlib.Core.Path.{_≡_, refl, _∙_, ap}
 use mathlib.Core.List.{List, [], _∷_}
 use native.Mathlib.Omega.{arith}
-use native.Mathlib.Nat.{mul-comm, mul-suc, div-lt-iff-lt-mul, lt-div-mul-add}
+use native.Mathlib.Nat.{mul-comm, mul-suc, div-self, div-lt-iff-lt-mul, lt-div-mul-add}
 use native.Mathlib.Decide.{decLt}
 use lib.ListN.{length, getD, drop, drop-of-length-le, List·getD-eq-default}
 use lib.Seq.{drop-cons, getD-drop}
@@ -28,6 +28,9 @@ le-up s n h = omega (arith, lt-div-mul-add {a = n + (s - 1)} h, mul-comm s (up s
 
 pub up-zero : (s : ℕ) → 0 < s → up s 0 ≡ 0
 up-zero s h = omega (arith, up-le s 0 0 h (omega arith))
+
+pub up-one : (s : ℕ) → 0 < s → up s 1 ≡ 1
+up-one s h = let e : 1 + (s - 1) ≡ s = omega arith in ap (λ (x : ℕ). x / s) e ∙ div-self h
 
 -- number q of n stands on one of the up s n
 pub div-up : (s q n : ℕ) → 0 < s → q < n → q / s < up s n

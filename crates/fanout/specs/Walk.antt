@@ -6,7 +6,9 @@ use mathlib.Core.List.{List}
 use lib.ListN.{length, getD}
 use Rattle.netlist.specs.Kinds.{slots, topLevel, sourceLimit}
 use Rattle.netlist.specs.Records.{Netlist}
+use Rattle.fanout.specs.declared.Reach.{Reach}
 use Rattle.fanout.specs.declared.TreeTotals.{TreeTotals}
+use Rattle.fanout.specs.Stretches.{InStretches}
 use Rattle.fanout.specs.Nets.{row, nodesAt, buffersAt, fewest}
 
 -- the most sinks of a net, and a number of nodes that no distance reaches
@@ -22,15 +24,17 @@ pub record Filled (n : Netlist) (d : ℕ) (counts : List ℕ) (far : ℕ) : Type
   pub near : far ≤ topLevel
   pub beyond : (k : ℕ) → far < k → getD counts k 0 ≡ 0
 
--- a row that can be walked down from distance far to 1: its entries are small, and zero at 0 and beyond far
-pub record Walkable (s : ℕ) (counts : List ℕ) (far : ℕ) : Type 0 where
+-- a row that can be walked down from its largest distance to 1: its entries are small, and zero at 0, beyond that distance and in
+-- stretches whose bits are not set
+pub record Walkable (s : ℕ) (counts : List ℕ) (reach : Reach) : Type 0 where
   pub low : 2 ≤ s
   pub high : s ≤ 4
   pub size : length counts ≡ suc topLevel
-  pub near : far ≤ topLevel
+  pub near : reach .far ≤ topLevel
   pub apart : getD counts 0 0 ≡ 0
   pub small : (k : ℕ) → getD counts k 0 ≤ sinkLimit
-  pub beyond : (k : ℕ) → far < k → getD counts k 0 ≡ 0
+  pub beyond : (k : ℕ) → reach .far < k → getD counts k 0 ≡ 0
+  pub within : InStretches counts (suc topLevel) (reach .stretches)
 
 -- after the walk: the nodes left at distance 1, the tree's buffers, and the row, which at each distance from 1 on holds the
 -- buffers there, or nothing where they are not kept

@@ -1,16 +1,20 @@
 // One net: its sinks by distance and the fewest buffers of a tree.
 ghost use mathlib.Core.Path.{_≡_};
-ghost use Prim.Native.Nat.{suc, _/_, _≤_};
+ghost use Prim.Native.Nat.{suc, _/_, _<_, _≤_};
 ghost use mathlib.Core.Bool.{cond};
 ghost use Rattle.netlist.specs.Records.{netlist};
+ghost use Rattle.netlist.specs.Kinds.{topLevel};
 ghost use Rattle.netlist.specs.Source.{Input};
 ghost use Rattle.fanout.specs.Nets.{added, row};
 ghost use Rattle.fanout.specs.Nets;
 ghost use Rattle.fanout.specs.Answer.{treeCount, driverCapacity, countAnswer};
 ghost use Rattle.fanout.specs.Filling.{RowSoFar, RowAtRecord, Empty, SinkRoom, Slot, rowWith, farWith};
+ghost use Rattle.fanout.specs.Stretches.{InStretches, NextDistance};
 ghost use Rattle.fanout.specs.Walk.{nodeLimit, Filled, Walkable, Walked};
 use facts::Checked;
 use netlist::Record;
+
+pub mod stretches;
 
 // The count of one net: the fewest buffers of a legal tree, no tree, or a refusal with its number and place.
 pub enum Count {
@@ -25,8 +29,17 @@ pub struct TreeTotals {
     pub buffers: u32,
 }
 
+// Where a row's sinks stand: the largest distance, and a bit for each stretch of distances that may have some.
+pub struct Reach {
+    pub far: usize,
+    pub stretches: u64,
+}
+
 // Distances of a row, from 0 on.
 pub const DISTANCES: usize = 4096;
+
+// Distances that are looked at one by one, which takes less time than looking for the next one with sinks.
+const NEAR: usize = 16;
 
 // Slots that a driver may feed.
 pub const DRIVER_CAPACITY: u32 = 1;
@@ -128,20 +141,40 @@ fn kept(keep: bool, b: u32) -> u32
     if keep { b } else { 0 }
 }
 
-// The walk down a row from the largest distance to 1: the nodes left there and the buffers. Each count of sinks becomes the count of buffers at its distance, or 0 where they are not kept.
-pub fn walk(s: u32, far: usize, keep: bool, row: &mut [u32; DISTANCES]) -> TreeTotals
-    requires { ⌜ Walkable s (now row) far ⌝ }
+// The distance to go to from k: the one below; far from the driver, with a single node, and where no buffers are kept, the next one with sinks.
+fn next_distance(row: &[u32; DISTANCES], stretches: u64, keep: bool, nodes: u32, k: usize) -> usize
+    requires { ⌜ (1 < k) × (k ≤ suc topLevel) ⌝ }
+    requires { ⌜ InStretches (now row) k stretches ⌝ }
+    ensures { λ r. ⌜ NextDistance (now (row .entry)) keep nodes k r ⌝ }
+{
+    if keep {
+        return k - 1;
+    }
+    if k <= NEAR {
+        return k - 1;
+    }
+    if nodes != 1 {
+        return k - 1;
+    }
+    stretches::next_sinks(row, stretches, k)
+}
+
+// The walk down a row from the largest distance to 1: the nodes left there and the buffers. Each count of sinks becomes the count of buffers at its distance, or 0 where they are not kept. A single node has one buffer at each distance that it passes.
+pub fn walk(s: u32, reach: Reach, keep: bool, row: &mut [u32; DISTANCES]) -> TreeTotals
+    requires { ⌜ Walkable s (now row) reach ⌝ }
     ensures { λ r. ⌜ Walked s (now (row .entry)) keep (now (row .exit)) r ⌝ }
 {
+    let stretches = reach.stretches;
     let mut nodes: u32 = 0;
     let mut buffers: u32 = 0;
-    let mut k = far + 1;
+    let mut k = reach.far + 1;
     while 1 < k {
-        k -= 1;
+        let to = next_distance(row, stretches, keep, nodes, k);
         let b = up(s, nodes);
-        nodes = b + row[k];
-        row[k] = kept(keep, b);
-        buffers += b;
+        buffers += b + (k - 1 - to) as u32;
+        nodes = b + row[to];
+        row[to] = kept(keep, b);
+        k = to;
     }
     TreeTotals { nodes, buffers }
 }
@@ -153,7 +186,11 @@ fn count_driver(source: &[u8], s: u32, driver: usize) -> Count
 {
     let mut row = [0u32; DISTANCES];
     let far = fill(source, &mut row, driver);
-    let tree = walk(s, far, false, &mut row);
+    let reach = Reach {
+        far,
+        stretches: u64::MAX,
+    };
+    let tree = walk(s, reach, false, &mut row);
     if tree.nodes <= DRIVER_CAPACITY {
         Count::Fewest(tree.buffers)
     } else {

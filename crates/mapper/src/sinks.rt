@@ -6,9 +6,12 @@ ghost use Rattle.netlist.specs.Kinds.{slots, topLevel, arity};
 ghost use Rattle.netlist.specs.Records.{netlist, recordCount};
 ghost use Rattle.netlist.specs.Source.{IsSource};
 ghost use Rattle.mapper.specs.Chains.{Above, Emptied, Linked, Chained, ChainIs};
+ghost use Rattle.fanout.specs.Stretches.{InStretches};
 ghost use Rattle.fanout.specs.Walk.{Filled};
 use crate::numbers;
 use fanout::DISTANCES;
+use fanout::Reach;
+use fanout::stretches;
 use netlist::SLOTS;
 
 // The sinks of a driver: none; one or two, with the largest distance and how many stand at distance 1; or more.
@@ -76,7 +79,7 @@ pub(crate) fn distance(source: &[u8], low: u16, p: usize) -> usize
     (netlist::level_at(source, p / SLOTS) - low) as usize
 }
 
-// The row of d's net, filled along the chain of its sinks; the largest distance is handed back.
+// The row of d's net, filled along the chain of its sinks; where they stand is handed back.
 pub(crate) fn fill_row(
     source: &[u8],
     end: usize,
@@ -84,22 +87,25 @@ pub(crate) fn fill_row(
     next: &[u16],
     d: usize,
     row: &mut [u32; DISTANCES],
-) -> usize
+) -> Reach
     requires { ⌜ Chained (netlist (now source)) (now first) (now next) d end ⌝ }
     requires { ⌜ d < netlist (now source) .size ⌝ }
     requires { ⌜ now row ≡ replicate (suc topLevel) 0 ⌝ }
-    ensures { λ r. ⌜ Filled (netlist (now (source .entry))) d (now (row .exit)) r ⌝ }
+    ensures { λ r. ⌜ Filled (netlist (now (source .entry))) d (now (row .exit)) (r .far) ⌝ }
+    ensures { λ r. ⌜ InStretches (now (row .exit)) (suc topLevel) (r .stretches) ⌝ }
 {
     let low = netlist::level_at(source, d);
-    let mut top: usize = 0;
+    let mut far: usize = 0;
+    let mut stretches: u64 = 0;
     let mut p = numbers::index(first[d]);
     while p < end {
         let k = distance(source, low, p);
         p = numbers::index(next[p]);
         row[k] += 1;
-        top = numbers::larger(top, k);
+        far = numbers::larger(far, k);
+        stretches = stretches::with_stretch(stretches, k);
     }
-    top
+    Reach { far, stretches }
 }
 
 // The sinks of d, along its chain.

@@ -51,8 +51,8 @@ fn measure(
             buffers: top as u32 - 1,
         },
         Chain::Long => {
-            let top = sinks::fill_row(source, end, first, next, d, row);
-            fanout::walk(s, top, false, row)
+            let reach = sinks::fill_row(source, end, first, next, d, row);
+            fanout::walk(s, reach, false, row)
         }
     }
 }

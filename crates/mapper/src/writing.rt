@@ -131,9 +131,9 @@ fn grow(
     requires { ⌜ now row ≡ replicate (suc topLevel) 0 ⌝ }
     ensures { λ r. ⌜ GrownNet (netlist (now (source .entry))) s d (now (row .exit)) r ⌝ }
 {
-    let top = sinks::fill_row(source, end, first, next, d, row);
-    fanout::walk(s, top, true, row);
-    top
+    let reach = sinks::fill_row(source, end, first, next, d, row);
+    fanout::walk(s, reach, true, row);
+    reach.far
 }
 
 // The tree of d: its buffers go to the area from record start on, its sinks' parents to their slots. The next record is handed back.

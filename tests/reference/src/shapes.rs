@@ -76,6 +76,45 @@ pub fn lines(pairs: usize, level: u16) -> Vec<Record> {
     records
 }
 
+/// Majorities at the highest level that name the first `drivers` records in turns.
+fn far_majorities(drivers: usize, count: usize) -> impl Iterator<Item = Record> {
+    (0..count).map(move |k| {
+        let fanins = [0, 1, 2].map(|j| ((3 * k + j) % drivers) as u16);
+        Record::new(MAJ, 0, MAX_LEVEL, &fanins)
+    })
+}
+
+/// Drivers with two near sinks each and one at the highest level: inputs and gates in layers of
+/// 16, two levels apart, each named twice by the next layer. The last layer has no near sinks.
+pub fn near_and_far(drivers: usize) -> Vec<Record> {
+    let width = 16;
+    let mut records = inputs(width);
+    for k in width..drivers {
+        let below = k / width * width - width;
+        let fanins = [0, 1].map(|j| (below + (k + j) % width) as u16);
+        records.push(Record::new(AND, 0, (2 * (k / width)) as u16, &fanins));
+    }
+    records.extend(far_majorities(drivers, drivers / 3));
+    records
+}
+
+/// As many inputs as majorities at the highest level: three sinks for each input.
+pub fn three_far(drivers: usize) -> Vec<Record> {
+    let mut records = inputs(drivers);
+    records.extend(far_majorities(drivers, drivers));
+    records
+}
+
+/// The records with the last two replaced: an input, and a gate one level above it that names it
+/// twice, so that its net has no tree.
+pub fn treeless_at_last(records: &[Record]) -> Vec<Record> {
+    let mut records = records[..records.len() - 2].to_vec();
+    let last = records.len() as u16;
+    records.push(Record::new(INPUT, 0, 0, &[]));
+    records.push(Record::new(AND, 0, 1, &[last, last]));
+    records
+}
+
 /// A layered random netlist: gates in layers of about a sixteenth of the records, fanins mostly
 /// from the layer before, a few drivers with many sinks, average fanout between 2 and 3. Every net
 /// has a tree for capacity s.

@@ -1,11 +1,12 @@
 //! Times the static library and the fast path on the same inputs in the same run, in turns.
 //!
-//! Two tables: for each call, shape and size the median time of both and the median of the samples'
+//! Three tables: for each call, shape and size the median time of both and the median of the samples'
 //! ratios; then how our time grows from N = 512 to N = 4,096, the two sizes in turns as well, since
-//! the machine's own speed drifts. Both answers are compared before a row is timed. Areas that a
-//! call writes are touched once before and not cleared between calls. A row of layered netlists
-//! goes round as many of them as have 65,536 records together, so that no size is timed on inputs
-//! that the processor has learnt by heart.
+//! the machine's own speed drifts; then the mapper's time on sources that it refuses, in turns with
+//! the accepted one on which it took longest. Both answers are compared before a row is timed. Areas
+//! that a call writes are touched once before and not cleared between calls. A row of layered
+//! netlists goes round as many of them as have 65,536 records together, so that no size is timed on
+//! inputs that the processor has learnt by heart.
 
 use std::hint::black_box;
 use std::time::{Duration, Instant};
@@ -35,17 +36,22 @@ struct Subject {
     shape: &'static str,
     source: Vec<u8>,
     mapped: Vec<u8>,
+    capacity: u32,
     /// The record that is counted.
     driver: u32,
 }
 
 impl Subject {
     fn new(shape: &'static str, records: &[Record], driver: u32) -> Subject {
-        let source = encode(records);
+        Subject::of_capacity(S, shape, records, driver)
+    }
+
+    fn of_capacity(s: usize, shape: &'static str, records: &[Record], driver: u32) -> Subject {
+        let (source, capacity) = (encode(records), s as u32);
         let mut mapped = vec![0; WIDTH * MAX_MAPPED];
-        let answer = fast::map(&source, S as u32, &mut mapped);
+        let answer = fast::map(&source, capacity, &mut mapped);
         mapped.truncate(WIDTH * answer[2] as usize);
-        Subject { shape, source, mapped, driver }
+        Subject { shape, source, mapped, capacity, driver }
     }
 
     fn n(&self) -> usize {
@@ -72,7 +78,7 @@ impl Subject {
         Call {
             name,
             source: self.source.clone(),
-            capacity: S as u32,
+            capacity: self.capacity,
             number: if name == Name::Count { self.driver } else { rows as u32 },
             mapped: self.mapped.clone(),
             rows: random.bits(rows * inputs),
@@ -187,15 +193,22 @@ fn label(name: Name) -> String {
     format!("{name:?}").to_lowercase()
 }
 
-/// One row of the first table: the subjects are of one shape and N.
-fn print_row(subjects: &[Subject], name: Name) {
+/// Compares both answers and all written areas.
+fn compare(call: &Call, shape: &str) -> Vec<u32> {
+    let name = call.name;
+    let (ours, theirs) = (perform(&LINKED, call), perform(&FAST, call));
+    assert_eq!(ours.answer, theirs.answer, "{name:?} on {shape} differs");
+    assert!(ours.areas == theirs.areas, "{name:?} on {shape} differs in an area");
+    ours.answer
+}
+
+/// One row of the first table: the subjects are of one shape and N. Answers our time.
+fn print_row(subjects: &[Subject], name: Name) -> f64 {
     let (shape, n) = (subjects[0].shape, subjects[0].n());
     let m = subjects.iter().map(Subject::m).sum::<usize>() / subjects.len();
     let mut calls = calls_of(subjects, name);
     for call in &calls {
-        let (ours, theirs) = (perform(&LINKED, call), perform(&FAST, call));
-        assert_eq!(ours.answer, theirs.answer, "{name:?} on {shape} differs");
-        assert!(ours.areas == theirs.areas, "{name:?} on {shape} differs in an area");
+        compare(call, shape);
     }
     let rounds = rounds_in_a_sample(&FAST, &mut calls);
     let Measured { first, second, ratio } = measure(|side| match side {
@@ -204,6 +217,7 @@ fn print_row(subjects: &[Subject], name: Name) {
     });
     let label = label(name);
     println!("| {label} | {shape} | {n} | {m} | {first:.2} | {second:.2} | {ratio:.2} |");
+    first
 }
 
 /// One row of the second table: our time on the larger subjects over that on the smaller.
@@ -216,6 +230,31 @@ fn print_growth(small: &[Subject], large: &[Subject], name: Name) {
         Side::Second => time_of(&LINKED, &mut few, more),
     });
     println!("| {} | {} | {second:.2} | {first:.2} | {ratio:.2} |", label(name), small[0].shape);
+}
+
+/// One row of the third table: our time on a source that is refused over that on an accepted one.
+fn print_refused(refused: &Subject, accepted: &[Subject]) {
+    let (mut few, mut others) = (vec![refused.call(Name::Map)], calls_of(accepted, Name::Map));
+    let number = compare(&few[0], refused.shape)[0];
+    let (rounds, more) =
+        (rounds_in_a_sample(&LINKED, &mut few), rounds_in_a_sample(&LINKED, &mut others));
+    let Measured { first, second, ratio } = measure(|side| match side {
+        Side::First => time_of(&LINKED, &mut few, rounds),
+        Side::Second => time_of(&LINKED, &mut others, more),
+    });
+    let (n, shape) = (refused.n(), refused.shape);
+    println!("| map | {shape} | {n} | {number} | {first:.2} | {second:.2} | {ratio:.2} |");
+}
+
+/// Sources that the mapper refuses by 8 or 9 after counting long nets.
+fn refused_shapes() -> [Subject; 4] {
+    let far = shapes::three_far(MAX_SOURCE / 2);
+    [
+        Subject::new("lines to the highest level", &shapes::lines(2048, MAX_LEVEL), 0),
+        Subject::of_capacity(3, "two near sinks, one far", &shapes::near_and_far(3072), 0),
+        Subject::new("three far sinks", &far, 0),
+        Subject::new("three far sinks, no tree at last", &shapes::treeless_at_last(&far), 0),
+    ]
 }
 
 /// A layered netlist, whose widest net is counted.
@@ -247,7 +286,20 @@ fn main() {
     println!("| call | shape | N | M | ours, us | reference, us | ratio |");
     println!("|---|---|---|---|---|---|---|");
     let all: Vec<[Vec<Subject>; 3]> = SIZES.iter().map(|&size| shapes_of(size)).collect();
-    for name in [Name::Map, Name::Verify, Name::Count] {
+    // the accepted source on which the mapper takes longest
+    let mut slowest: (f64, &[Subject]) = (0.0, &[]);
+    let mut map = |subjects| {
+        let time = print_row(subjects, Name::Map);
+        if time > slowest.0 {
+            slowest = (time, subjects);
+        }
+    };
+    for shape in 0..3 {
+        for shapes in &all {
+            map(&shapes[shape]);
+        }
+    }
+    for name in [Name::Verify, Name::Count] {
         for shape in 0..3 {
             for shapes in &all {
                 print_row(&shapes[shape], name);
@@ -263,16 +315,16 @@ fn main() {
             print_row(subject, name);
         }
     }
-    print_row(&sizes[3], Name::Map);
+    map(&sizes[3]);
     print_row(&sizes[3], Name::Verify);
     let majorities = shapes::wide_majorities(MAX_SOURCE, S);
     let majorities = [Subject::new("12,285 sinks", &majorities, 0)];
-    print_row(&majorities, Name::Map);
+    map(&majorities);
     print_row(&majorities, Name::Count);
     let wide = shapes::wide(MAX_SOURCE, S);
     let shared = shapes::raised(&wide, usize::from(MAX_LEVEL - depth(&wide)));
     let shared = [Subject::new("wide, one long chain below", &shared, 0)];
-    print_row(&shared, Name::Map);
+    map(&shared);
     print_row(&shared, Name::Verify);
     let refused = [Subject::new("refused by 9", &shapes::lines(2048, MAX_LEVEL), 0)];
     print_row(&refused, Name::Map);
@@ -287,4 +339,11 @@ fn main() {
         }
     }
     print_growth(&small[2], &large[2], Name::Evaluate);
+
+    println!();
+    println!("| call | refused | N | number | ours, us | slowest accepted, us | ratio |");
+    println!("|---|---|---|---|---|---|---|");
+    for refused in &refused_shapes() {
+        print_refused(refused, slowest.1);
+    }
 }

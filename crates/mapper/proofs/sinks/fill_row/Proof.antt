@@ -3,16 +3,17 @@ use Prim.Native.Nat.{_-_}
 use mathlib.Core.Path.{_≡_}
 use Rattle.netlist.specs.Records.{netlist, recordAt}
 use Rattle.mapper.proofs.Following.{first-inside, next-inside, distance-is, chain-above, chain-near, chain-next, chain-less}
-use Rattle.mapper.proofs.Filling.{Filling, fill-start, fill-fits, fill-more, fill-end}
+use Rattle.mapper.proofs.Filling.{Filling, fill-start, fill-fits, fill-near, fill-more, fill-end, fill-stretches}
 use borrow.Author.Needs.{needs}
 use Rattle.mapper.proofs.sinks.fill_row.Statement.{statement}
 use Rattle.mapper.proofs.sinks.fill_row.Tie as tie
 
 abbrev Inv-loop : tie.InvT-loop
-Inv-loop source end first next d row₀ low top₀ p₀ row top p = (low ≡ recordAt source d .level) × Filling (netlist source) d p row top
+Inv-loop source end first next d row₀ low far₀ stretches₀ p₀ row far stretches p =
+    (low ≡ recordAt source d .level) × Filling (netlist source) d p row far stretches
 
 abbrev μ-loop : tie.MeasureT-loop
-μ-loop source end first next d row₀ low top₀ p₀ row top p = end - p
+μ-loop source end first next d row₀ low far₀ stretches₀ p₀ row far stretches p = end - p
 
 level-at-requires : tie.Need-level-at-requires Inv-loop μ-loop
 level-at-requires c κs = search needs
@@ -56,6 +57,9 @@ element-write-row c = search (chain-near, distance-is)
 larger-requires : tie.Need-larger-requires Inv-loop μ-loop
 larger-requires c κs = search needs
 
+with-stretch-requires : tie.Need-with-stretch-requires Inv-loop μ-loop
+with-stretch-requires c κs = search (fill-near, distance-is)
+
 loop-less : tie.Need-loop-less Inv-loop μ-loop
 loop-less c = search (chain-less, chain-next)
 
@@ -63,7 +67,7 @@ loop-again : tie.Need-loop-again Inv-loop μ-loop
 loop-again c = search (needs, fill-more, distance-is)
 
 returns : tie.Need-returns Inv-loop μ-loop
-returns c = search fill-end
+returns c = (search fill-end, search fill-stretches)
 
 pub fill-row-spec : {M : Type 1} → statement M
 fill-row-spec =
@@ -85,6 +89,7 @@ fill-row-spec =
     add-row
     element-write-row
     larger-requires
+    with-stretch-requires
     loop-less
     loop-again
     returns)
