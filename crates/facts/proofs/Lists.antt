@@ -5,7 +5,7 @@ use mathlib.Core.List.{List, [], _∷_, _++_, append-nil, append-assoc}
 use native.Mathlib.Omega.{arith}
 use native.Mathlib.Nat.{add-zero, add-suc}
 use native.Mathlib.Decide.{decLt}
-use lib.ListN.{length, getD, length-append, List·getD-append, List·getD-eq-default}
+use lib.ListN.{length, getD, replicate, length-append, List·getD-append, List·getD-eq-default}
 use lib.Seq.{getD-at}
 use Rattle.facts.specs.Lists.{tabulate}
 
@@ -18,6 +18,12 @@ getD-any (x ∷ l) (suc i) d e h = getD-any l i d e (omega arith)
 -- past its end a list gives the default
 pub getD-past : (l : List ℕ) (n i d : ℕ) → length l ≡ n → n ≤ i → d ≡ getD l i d
 getD-past l n i d e h = sym (List·getD-eq-default l d (omega arith))
+
+-- a list of one value holds it everywhere, its end included
+pub getD-replicated : (n i v : ℕ) → getD (replicate n v) i v ≡ v
+getD-replicated zero i v = sym (getD-past [] 0 i v refl (omega arith))
+getD-replicated (suc n) zero v = refl
+getD-replicated (suc n) (suc i) v = getD-replicated n i v
 
 pub length-tabulate : (f : ℕ → ℕ) (n : ℕ) → length (tabulate f n) ≡ n
 length-tabulate f zero = refl

@@ -16,6 +16,15 @@ abbrev pub _andThen_ : Checked → Checked → Checked
 Passed andThen b = b
 (Refused number place) andThen b = Refused number place
 
+-- what passing gives, or what a refusal's number and place give
+abbrev pub outcome : {A : Type 0} → Checked → A → (ℕ → ℕ → A) → A
+outcome Passed passed refused = passed
+outcome (Refused number place) passed refused = refused number place
+
+-- what passing gives; a refusal leaves what was there
+abbrev pub unlessRefused : {A : Type 0} → Checked → A → A → A
+unlessRefused answer new old = outcome answer new (λ number place. old)
+
 -- n places from i on, rising
 unfoldable pub scan : (ℕ → Checked) → ℕ → ℕ → Checked
 scan f i zero = Passed

@@ -9,6 +9,7 @@ use native.Mathlib.Omega.{arith}
 use borrow.Author.Tests.{not-false, not-true}
 use Rattle.facts.specs.declared.Checked.{Checked}
 use Rattle.facts.specs.declared.Checked.the-variants as checked
+use Rattle.facts.specs.Checks.{outcome}
 use Rattle.facts.specs.Refusals.{rowOf, First, FirstAt}
 use Rattle.facts.proofs.Refusals.{exact, rows-before, one-row, first-check, first-after}
 use Rattle.facts.proofs.Reflect.{check-passed, then-passed}
@@ -21,11 +22,12 @@ use Rattle.netlist.proofs.Records.{record-past}
 use Rattle.netlist.proofs.Source.{input-passed, is-output}
 use Rattle.netlist.proofs.Refusals.{input-rows, input-first}
 use Rattle.netlist.specs.Source.{Input}
+use Rattle.netlist.specs.Balance.{driverCapacity}
 use Rattle.fanout.specs.declared.Count.{Count}
 use Rattle.fanout.specs.declared.Count.the-variants.{Fewest, NoTree, Refused}
 use Rattle.fanout.specs.Nets.{row}
 use Rattle.fanout.specs.Trees.{Net, netOf}
-use Rattle.fanout.specs.Answer.{treeCount, driverCapacity, unlessRefused, countChecks, countAnswer}
+use Rattle.fanout.specs.Answer.{treeCount, countChecks, countAnswer}
 use Rattle.fanout.specs.Promises.{
   Says,
   Asked,
@@ -63,9 +65,9 @@ module _ (s : ℕ) (source : List ℕ) (d : ℕ) where
       then-passed (inputChecks s source) _ .1 (a .passed, check-passed 20 d _ .1 (ap not (a .driver)))
 
   -- the answer, by the checks
-  by-checks : (c : Checked) → countChecks s source d ≡ c → countAnswer s source d ≡ unlessRefused c counted
+  by-checks : (c : Checked) → countChecks s source d ≡ c → countAnswer s source d ≡ outcome c counted Refused
   unfolding countAnswer
-  by-checks c e = ap (λ (x : Checked). unlessRefused x counted) e
+  by-checks c e = ap (λ (x : Checked). outcome x counted Refused) e
 
   -- what is counted is true of the net
   true-of : Asked s source d → Says driverCapacity s net counted

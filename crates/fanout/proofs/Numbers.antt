@@ -6,12 +6,13 @@ use mathlib.Core.Logic.{⊎-elim}
 use native.Mathlib.Omega.{arith}
 use Rattle.facts.specs.Refusals.{FirstAt}
 use Rattle.netlist.specs.Records.{netlist}
+use Rattle.netlist.specs.Balance.{driverCapacity}
 use Rattle.netlist.proofs.Source.{input-passed}
 use Rattle.fanout.specs.declared.Count.{Count}
 use Rattle.fanout.specs.declared.Count.the-variants.{Fewest, NoTree, Refused}
 use Rattle.fanout.specs.Nets.{row, fewest}
 use Rattle.fanout.specs.Trees.{Net, netOf}
-use Rattle.fanout.specs.Answer.{driverCapacity, noTree, countNumbers, countAnswer}
+use Rattle.fanout.specs.Answer.{noTree, countNumbers, countAnswer}
 use Rattle.fanout.specs.Promises.{LeastTree, Asked, CountFails, NumbersExactly}
 use Rattle.fanout.proofs.Rows.{row-of-net}
 use Rattle.fanout.proofs.Walking.{fewest-small}

@@ -15,10 +15,11 @@ use borrow.Author.Tests.{le-leb, lt-leb}
 use Rattle.netlist.specs.Kinds.{topLevel}
 use Rattle.netlist.specs.Records.{Netlist, netlist}
 use Rattle.netlist.specs.Source.{IsSource, Input}
+use Rattle.netlist.specs.Balance.{driverCapacity}
 use Rattle.fanout.specs.declared.TreeTotals.{TreeTotals}
 use Rattle.fanout.specs.declared.Count.the-variants.{Fewest, NoTree}
 use Rattle.fanout.specs.Nets.{row, up, nodes, buffers, nodesAt, buffersAt, fewest}
-use Rattle.fanout.specs.Answer.{treeCount, driverCapacity}
+use Rattle.fanout.specs.Answer.{treeCount}
 use Rattle.fanout.specs.declared.Reach.{Reach}
 use Rattle.fanout.specs.Stretches.{InStretches, NextSinks, NextDistance}
 use Rattle.fanout.specs.Walk.{sinkLimit, nodeLimit, Filled, Walkable, Walked}

@@ -7,7 +7,8 @@ use lib.Dec.{ltb}
 use borrow.Author.Tests.{ltb-true}
 use Rattle.facts.proofs.Bools.{and-l, and-r}
 use Rattle.fanout.specs.declared.Count.{Count}
-use Rattle.fanout.specs.Answer.{treeCount, driverCapacity}
+use Rattle.netlist.specs.Balance.{driverCapacity}
+use Rattle.fanout.specs.Answer.{treeCount}
 use Rattle.fanout.specs.Nets.{nodes, buffers}
 use Rattle.fanout.specs.Trees.{Net, netAt}
 use Rattle.fanout.specs.Worked.{Case, rowAt, worked}

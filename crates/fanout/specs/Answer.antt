@@ -3,11 +3,12 @@ use Prim.Native.Nat.{ℕ}
 use mathlib.Core.Bool.{cond, not}
 use mathlib.Core.List.{List, [], _∷_}
 use Rattle.facts.specs.declared.Checked.{Checked}
-use Rattle.facts.specs.declared.Checked.the-variants.{Passed, Refused}
-use Rattle.facts.specs.Checks.{check, _andThen_}
+use Rattle.facts.specs.declared.Checked.the-variants.{Refused}
+use Rattle.facts.specs.Checks.{check, _andThen_, outcome}
 use Rattle.netlist.specs.Kinds.{isDriver}
 use Rattle.netlist.specs.Records.{netlist, recordAt}
 use Rattle.netlist.specs.Checks.{inputChecks}
+use Rattle.netlist.specs.Balance.{driverCapacity}
 use Rattle.fanout.specs.declared.Count.{Count}
 use Rattle.fanout.specs.declared.Count.the-variants as count
 use Rattle.fanout.specs.Nets.{row, hasTree, fewest}
@@ -16,15 +17,6 @@ use Rattle.fanout.specs.Nets.{row, hasTree, fewest}
 abbrev pub treeCount : ℕ → ℕ → List ℕ → Count
 treeCount c s r = cond (hasTree c s r) (count.Fewest (fewest s r)) count.NoTree
 
--- slots that a driver may feed
-abbrev pub driverCapacity : ℕ
-driverCapacity = 1
-
--- a refusal's number and place, or an answer
-abbrev pub unlessRefused : Checked → Count → Count
-unlessRefused Passed answer = answer
-unlessRefused (Refused number place) answer = count.Refused number place
-
 -- 1 to 7, then 20: the record is absent or an output
 abbrev pub countChecks : ℕ → List ℕ → ℕ → Checked
 countChecks s source d = inputChecks s source andThen check 20 d (not (isDriver (recordAt source d .kind)))
@@ -32,7 +24,7 @@ countChecks s source d = inputChecks s source andThen check 20 d (not (isDriver 
 -- the count of the net that record d drives
 unfoldable pub countAnswer : ℕ → List ℕ → ℕ → Count
 countAnswer s source d =
-    unlessRefused (countChecks s source d) (treeCount driverCapacity s (row (netlist source) d))
+    outcome (countChecks s source d) (treeCount driverCapacity s (row (netlist source) d)) count.Refused
 
 -- what stands for no tree where a number is asked for
 abbrev pub noTree : ℕ

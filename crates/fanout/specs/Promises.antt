@@ -14,11 +14,12 @@ use Rattle.netlist.specs.Records.{netlist, recordAt, recordCount, names}
 use Rattle.netlist.specs.Source.{Source}
 use Rattle.netlist.specs.Checks.{inputChecks}
 use Rattle.netlist.specs.Refusals.{InputFails}
+use Rattle.netlist.specs.Balance.{driverCapacity}
 use Rattle.fanout.specs.declared.Count.{Count}
 use Rattle.fanout.specs.declared.Count.the-variants.{Fewest, NoTree, Refused}
 use Rattle.fanout.specs.Nets.{row, hasTree, buffersAt, fewest}
 use Rattle.fanout.specs.Trees.{Net, Tree, Legal, RowOf, netOf, netAt, buffersIn}
-use Rattle.fanout.specs.Answer.{treeCount, driverCapacity, countChecks, countAnswer, noTree, countNumbers}
+use Rattle.fanout.specs.Answer.{treeCount, countChecks, countAnswer, noTree, countNumbers}
 use Rattle.fanout.specs.Worked.{Case, rowAt, worked}
 
 -- a legal tree exists exactly if at most c nodes are left at distance 1

@@ -5,13 +5,15 @@ ghost use mathlib.Core.Bool.{cond};
 ghost use Rattle.netlist.specs.Records.{netlist};
 ghost use Rattle.netlist.specs.Kinds.{topLevel};
 ghost use Rattle.netlist.specs.Source.{Input};
+ghost use Rattle.netlist.specs.Balance.{driverCapacity};
 ghost use Rattle.fanout.specs.Nets.{added, row};
 ghost use Rattle.fanout.specs.Nets;
-ghost use Rattle.fanout.specs.Answer.{treeCount, driverCapacity, countAnswer};
+ghost use Rattle.fanout.specs.Answer.{treeCount, countAnswer};
 ghost use Rattle.fanout.specs.Filling.{RowSoFar, RowAtRecord, Empty, SinkRoom, Slot, rowWith, farWith};
 ghost use Rattle.fanout.specs.Stretches.{InStretches, NextDistance};
 ghost use Rattle.fanout.specs.Walk.{nodeLimit, Filled, Walkable, Walked};
 use facts::Checked;
+use netlist::DRIVER_CAPACITY;
 use netlist::Record;
 
 pub mod stretches;
@@ -40,9 +42,6 @@ pub const DISTANCES: usize = 4096;
 
 // Distances that are looked at one by one, which takes less time than looking for the next one with sinks.
 const NEAR: usize = 16;
-
-// Slots that a driver may feed.
-pub const DRIVER_CAPACITY: u32 = 1;
 
 // One more sink at a distance.
 fn add_sink(row: &mut [u32; DISTANCES], distance: usize)

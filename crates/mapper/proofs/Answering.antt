@@ -1,10 +1,9 @@
 -- Laws of the mapper's answer: gates, share and junctions, and which check refuses.
 use Prim.Native.Nat.{ℕ, _+_, _*_, _≤_, _<_, _/_}
-use mathlib.Core.Path.{_≡_, refl, sym, _∙_, ap, ap₂}
+use mathlib.Core.Path.{_≡_, refl, sym, _∙_, ap}
 use mathlib.Core.Bool.{Bool, cond}
 use mathlib.Core.List.{List}
 use native.Mathlib.Omega.{arith}
-use native.Mathlib.Numerals.{add-one}
 use mir.Val.{Fits}
 use mir.Syntax.{w32, w64}
 use lib.ListN.{length}
@@ -12,18 +11,19 @@ use borrow.Author.Tests.{eq-eqb, ne-eqb, lt-ltb, le-ltb, not-false}
 use Rattle.facts.specs.declared.Checked.{Checked}
 use Rattle.facts.specs.declared.Checked.the-variants.{Passed, Refused}
 use Rattle.facts.specs.Checks.{check, _andThen_}
-use Rattle.facts.specs.Sums.{bit, sum, count}
-use Rattle.facts.proofs.Sums.{bit-le, count-le}
+use Rattle.facts.specs.Sums.{sum}
+use Rattle.facts.proofs.Sums.{count-le}
 use Rattle.facts.proofs.Reflect.{check-passed, scan-passed}
 use Rattle.netlist.specs.Kinds.{width, slots, sourceLimit, mappedLimit, isGate}
 use Rattle.netlist.specs.Records.{Netlist, netlist, recordCount, depth}
 use Rattle.netlist.specs.Checks.{inputChecks}
 use Rattle.netlist.specs.Source.{IsSource}
+use Rattle.netlist.specs.Counts.{gates}
 use Rattle.netlist.proofs.Source.{input-passed}
 use Rattle.mapper.specs.declared.Mapping.{Mapping}
 use Rattle.mapper.specs.Bytes.{bytesOf, onto}
 use Rattle.mapper.specs.Mapped.{treeSize, bufferTotal, mappedSize, mapped, Ready}
-use Rattle.mapper.specs.Answer.{gatePrice, bufferPrice, gates, share, junctions, figures, answerOf, areaOf, refusal, noTree, treeCheck, treesBelow, treeChecks, tooLarge, tooShort, sourceMaps, mapChecks, mapAnswer, mapArea}
+use Rattle.mapper.specs.Answer.{gatePrice, bufferPrice, share, junctions, figures, answerOf, areaOf, refusal, noTree, treeCheck, treesBelow, treeChecks, tooLarge, tooShort, sourceMaps, mapChecks, mapAnswer, mapArea}
 use Rattle.mapper.specs.declared.trees.Sizing.{Sizing}
 use Rattle.mapper.specs.declared.trees.Sizing.the-variants.{Total, Stops}
 use Rattle.mapper.specs.Chains.{Linked, Chained, Hung, sizingOf, Counted}
@@ -37,37 +37,14 @@ share-none part whole e = ap (λ (b : Bool). cond b 0 (100 * part / whole)) (sym
 pub share-some : (part whole : ℕ) → (whole ≡ 0 → ⊥) → 100 * part / whole ≡ share part whole
 share-some part whole e = ap (λ (b : Bool). cond b 0 (100 * part / whole)) (sym (ne-eqb whole 0 e))
 
--- the gates below record i
-pub record Gating (n : Netlist) (found i : ℕ) : Type 0 where
-  pub within : i ≤ n .size
-  pub gates : found ≡ count (λ k. isGate (n .at k .kind)) i
-
-module _ (n : Netlist) where
-  pub gates-start : Gating n 0 0
-  unfolding count sum
-  gates-start = record { within = omega arith; gates = refl }
-
-  module _ (N found i : ℕ) (h : Gating n found i) (size : N ≡ n .size) where
-    pub gates-fit : (b : Bool) (x : ℕ) → n .size ≤ sourceLimit → i < N → x ≡ bit b → Fits w32 (found + x)
-    gates-fit b x few l e = omega (arith, h .gates, count-le (λ k. isGate (n .at k .kind)) i, bit-le b)
-
-    pub gates-more : (b : Bool) (x kind : ℕ) → i < N → kind ≡ n .at i .kind → b ≡ isGate kind → x ≡ bit b → Gating n (found + x) (i + 1)
-    unfolding count sum
-    gates-more b x kind l e f g =
-        record {
-          within = omega arith;
-          gates = rw (add-one i) (ap₂ _+_ (h .gates) (g ∙ ap bit (f ∙ ap isGate e)));
-        }
-
-    pub gates-end : N ≤ i → found ≡ Rattle.mapper.specs.Answer.gates n
-    unfolding Rattle.mapper.specs.Answer.gates
-    gates-end l = let e : i ≡ n .size = omega (arith, h .within) in h .gates ∙ ap (count (λ k. isGate (n .at k .kind))) e
-
 -- the numbers of an accepted source
 module _ (n : Netlist) (N bs g : ℕ) (size : N ≡ n .size) (few : N ≤ sourceLimit) (b : bs ≤ mappedLimit) (e : g ≡ gates n) where
   gates-few : g ≤ sourceLimit
   unfolding gates
   gates-few = omega (arith, count-le (λ k. isGate (n .at k .kind)) (n .size))
+
+  pub gates-fit : Fits w32 g
+  gates-fit = omega (arith, gates-few)
 
   pub gates-price : Fits w32 (gatePrice * g)
   gates-price = omega (arith, gates-few)

@@ -17,11 +17,11 @@ use Rattle.facts.proofs.Loops.{Scanning, scan-start, scan-more, scan-stop, scan
 use Rattle.netlist.specs.Kinds.{topLevel}
 use Rattle.netlist.specs.Records.{Netlist}
 use Rattle.netlist.specs.Source.{IsSource}
+use Rattle.netlist.specs.Balance.{driverCapacity}
 use Rattle.fanout.specs.Nets.{nodesAt}
 use Rattle.fanout.specs.declared.TreeTotals.{TreeTotals}
 use Rattle.mapper.specs.declared.trees.Sizing.{Sizing}
 use Rattle.mapper.specs.declared.trees.Sizing.the-variants.{Total, Stops}
-use Rattle.fanout.specs.Answer.{driverCapacity}
 use Rattle.mapper.specs.Mapped.{netRow, treeSize, bufferTotal}
 use Rattle.mapper.specs.Answer.{treeCheck, treesBelow, treeChecks}
 use Rattle.mapper.specs.Chains.{Chained, Measured, sizingOf}

@@ -11,9 +11,9 @@ use Rattle.facts.proofs.Bools.{and-l, and-r, and-i}
 use Rattle.facts.proofs.Sums.{sum-none, sum-single-le, sum-cong, sum-add, sum-append, count-append, count₂-cong, count-none, count-all, count-le, count-mono, count₂-none, count-div, fibres}
 use Rattle.netlist.specs.Kinds.{slots, topLevel, buffer, arity}
 use Rattle.netlist.specs.Records.{Netlist, used, fanin, names, feeds}
+use Rattle.netlist.specs.Balance.{driverCapacity}
 use Rattle.netlist.proofs.Source.{no-buffer}
 use Rattle.fanout.specs.Nets.{sinks, sinkAt, nodesAt}
-use Rattle.fanout.specs.Answer.{driverCapacity}
 use Rattle.mapper.specs.Mapped.{netRow, buffersOf, treeSize, mappedSize, place, parent, bufferRecord, rank, distance, sinkNumber, sinkParent, mappedAt, mapped, Ready}
 use Rattle.mapper.proofs.Blocks.{sum-blocks, count₂-rank}
 use Rattle.mapper.proofs.Mapped.{tree-sum, at-place, place-driver, place-distance}

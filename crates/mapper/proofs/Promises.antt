@@ -23,11 +23,11 @@ use Rattle.netlist.specs.Kinds.{width, mappedLimit, isDriver}
 use Rattle.netlist.specs.Records.{Netlist, netlist, recordCount, recordAt}
 use Rattle.netlist.specs.Source.{IsSource}
 use Rattle.netlist.specs.Checks.{inputChecks}
+use Rattle.netlist.specs.Balance.{driverCapacity}
 use Rattle.netlist.proofs.Source.{driver-inside}
 use Rattle.netlist.proofs.Refusals.{input-rows, input-first}
 use Rattle.fanout.specs.Nets.{row, nodes, buffers, hasTree, fewest}
 use Rattle.fanout.specs.Trees.{netOf, RowOf}
-use Rattle.fanout.specs.Answer.{driverCapacity}
 use Rattle.fanout.specs.Promises.{LeastTree, Attained}
 use Rattle.fanout.proofs.Promises.{tree-exactly, least-in-all, fewest-attained}
 use Rattle.fanout.proofs.Rows.{row-of-net}

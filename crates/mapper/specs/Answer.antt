@@ -5,14 +5,13 @@ use mathlib.Core.List.{List, [], _∷_}
 use lib.ListN.{length}
 use lib.Dec.{ltb, eqb}
 use Rattle.facts.specs.declared.Checked.{Checked}
-use Rattle.facts.specs.declared.Checked.the-variants.{Passed, Refused}
-use Rattle.facts.specs.Checks.{check, _andThen_, scan}
-use Rattle.facts.specs.Sums.{count}
-use Rattle.netlist.specs.Kinds.{width, mappedLimit, isGate}
+use Rattle.facts.specs.Checks.{check, _andThen_, outcome, unlessRefused, scan}
+use Rattle.netlist.specs.Kinds.{width, mappedLimit}
 use Rattle.netlist.specs.Records.{Netlist, netlist, depth}
+use Rattle.netlist.specs.Counts.{gates}
 use Rattle.netlist.specs.Checks.{inputChecks}
+use Rattle.netlist.specs.Balance.{driverCapacity}
 use Rattle.fanout.specs.Nets.{hasTree}
-use Rattle.fanout.specs.Answer.{driverCapacity}
 use Rattle.mapper.specs.declared.Mapping.{Mapping}
 use Rattle.mapper.specs.Bytes.{bytesOf, onto}
 use Rattle.mapper.specs.Mapped.{netRow, bufferTotal, mappedSize, mapped}
@@ -56,10 +55,6 @@ gatePrice = 6
 abbrev pub bufferPrice : ℕ
 bufferPrice = 2
 
--- a source's gates
-unfoldable pub gates : Netlist → ℕ
-gates n = count (λ i. isGate (n .at i .kind)) (n .size)
-
 -- JJs of some gates and buffers
 abbrev pub junctions : ℕ → ℕ → ℕ
 junctions gs bs = gatePrice * gs + bufferPrice * bs
@@ -88,13 +83,11 @@ figures n bs =
 
 -- the answer that the checks leave
 abbrev pub answerOf : Checked → Netlist → ℕ → Mapping
-answerOf Passed n s = figures n (bufferTotal n s)
-answerOf (Refused number place) n s = refusal number place
+answerOf checks n s = outcome checks (figures n (bufferTotal n s)) refusal
 
 -- the area that the checks leave
 abbrev pub areaOf : Checked → Netlist → ℕ → List ℕ → List ℕ
-areaOf Passed n s area = onto (bytesOf (mapped n s)) area
-areaOf (Refused number place) n s area = area
+areaOf checks n s area = unlessRefused checks (onto (bytesOf (mapped n s)) area) area
 
 -- the mapper's seven numbers
 unfoldable pub mapAnswer : List ℕ → ℕ → List ℕ → Mapping

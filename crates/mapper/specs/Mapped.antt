@@ -12,8 +12,8 @@ use Rattle.netlist.specs.declared.Record.{Record}
 use Rattle.netlist.specs.Kinds.{slots, unused, topLevel, mappedLimit, buffer, isDriver}
 use Rattle.netlist.specs.Records.{Netlist, blank, used, fanin}
 use Rattle.netlist.specs.Source.{IsSource}
+use Rattle.netlist.specs.Balance.{driverCapacity}
 use Rattle.fanout.specs.Nets.{row, sinkAt, buffersAt, hasTree, fewest}
-use Rattle.fanout.specs.Answer.{driverCapacity}
 
 -- the row of d's net; only drivers have one
 unfoldable pub netRow : Netlist → ℕ → List ℕ

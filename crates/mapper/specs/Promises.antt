@@ -11,8 +11,8 @@ use Rattle.facts.specs.Refusals.{Conditions, Fails, _or_, Each, Exact}
 use Rattle.netlist.specs.Kinds.{width, mappedLimit, buffer, isDriver}
 use Rattle.netlist.specs.Records.{Netlist, netlist, recordCount, recordAt}
 use Rattle.netlist.specs.Refusals.{InputFails}
+use Rattle.netlist.specs.Balance.{driverCapacity}
 use Rattle.fanout.specs.Trees.{netOf}
-use Rattle.fanout.specs.Answer.{driverCapacity}
 use Rattle.fanout.specs.Promises.{NoLegalTree, LeastTree}
 use Rattle.mapper.specs.Bytes.{recs}
 use Rattle.mapper.specs.Mapped.{treeSize, blockStart, bufferTotal, mappedSize, mapped}

@@ -5,7 +5,7 @@ use mathlib.Core.List.{List, []}
 use lib.ListN.{take, drop}
 use lib.Dec.{leb}
 use Rattle.facts.specs.declared.Checked.{Checked}
-use Rattle.facts.specs.declared.Checked.the-variants.{Passed, Refused}
+use Rattle.facts.specs.Checks.{unlessRefused}
 use Rattle.netlist.specs.Kinds.{width, isDriver}
 use Rattle.netlist.specs.Records.{Netlist, netlist, recordCount}
 use Rattle.mapper.specs.declared.Ends.{Ends}
@@ -22,8 +22,7 @@ ownEnds n s d = record { from = blockStart n s d; to = blockStart n s (suc d) }
 
 -- what the checks leave of it; only drivers have one
 abbrev pub endsOf : Checked → Netlist → ℕ → ℕ → Ends
-endsOf Passed n s d = cond (isDriver (n .at d .kind)) (ownEnds n s d) noEnds
-endsOf (Refused number place) n s d = noEnds
+endsOf checks n s d = unlessRefused checks (cond (isDriver (n .at d .kind)) (ownEnds n s d) noEnds) noEnds
 
 -- none where 1 to 9 refuse the source and the capacity, or the record is no driver
 unfoldable pub blockEnds : List ℕ → ℕ → ℕ → Ends

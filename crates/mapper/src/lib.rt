@@ -6,7 +6,7 @@ ghost use Rattle.netlist.specs.Kinds.{slots, topLevel, sourceLimit, mappedLimit
 ghost use Rattle.netlist.specs.Records.{netlist, recordCount};
 ghost use Rattle.netlist.specs.Checks.{inputChecks};
 ghost use Rattle.mapper.specs.Mapped.{mapped};
-ghost use Rattle.mapper.specs.Answer.{gates, share, refusal, figures, mapAnswer, mapArea};
+ghost use Rattle.mapper.specs.Answer.{share, refusal, figures, mapAnswer, mapArea};
 ghost use Rattle.mapper.specs.View.{blockView};
 ghost use Rattle.mapper.specs.Chains.{Counted};
 use facts::Checked;
@@ -55,20 +55,6 @@ struct Ends {
     to: usize,
 }
 
-// A source's gates.
-fn count_gates(source: &[u8]) -> u32
-    requires { ⌜ recordCount (now source) ≤ sourceLimit ⌝ }
-    ensures { λ r. ⌜ r ≡ gates (netlist (now (source .entry))) ⌝ }
-{
-    let mut found: u32 = 0;
-    let mut i: usize = 0;
-    while i < netlist::record_count(source) {
-        found += numbers::one_if(netlist::is_gate(netlist::kind_at(source, i)));
-        i += 1;
-    }
-    found
-}
-
 // The share of a part in whole percent, rounded down.
 fn share_of(part: u32, whole: u32) -> u32
     requires { ⌜ part ≤ 1000000 ⌝ }
@@ -102,7 +88,8 @@ fn accept(source: &[u8], n: usize, buffers: u32) -> Mapping
     requires { ⌜ buffers ≤ mappedLimit ⌝ }
     ensures { λ r. ⌜ r ≡ figures (netlist (now (source .entry))) buffers ⌝ }
 {
-    let junctions = GATE_PRICE * count_gates(source) + BUFFER_PRICE * buffers;
+    let gates = netlist::count_kinds(source, netlist::AND, netlist::MAJORITY) as u32;
+    let junctions = GATE_PRICE * gates + BUFFER_PRICE * buffers;
     Mapping {
         number: 0,
         place: 0,

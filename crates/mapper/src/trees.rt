@@ -14,8 +14,8 @@ use crate::numbers;
 use crate::sinks;
 use crate::sinks::Chain;
 use fanout::DISTANCES;
-use fanout::DRIVER_CAPACITY;
 use fanout::TreeTotals;
+use netlist::DRIVER_CAPACITY;
 
 // The buffers of all trees, or check 8's refusal: number and place.
 pub(crate) enum Sizing {

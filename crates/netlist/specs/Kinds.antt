@@ -59,9 +59,13 @@ arities = 0 ∷ 2 ∷ 2 ∷ 3 ∷ 1 ∷ 1 ∷ []
 abbrev pub arity : ℕ → ℕ
 arity kind = getD arities kind 0
 
+-- a kind from the first to the last of a range
+abbrev pub among : ℕ → ℕ → ℕ → Bool
+among first last kind = leb first kind && leb kind last
+
 -- AND, OR and MAJ
 abbrev pub isGate : ℕ → Bool
-isGate kind = leb and kind && leb kind majority
+isGate kind = among and majority kind
 
 -- inputs and gates drive nets
 abbrev pub isDriver : ℕ → Bool

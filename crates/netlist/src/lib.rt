@@ -1,9 +1,10 @@
 // Records of ten bytes, the source reader (checks 1 to 7) and the record view.
 ghost use mathlib.Core.Path.{_≡_};
-ghost use Rattle.netlist.specs.Kinds.{isGate, isDriver};
+ghost use Rattle.netlist.specs.Kinds.{among, isGate, isDriver};
 ghost use Rattle.netlist.specs.Kinds;
 ghost use Rattle.netlist.specs.Records.{recordAt, recordCount, netlist};
 ghost use Rattle.netlist.specs.Records;
+ghost use Rattle.netlist.specs.Counts.{countKind, countOf};
 ghost use Rattle.netlist.specs.Checks.{sourceChecks, inputChecks};
 ghost use Rattle.netlist.specs.View.{viewOf};
 use facts::Checked;
@@ -26,6 +27,9 @@ pub const MAPPED_LIMIT: usize = 60000;
 pub const LEAST_CAPACITY: u32 = 2;
 
 pub const MOST_CAPACITY: u32 = 4;
+
+// Slots that a driver may feed.
+pub const DRIVER_CAPACITY: u32 = 1;
 
 pub const INPUT: u8 = 0;
 
@@ -61,11 +65,18 @@ pub fn arity(kind: u8) -> usize
     }
 }
 
+// A kind from the first to the last of a range.
+fn is_among(kind: u8, first: u8, last: u8) -> bool
+    ensures { λ r. ⌜ r ≡ among first last kind ⌝ }
+{
+    if first <= kind { kind <= last } else { false }
+}
+
 // AND, OR and MAJ.
 pub fn is_gate(kind: u8) -> bool
     ensures { λ r. ⌜ r ≡ isGate kind ⌝ }
 {
-    if AND <= kind { kind <= MAJORITY } else { false }
+    is_among(kind, AND, MAJORITY)
 }
 
 // Inputs and gates drive nets.
@@ -132,6 +143,27 @@ pub fn slot_at(bytes: &[u8], k: usize, j: usize) -> u16
     ensures { λ r. ⌜ r ≡ Records.slot (recordAt (now (bytes .entry)) k) j ⌝ }
 {
     slot(record_at(bytes, k), j)
+}
+
+// How many records are of the kinds from the first to the last of a range.
+pub fn count_kinds(bytes: &[u8], first: u8, last: u8) -> usize
+    ensures { λ r. ⌜ r ≡ countKind (netlist (now (bytes .entry))) (among first last) ⌝ }
+{
+    let n = record_count(bytes);
+    let mut total: usize = 0;
+    let mut k: usize = 0;
+    while k < n {
+        total += facts::one_if(is_among(kind_at(bytes, k), first, last));
+        k += 1;
+    }
+    total
+}
+
+// How many records are of one kind.
+pub fn count_kind(bytes: &[u8], kind: u8) -> usize
+    ensures { λ r. ⌜ r ≡ countOf (netlist (now (bytes .entry))) kind ⌝ }
+{
+    count_kinds(bytes, kind, kind)
 }
 
 // D: the level of the first output, 0 without outputs.

@@ -12,12 +12,13 @@ use Rattle.facts.proofs.Bools.{and-l, and-r, and-i}
 use Rattle.facts.proofs.Blocks.{block-at}
 use Rattle.netlist.specs.Kinds.{buffer}
 use Rattle.netlist.specs.Records.{Netlist, netlist, recordCount, fanin}
+use Rattle.netlist.specs.Counts.{isBuffer}
 use Rattle.netlist.proofs.Source.{no-buffer, driver-inside}
+use Rattle.netlist.proofs.Balance.{buffer-named}
 use Rattle.verifier.specs.Legal.{Traces}
 use Rattle.verifier.specs.Trace.{driver}
-use Rattle.verifier.specs.Checks.{isBuffer}
 use Rattle.verifier.specs.Fewest.{onNet}
-use Rattle.verifier.proofs.Trace.{buffer-named, traces-driver}
+use Rattle.verifier.proofs.Trace.{traces-driver}
 use Rattle.mapper.specs.Bytes.{recs}
 use Rattle.mapper.specs.Mapped.{Ready, treeSize, blockStart, mappedSize, bufferRecord, mapped}
 use Rattle.mapper.proofs.Mapped.{within-tree, placed}
@@ -42,7 +43,7 @@ module _ (n : Netlist) (s : ℕ) (r : Ready n s) where
       (Traces.here refl (no-buffer n (r .source) (p .d) (p .driver) (kind-kept n s r (p .d) (p .driver))))
       (λ y e t. Traces.back e t)) in
       traces-driver (mapped n s) (legal .named) (legal .balanced) (p .d) (fanin (mapped n s) x 0)
-      (buffer-named (mapped n s) (legal .named) (legal .balanced) x u (buffer-kind n s r x l u))
+      (buffer-named (mapped n s) (legal .named) x u (buffer-kind n s r x l u))
       ends
 
   -- the driver whose block an index lies in

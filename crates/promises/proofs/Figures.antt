@@ -12,11 +12,11 @@ use Rattle.facts.proofs.Bools.{true-false}
 use Rattle.facts.proofs.Sums.{count-append, count-cong, count-none}
 use Rattle.netlist.specs.Kinds.{width, isGate}
 use Rattle.netlist.specs.Records.{Netlist, netlist, depth}
+use Rattle.netlist.specs.Counts.{bufferCount, gates}
 use Rattle.netlist.proofs.Source.{outputs-at, outputs-at-one}
 use Rattle.verifier.specs.Legal.{Legal}
-use Rattle.verifier.specs.Checks.{bufferCount}
 use Rattle.verifier.proofs.Balance.{outputs-kept}
-use Rattle.mapper.specs.Answer.{gates, share, mapAnswer}
+use Rattle.mapper.specs.Answer.{share, mapAnswer}
 use Rattle.mapper.proofs.Answering.{share-none, share-some}
 use Rattle.promises.specs.Written.{Maps, written}
 use Rattle.promises.specs.Numbers.{RoundedDown, Figures}

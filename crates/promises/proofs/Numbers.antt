@@ -7,14 +7,16 @@ use mathlib.Core.List.{List, [], _∷_}
 use lib.ListN.{getD, take}
 use Rattle.facts.specs.declared.Checked.{Checked}
 use Rattle.facts.specs.declared.Checked.the-variants.{Passed, Refused}
-use Rattle.facts.specs.Checks.{checkedNumbers}
+use Rattle.facts.specs.Checks.{checkedNumbers, outcome}
 use Rattle.facts.specs.Refusals.{Conditions, FirstAt, Exact, rowOf}
 use Rattle.netlist.specs.Kinds.{width}
 use Rattle.netlist.specs.Records.{netlist}
 use Rattle.netlist.specs.Refusals.{SourceFails}
+use Rattle.netlist.specs.Counts.{bufferCount}
 use Rattle.netlist.proofs.Refusals.{source-rows, input-numbered}
+use Rattle.verifier.specs.declared.Verified.the-variants as verified
 use Rattle.verifier.specs.Refusals.{VerifyFails}
-use Rattle.verifier.specs.Checks.{bufferCount, verifyChecks, verified, verifyAnswer, verifiedNumbers}
+use Rattle.verifier.specs.Checks.{verifyChecks, verifyAnswer, verifiedNumbers}
 use Rattle.verifier.proofs.Accepted.{checks-passed}
 use Rattle.verifier.proofs.Refusals.{verify-first}
 use Rattle.facts.proofs.Refusals.{exact, Numbered, row-positive, zero-passed}
@@ -79,7 +81,7 @@ two-numbers F a e numbered =
 
 module _ (source : List ℕ) (s : ℕ) (mapped : List ℕ) where
   abbrev verifyNumbers : Checked → List ℕ
-  verifyNumbers a = verifiedNumbers (verified (bufferCount (netlist mapped)) a)
+  verifyNumbers a = verifiedNumbers (outcome a (verified.Buffers (bufferCount (netlist mapped))) verified.Refused)
 
   verify-exact : Exact (VerifyFails source s mapped) (verifyChecks source s mapped)
   verify-exact = exact (verify-first source s mapped)

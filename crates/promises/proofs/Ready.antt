@@ -9,10 +9,11 @@ use Rattle.facts.proofs.Sums.{sum-cong}
 use Rattle.netlist.specs.Kinds.{buffer, arity}
 use Rattle.netlist.specs.Records.{Netlist, fanin, feeds}
 use Rattle.netlist.specs.Source.{IsSource}
+use Rattle.netlist.specs.Balance.{capacityOf}
+use Rattle.netlist.specs.Counts.{bufferCount}
 use Rattle.netlist.proofs.Source.{no-buffer}
 use Rattle.fanout.specs.Nets.{row, fewest}
-use Rattle.verifier.specs.Legal.{Legal, Kept, Traces, capacityOf}
-use Rattle.verifier.specs.Checks.{bufferCount}
+use Rattle.verifier.specs.Legal.{Legal, Kept, Traces}
 use Rattle.mapper.specs.Mapped.{Ready, treeSize, mappedSize, mappedAt, mapped}
 use Rattle.promises.specs.Written.{fewestInAll}
 use Rattle.mapper.proofs.Mapped.{placed}

@@ -18,8 +18,9 @@ use Rattle.netlist.specs.Kinds.{width, mappedLimit}
 use Rattle.netlist.specs.Records.{Netlist, netlist, recordCount}
 use Rattle.netlist.specs.Source.{Source}
 use Rattle.netlist.specs.Checks.{inputChecks}
+use Rattle.netlist.specs.Balance.{driverCapacity}
+use Rattle.netlist.specs.Counts.{bufferCount}
 use Rattle.netlist.proofs.Refusals.{input-numbered}
-use Rattle.fanout.specs.Answer.{driverCapacity}
 use Rattle.netlist.proofs.Source.{input-passed}
 use Rattle.mapper.specs.Mapped.{Ready, mappedSize, mapped}
 use Rattle.mapper.specs.Bytes.{bytesOf}
@@ -29,7 +30,7 @@ use Rattle.mapper.proofs.Promises.{maps-ready, map-exact}
 use Rattle.mapper.proofs.Measuring.{net-nodes}
 use Rattle.mapper.proofs.Area.{length-recs}
 use Rattle.mapper.proofs.Written.{mapped-read}
-use Rattle.verifier.specs.Checks.{verifyChecks, bufferCount}
+use Rattle.verifier.specs.Checks.{verifyChecks}
 use Rattle.verifier.proofs.Accepted.{checks-passed, accepted-exactly, buffers-all}
 use Rattle.verifier.proofs.Balance.{accepted-balanced}
 use Rattle.verifier.proofs.Fewest.{none-accepted-fewer}

@@ -10,9 +10,10 @@ use Rattle.facts.specs.Refusals.{Conditions, Clear, FirstAt}
 use Rattle.netlist.specs.Kinds.{width}
 use Rattle.netlist.specs.Records.{netlist, recordCount}
 use Rattle.netlist.specs.Source.{OutputsAt}
-use Rattle.mapper.specs.Answer.{gates, mapAnswer, mapArea, mappingNumbers}
+use Rattle.netlist.specs.Counts.{bufferCount, gates}
+use Rattle.mapper.specs.Answer.{mapAnswer, mapArea, mappingNumbers}
 use Rattle.mapper.specs.Promises.{MapFails}
-use Rattle.verifier.specs.Checks.{bufferCount, verifyAnswer, verifiedNumbers}
+use Rattle.verifier.specs.Checks.{verifyAnswer, verifiedNumbers}
 use Rattle.verifier.specs.Accepted.{Accepted}
 use Rattle.verifier.specs.Refusals.{VerifyFails}
 use Rattle.simulator.specs.Evaluate.{evaluateAnswer}

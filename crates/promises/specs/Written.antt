@@ -7,12 +7,13 @@ use Rattle.facts.specs.declared.Checked.the-variants.{Passed}
 use Rattle.facts.specs.Sums.{sum}
 use Rattle.netlist.specs.Kinds.{width}
 use Rattle.netlist.specs.Records.{Netlist, netlist, recordCount}
+use Rattle.netlist.specs.Balance.{PathBalanced, ProperlyBranched}
+use Rattle.netlist.specs.Counts.{bufferCount}
 use Rattle.fanout.specs.Nets.{row, fewest}
 use Rattle.mapper.specs.Answer.{sourceMaps, mapAnswer, mapArea}
 use Rattle.verifier.specs.declared.Verified.the-variants.{Buffers}
-use Rattle.verifier.specs.Checks.{bufferCount, verifyAnswer}
+use Rattle.verifier.specs.Checks.{verifyAnswer}
 use Rattle.verifier.specs.Accepted.{Accepted}
-use Rattle.verifier.specs.Balance.{PathBalanced, ProperlyBranched}
 use Rattle.verifier.specs.Fewest.{NoMore}
 
 -- the fewest buffers of all nets

@@ -10,9 +10,9 @@ use Rattle.facts.specs.declared.Checked.the-variants.{Passed}
 use Rattle.facts.proofs.Reflect.{reflect}
 use Rattle.netlist.specs.Records.{netlist, recordCount}
 use Rattle.netlist.specs.Source.{Source}
+use Rattle.netlist.specs.Counts.{inputs}
 use Rattle.netlist.proofs.Source.{source-passed}
 use Rattle.verifier.specs.Checks.{verifyChecks}
-use Rattle.simulator.specs.Logic.{inputs}
 use Rattle.simulator.specs.Evaluate.{bitChecks, evaluateChecks, evaluateAnswer}
 use Rattle.simulator.specs.Step.{stepChecks, stepAnswer}
 use Rattle.simulator.specs.Run.{runChecks, runAnswer}

@@ -6,11 +6,11 @@ use native.Mathlib.Omega.{arith}
 use lib.ListN.{length, getD}
 use Rattle.facts.specs.declared.Checked.{Checked}
 use Rattle.facts.specs.declared.Checked.the-variants.{Passed, Refused}
+use Rattle.facts.specs.Checks.{unlessRefused}
 use Rattle.netlist.specs.Records.{netlist, recordCount, depth}
 use Rattle.netlist.specs.Source.{IsSource}
 use Rattle.verifier.specs.Legal.{Legal}
 use Rattle.simulator.specs.Logic.{values, outputRow}
-use Rattle.simulator.specs.Evaluate.{written}
 use Rattle.simulator.specs.Step.{stepped, stepAnswer, stepArea}
 use Rattle.simulator.specs.Waves.{counted, taken, history}
 use Rattle.simulator.proofs.Outputs.{outputs-kept, wave-outputs}
@@ -22,7 +22,7 @@ module _ (source : List ℕ) (s : ℕ) (mapped : List ℕ) where
       (k : ℕ) → k < length rows → getD areas k [] ≡ stepped (netlist mapped) (getD rows k []) (getD (area ∷ areas) k [])
 
   one-more : (answer : Checked) (row area next : List ℕ) (rows areas : List (List ℕ)) →
-      next ≡ written answer (stepped (netlist mapped) row area) area → Steps rows areas next →
+      next ≡ unlessRefused answer (stepped (netlist mapped) row area) area → Steps rows areas next →
       Steps (counted answer row rows) (counted answer next areas) area
   one-more Passed row area next rows areas e h zero l = e
   one-more Passed row area next rows areas e h (suc k) l = h k (omega arith)

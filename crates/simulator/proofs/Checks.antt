@@ -20,10 +20,11 @@ use Rattle.netlist.specs.Checks.{sourceChecks}
 use Rattle.netlist.proofs.Source.{source-passed}
 use Rattle.verifier.specs.Checks.{verifyChecks}
 use Rattle.verifier.proofs.Accepted.{checks-passed}
-use Rattle.simulator.specs.Logic.{isInput, inputs, outputs, values}
+use Rattle.simulator.specs.Logic.{values}
 use Rattle.simulator.specs.Evaluate.{bitCheck, bitChecks, badAreas, evaluateChecks, evaluateAnswer, evaluateArea}
 use Rattle.netlist.specs.Source.{IsSource}
-use Rattle.verifier.specs.Legal.{Named}
+use Rattle.netlist.specs.Balance.{Named}
+use Rattle.netlist.specs.Counts.{isInput, inputs, outputs}
 use Rattle.simulator.specs.Step.{rowLimit, badRows, stepped, stepChecks, stepAnswer, stepArea}
 use Rattle.simulator.specs.PrivateStep.{Buffered}
 use Rattle.simulator.specs.Run.{after, steps, outputRows, badOutputs, runChecks, runAnswer, runArea, runOutputs}

@@ -14,7 +14,8 @@ use Rattle.facts.proofs.Lists.{getD-tabulate}
 use Rattle.netlist.specs.Kinds.{arity}
 use Rattle.netlist.specs.Records.{Netlist, isOutput, fanin}
 use Rattle.netlist.specs.Source.{IsSource}
-use Rattle.simulator.specs.Logic.{on, isInput, turned, onesBelow, threshold, gate, next, values, plain, outputsBelow}
+use Rattle.netlist.specs.Counts.{isInput}
+use Rattle.simulator.specs.Logic.{on, turned, onesBelow, threshold, gate, next, values, plain, outputsBelow}
 
 -- a kind's function goes by its used slots alone
 pub gate-cong : (k v : ℕ) (f g : ℕ → Bool) → ((j : ℕ) → j < arity k → f j ≡ g j) → gate k v f ≡ gate k v g

@@ -16,11 +16,12 @@ use Rattle.facts.proofs.Areas.{Written, length-written, take-written, drop-writ
 use Rattle.netlist.specs.Kinds.{sourceLimit, output}
 use Rattle.netlist.specs.Records.{netlist, recordAt, recordCount, isOutput}
 use Rattle.netlist.specs.Records
-use Rattle.simulator.specs.Logic
-use Rattle.simulator.specs.Logic.{isInput, inputs, outputs, outputsBelow, outputRow}
+use Rattle.netlist.specs.Balance.{Named}
+use Rattle.netlist.specs.Counts.{isInput, inputs, outputs}
+use Rattle.netlist.specs.Counts
+use Rattle.simulator.specs.Logic.{outputsBelow, outputRow}
 use Rattle.simulator.specs.Run.{rowAt, after, steps, outputRows}
 use Rattle.simulator.specs.PrivateRun.{OutputRoom, putOutput, Steppable, ShapeOf, Playable, IsRun}
-use Rattle.verifier.specs.Legal.{Named}
 use Rattle.simulator.specs.Step.{rowLimit, stepped}
 use Rattle.simulator.specs.PrivateStep.{Buffered}
 use Rattle.simulator.specs.declared.Shape.{Shape}
@@ -225,8 +226,8 @@ pub record Playing (source mapped rows : List ℕ) (count w n m deep wide t : �
   pub narrow : w ≤ sourceLimit
   pub shallow : deep < 2 ^ 16
   pub few : count ≤ rowLimit
-  pub inputs : w ≡ Logic.inputs (netlist source)
-  pub outputs : wide ≡ Logic.outputs (netlist source)
+  pub inputs : w ≡ Counts.inputs (netlist source)
+  pub outputs : wide ≡ Counts.outputs (netlist source)
   pub depth : deep ≡ Records.depth (netlist source)
   pub within : t ≤ count
   pub room : length old ≡ count * wide
@@ -301,7 +302,7 @@ module _ (source mapped rows : List ℕ) (count : ℕ) where
         long : length new ≡ 2 * m
         long = state-long mapped w rows (suc (t + deep)) m new next (c .records)
 
-        row-is : outputRow (netlist source) new ≡ outputRow (netlist source) (after (netlist mapped) (Logic.inputs (netlist source)) rows (suc (t + Records.depth (netlist source))))
+        row-is : outputRow (netlist source) new ≡ outputRow (netlist source) (after (netlist mapped) (Counts.inputs (netlist source)) rows (suc (t + Records.depth (netlist source))))
         row-is =
             ap (outputRow (netlist source))
             (next ∙ ap₂ (λ (a b : ℕ). after (netlist mapped) a rows (suc (t + b))) (c .inputs) (c .depth))
@@ -341,12 +342,12 @@ module _ (source mapped rows : List ℕ) (r : ℕ) (area outs : List ℕ) (run :
   play-ready p s = record { shape = s; few = run .few; room = run .room ∙ ap (λ (x : ℕ). r * x) (sym (s .outputs)) }
 
   pub idle-state : (state : List ℕ) → r ≡ 0 → state ≡ replicate (length area) 0 →
-      state ≡ after (netlist mapped) (Logic.inputs (netlist source)) rows (steps (netlist source) r)
-  idle-state state e f = rw e (cleared (Logic.inputs (netlist source)) state f)
+      state ≡ after (netlist mapped) (Counts.inputs (netlist source)) rows (steps (netlist source) r)
+  idle-state state e f = rw e (cleared (Counts.inputs (netlist source)) state f)
 
   pub idle-rows : r ≡ 0 → outs ≡ outputRows (netlist source) (netlist mapped) rows r
   unfolding outputRows
-  idle-rows e = rw e (nothing outs (run .room ∙ ap (λ (n : ℕ). n * Logic.outputs (netlist source)) e ∙ zero-mul (Logic.outputs (netlist source))))
+  idle-rows e = rw e (nothing outs (run .room ∙ ap (λ (n : ℕ). n * Counts.outputs (netlist source)) e ∙ zero-mul (Counts.outputs (netlist source))))
     where
       nothing : (xs : List ℕ) → length xs ≡ 0 → xs ≡ []
       nothing [] h = refl
@@ -354,8 +355,8 @@ module _ (source mapped rows : List ℕ) (r : ℕ) (area outs : List ℕ) (run :
 
 -- D steps and one for each row
 pub played-state : (source mapped rows : List ℕ) (r : ℕ) (p : Shape) (state : List ℕ) → (r ≡ 0 → ⊥) → ShapeOf source mapped p → state ≡ after (netlist mapped) (p .inputs) rows (r + p .depth) →
-    state ≡ after (netlist mapped) (Logic.inputs (netlist source)) rows (steps (netlist source) r)
+    state ≡ after (netlist mapped) (Counts.inputs (netlist source)) rows (steps (netlist source) r)
 played-state source mapped rows r p state h s e =
     e
     ∙ ap₂ (λ (w d : ℕ). after (netlist mapped) w rows (r + d)) (s .inputs) (s .depth)
-    ∙ ap (λ (b : Bool). after (netlist mapped) (Logic.inputs (netlist source)) rows (cond b 0 (r + Records.depth (netlist source)))) (sym (ne-eqb r 0 h))
+    ∙ ap (λ (b : Bool). after (netlist mapped) (Counts.inputs (netlist source)) rows (cond b 0 (r + Records.depth (netlist source)))) (sym (ne-eqb r 0 h))

@@ -13,9 +13,9 @@ use Rattle.facts.specs.Refusals.{rowOf, Each, First}
 use Rattle.facts.proofs.Reflect.{iff-sum, iff-trans, less, unlike, either}
 use Rattle.facts.proofs.Refusals.{exact, After, rows-before, one-row, within-one, first-check, first-then, first-scan}
 use Rattle.netlist.specs.Records.{Netlist, netlist}
+use Rattle.netlist.specs.Counts.{inputs, outputs}
 use Rattle.netlist.proofs.Refusals.{source-rows, source-first}
 use Rattle.verifier.proofs.Refusals.{verify-first, verify-rows}
-use Rattle.simulator.specs.Logic.{inputs, outputs}
 use Rattle.simulator.specs.Evaluate.{bitCheck, bitChecks, badAreas, evaluateChecks, evaluateAnswer}
 use Rattle.simulator.specs.Step.{rowLimit, badRows, stepChecks, stepAnswer}
 use Rattle.simulator.specs.Run.{badOutputs, runChecks, runAnswer}

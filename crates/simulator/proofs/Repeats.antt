@@ -6,7 +6,7 @@ use mathlib.Core.List.{List, [], _∷_, _++_}
 use native.Mathlib.Omega.{arith}
 use native.Mathlib.Decide.{decLt}
 use native.Mathlib.Nat.{suc-mul, mul-le-mul-right}
-use lib.ListN.{length, getD, take, drop, replicate, length-drop, length-replicate, getD-replicate, drop-of-length-le, List·getD-eq-default}
+use lib.ListN.{length, take, drop, replicate, length-drop, length-replicate, getD-replicate, drop-of-length-le}
 use lib.Seq.{length-take-le, getD-take, getD-drop, take-nil}
 use lib.Dec.{ltb, eqb}
 use borrow.Author.Tests.{lt-ltb, le-ltb, ltb-true, ne-eqb}
@@ -14,9 +14,10 @@ use Rattle.facts.specs.declared.Checked.{Checked}
 use Rattle.facts.specs.declared.Checked.the-variants.{Passed, Refused}
 use Rattle.facts.specs.Sums.{bit, count}
 use Rattle.facts.specs.Lists.{tabulate}
-use Rattle.facts.proofs.Lists.{tabulate-cong}
+use Rattle.facts.proofs.Lists.{getD-replicated, tabulate-cong}
 use Rattle.netlist.specs.Records.{Netlist, netlist, depth}
-use Rattle.simulator.specs.Logic.{on, isInput, inputs, valueOf, next, outputs, outputRow}
+use Rattle.netlist.specs.Counts.{isInput, inputs, outputs}
+use Rattle.simulator.specs.Logic.{on, valueOf, next, outputRow}
 use Rattle.simulator.specs.Step.{renewedBelow, older, stepped, stepAnswer, stepArea}
 use Rattle.simulator.specs.Run.{rowAt, zeros, after, runAnswer, runArea, runOutputs}
 use Rattle.simulator.specs.PrivateRun.{IsRow, IsRun}
@@ -66,16 +67,9 @@ module _ (n : Netlist) (m : Netlist) (r : ℕ) (rows area outs : List ℕ) (run 
         | yes l ↦ ap (λ (b : Bool). on (cond b (rowAt (inputs n) rows k) (replicate (inputs n) 0)) i) (lt-ltb k r l)
         | no l ↦
             ap (λ (b : Bool). on (cond b (rowAt (inputs n) rows k) (replicate (inputs n) 0)) i) (le-ltb k r (omega arith))
-            ∙ ap (λ (x : ℕ). not (eqb x 0)) (zero-at (inputs n) i)
+            ∙ ap (λ (x : ℕ). not (eqb x 0)) (getD-replicated (inputs n) i 0)
             ∙ sym (ap (λ (l : List ℕ). on l i) (rows-spent k (omega arith)))
       ]
-    where
-      zero-at : (w i : ℕ) → _≡_ {A = ℕ} (getD (replicate w 0) i 0) 0
-      zero-at w i =
-          elim (decLt i w) [
-            | yes l ↦ getD-replicate {A = ℕ} w i 0 0 l
-            | no l ↦ List·getD-eq-default (replicate w 0) 0 (omega (arith, length-replicate {A = ℕ} w 0))
-          ]
 
   -- and is a row
   row-is : (k : ℕ) → IsRow n (rowOfStep (inputs n) rows r k)

@@ -12,8 +12,9 @@ use Rattle.facts.specs.declared.Checked.the-variants.{Passed}
 use Rattle.facts.specs.Sums.{bit, sum, count}
 use Rattle.netlist.specs.Records.{Netlist, netlist, recordCount, depth, isOutput}
 use Rattle.netlist.specs.Source.{IsSource}
+use Rattle.netlist.specs.Counts.{inputs, outputs}
 use Rattle.verifier.specs.Legal.{Legal}
-use Rattle.simulator.specs.Logic.{inputs, outputs, values, outputsBelow, outputRow}
+use Rattle.simulator.specs.Logic.{values, outputsBelow, outputRow}
 use Rattle.simulator.specs.Step.{stepped}
 use Rattle.simulator.specs.Run.{rowAt, after, outputRows, runAnswer, runOutputs}
 use Rattle.simulator.proofs.Steps.{length-stepped}

@@ -5,7 +5,6 @@ use mathlib.Core.Bool.{Bool, true, false, cond, not}
 use mathlib.Core.List.{List}
 use native.Mathlib.Omega.{arith}
 use native.Mathlib.Nat.{add-zero, zero-add}
-use native.Mathlib.Numerals.{add-one}
 use mir.Val.{Fits}
 use mir.Syntax.{w8}
 use lib.ListN.{length, getD, List·getD-eq-default}
@@ -16,10 +15,10 @@ use Rattle.facts.proofs.Bools.{and-r, true-false}
 use Rattle.facts.proofs.Sums.{bit-le}
 use Rattle.netlist.specs.declared.Record.{Record}
 use Rattle.netlist.specs.Kinds.{arity, input, and, or, majority, isGate}
-use Rattle.netlist.specs.Records.{Netlist, slot}
+use Rattle.netlist.specs.Records.{slot}
 use Rattle.netlist.proofs.Checks.{arity-slots}
 use Rattle.simulator.specs.PrivateLogic.{Wired, readIn, thirdIn, functionIn, valueIn}
-use Rattle.simulator.specs.Logic.{on, ofKind, turned, onesBelow, gate}
+use Rattle.simulator.specs.Logic.{on, turned, onesBelow, gate}
 
 -- past its end an area holds 0
 pub off-past : (area : List ℕ) (i : ℕ) → length area ≤ i → false ≡ on area i
@@ -30,34 +29,6 @@ turned-odd bits value e = rw (eq-eqb (bits % 2) 1 e)
 
 pub turned-even : (bits : ℕ) (value : Bool) → (bits % 2 ≡ 1 → ⊥) → value ≡ turned bits value
 turned-even bits value e = rw (ne-eqb (bits % 2) 1 e)
-
--- the records of a kind below i are counted
-pub record KindCounting (m : Netlist) (kind n total i : ℕ) : Type 0 where
-  pub within : i ≤ n
-  pub few : total ≤ i
-  pub so-far : total ≡ count (ofKind m kind) i
-
-module _ (m : Netlist) (kind n : ℕ) where
-  pub counting-start : KindCounting m kind n 0 0
-  unfolding count sum
-  counting-start = record { within = omega arith; few = omega arith; so-far = refl }
-
-  pub counting-more : (total i x one : ℕ) → KindCounting m kind n total i → i < n → x ≡ m .at i .kind → one ≡ bit (eqb x kind) → KindCounting m kind n (total + one) (i + 1)
-  unfolding count sum
-  counting-more total i x one c h e f =
-      record {
-        within = omega arith;
-        few = omega (arith, c .few, bit-le (eqb x kind));
-        so-far = rw (add-one i, ← e) (omega (arith, c .so-far));
-      }
-
-  pub counting-end : (total i size : ℕ) → KindCounting m kind n total i → n ≤ i → n ≡ size → total ≡ count (ofKind m kind) size
-  counting-end total i size c h q =
-      let e : i ≡ size = omega (arith, c .within) in
-      c .so-far ∙ ap (count (ofKind m kind)) e
-
-  pub counting-fits : (total i x one : ℕ) → KindCounting m kind n total i → one ≡ bit (eqb x kind) → i < n → n < 2 ^ 64 → total + one < 2 ^ 64
-  counting-fits total i x one c f h l = omega (arith, c .few, bit-le (eqb x kind))
 
 -- a used slot reads a byte within the end
 module _ (r : Record) (j : ℕ) (h : j < arity (r .kind)) where

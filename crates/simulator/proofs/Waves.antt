@@ -13,10 +13,11 @@ use Rattle.facts.proofs.Sums.{count-cong}
 use Rattle.netlist.specs.Kinds.{arity, input, buffer}
 use Rattle.netlist.specs.Records.{Netlist, fanin}
 use Rattle.netlist.specs.Source.{IsSource}
+use Rattle.netlist.specs.Counts.{isInput}
 use Rattle.netlist.proofs.Source.{no-buffer}
 use Rattle.verifier.specs.Legal.{Legal, Traces}
 use Rattle.verifier.specs.Legal.Traces.{here, back}
-use Rattle.simulator.specs.Logic.{on, isInput, turned, onesBelow, gate, next, plain}
+use Rattle.simulator.specs.Logic.{on, turned, onesBelow, gate, next, plain}
 use Rattle.simulator.proofs.Logic.{gate-cong, plain-next}
 
 -- a buffer copies its slot

@@ -16,10 +16,11 @@ use Rattle.facts.proofs.Areas.{Written, take-written, drop-written, written-mor
 use Rattle.facts.proofs.Lists.{getD-tabulate, tabulate-cong, tabulate-append}
 use Rattle.netlist.specs.Kinds.{input}
 use Rattle.netlist.specs.Records.{Netlist, netlist, recordAt, recordCount, slot, fanin}
-use Rattle.simulator.specs.Logic.{on, isInput, next, values}
+use Rattle.simulator.specs.Logic.{on, next, values}
 use Rattle.simulator.specs.PrivateLogic.{valueIn, Wired}
 use Rattle.netlist.specs.Source.{IsSource}
-use Rattle.verifier.specs.Legal.{Named}
+use Rattle.netlist.specs.Balance.{Named}
+use Rattle.netlist.specs.Counts.{isInput}
 use Rattle.simulator.specs.Step.{renewedBelow, older, stepped}
 use Rattle.simulator.specs.PrivateStep.{Buffered, copied}
 use Rattle.simulator.proofs.Logic.{next-cong}

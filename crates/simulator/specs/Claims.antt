@@ -8,8 +8,9 @@ use Rattle.facts.specs.declared.Checked.the-variants.{Passed}
 use Rattle.facts.specs.Sums.{bit}
 use Rattle.facts.specs.Lists.{tabulate}
 use Rattle.netlist.specs.Records.{netlist, recordCount, depth}
+use Rattle.netlist.specs.Counts.{inputs, outputs}
 use Rattle.verifier.specs.Checks.{verifyChecks}
-use Rattle.simulator.specs.Logic.{inputs, outputs, next, values, plain, outputRow}
+use Rattle.simulator.specs.Logic.{next, values, plain, outputRow}
 use Rattle.simulator.specs.Evaluate.{evaluateAnswer, evaluateArea}
 use Rattle.simulator.specs.Run.{rowAt, zeros, runAnswer, runArea, runOutputs}
 use Rattle.simulator.specs.Waves.{rowOfStep, taken, history, leaves}

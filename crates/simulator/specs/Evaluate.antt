@@ -5,16 +5,11 @@ use mathlib.Core.List.{List}
 use lib.ListN.{length, getD}
 use lib.Dec.{ltb, eqb}
 use Rattle.facts.specs.declared.Checked.{Checked}
-use Rattle.facts.specs.declared.Checked.the-variants.{Passed, Refused}
-use Rattle.facts.specs.Checks.{check, _andThen_, scan}
+use Rattle.facts.specs.Checks.{check, _andThen_, unlessRefused, scan}
 use Rattle.netlist.specs.Records.{Netlist, netlist, recordCount}
 use Rattle.netlist.specs.Checks.{sourceChecks}
-use Rattle.simulator.specs.Logic.{inputs, values}
-
--- what a lent area holds afterwards: written where the checks passed, else as it was
-abbrev pub written : Checked → List ℕ → List ℕ → List ℕ
-written Passed new old = new
-written (Refused number place) new old = old
+use Rattle.netlist.specs.Counts.{inputs}
+use Rattle.simulator.specs.Logic.{values}
 
 -- 19 of byte k: above 1
 abbrev pub bitCheck : List ℕ → ℕ → Checked
@@ -39,4 +34,4 @@ evaluateAnswer source row area = sourceChecks source andThen evaluateChecks (net
 -- the evaluator's area: plain logic's values
 unfoldable pub evaluateArea : List ℕ → List ℕ → List ℕ → List ℕ
 evaluateArea source row area =
-    written (evaluateAnswer source row area) (values (netlist source) row (recordCount source)) area
+    unlessRefused (evaluateAnswer source row area) (values (netlist source) row (recordCount source)) area

@@ -8,26 +8,11 @@ use Rattle.facts.specs.Sums.{bit, count}
 use Rattle.netlist.specs.declared.Record.{Record}
 use Rattle.netlist.specs.Kinds.{input, arity}
 use Rattle.netlist.specs.Records.{Netlist, slot, isOutput}
+use Rattle.netlist.specs.Counts.{isInput}
 
 -- the value that byte i of an area stands for: a byte other than 0 counts as 1
 abbrev pub on : List ℕ → ℕ → Bool
 on area i = not (eqb (getD area i 0) 0)
-
--- record i is of this kind
-abbrev pub ofKind : Netlist → ℕ → ℕ → Bool
-ofKind m kind i = eqb (m .at i .kind) kind
-
--- record i is an input
-abbrev pub isInput : Netlist → ℕ → Bool
-isInput m = ofKind m input
-
--- how many inputs a netlist has
-abbrev pub inputs : Netlist → ℕ
-inputs m = count (isInput m) (m .size)
-
--- how many outputs a netlist has
-abbrev pub outputs : Netlist → ℕ
-outputs m = count (isOutput m) (m .size)
 
 -- a value turned over where the lowest bit of a byte is 1
 abbrev pub turned : ℕ → Bool → Bool

@@ -5,14 +5,14 @@ use mathlib.Core.Bool.{cond, Bool, true}
 use mathlib.Core.List.{List}
 use lib.ListN.{length, getD, set}
 use Rattle.netlist.specs.Records.{Netlist, netlist, recordCount}
-use Rattle.simulator.specs.Logic.{inputs, outputs}
 use Rattle.simulator.specs.Step.{rowLimit}
 use Rattle.simulator.specs.PrivateStep.{Buffered}
 use Rattle.netlist.specs.Kinds.{sourceLimit}
 use Rattle.netlist.specs.Records
-use Rattle.verifier.specs.Legal.{Named}
+use Rattle.netlist.specs.Balance.{Named}
+use Rattle.netlist.specs.Counts.{inputs, outputs}
 use Rattle.simulator.specs.declared.Shape.{Shape}
-use Rattle.simulator.specs.Logic
+use Rattle.netlist.specs.Counts
 
 -- a row: one byte, 0 or 1, for each input
 pub record IsRow (n : Netlist) (row : List ℕ) : Type 0 where
@@ -46,8 +46,8 @@ pub record Steppable (mapped : List ℕ) (p : Shape) : Type 0 where
 -- p has the numbers of a source and a mapped netlist
 pub record ShapeOf (source mapped : List ℕ) (p : Shape) : Type 0 where
   pub steps : Steppable mapped p
-  pub inputs : p .inputs ≡ Logic.inputs (netlist source)
-  pub outputs : p .outputs ≡ Logic.outputs (netlist source)
+  pub inputs : p .inputs ≡ Counts.inputs (netlist source)
+  pub outputs : p .outputs ≡ Counts.outputs (netlist source)
   pub depth : p .depth ≡ Records.depth (netlist source)
 
 -- r rows fit, and so do their output rows

@@ -6,8 +6,8 @@ use lib.ListN.{length, getD}
 use Rattle.facts.specs.Refusals.{Conditions, Fails, _or_, Each, Exact}
 use Rattle.netlist.specs.Records.{Netlist, netlist}
 use Rattle.netlist.specs.Refusals.{SourceFails}
+use Rattle.netlist.specs.Counts.{inputs, outputs}
 use Rattle.verifier.specs.Refusals.{VerifyFails}
-use Rattle.simulator.specs.Logic.{inputs, outputs}
 use Rattle.simulator.specs.Evaluate.{evaluateAnswer}
 use Rattle.simulator.specs.Step.{rowLimit, stepAnswer}
 use Rattle.simulator.specs.Run.{runAnswer}

@@ -5,11 +5,12 @@ use mathlib.Core.List.{List, [], _++_}
 use lib.ListN.{length, take, drop, replicate}
 use lib.Dec.{eqb}
 use Rattle.facts.specs.declared.Checked.{Checked}
-use Rattle.facts.specs.Checks.{check, _andThen_}
+use Rattle.facts.specs.Checks.{check, _andThen_, unlessRefused}
 use Rattle.netlist.specs.Records.{Netlist, netlist, depth}
+use Rattle.netlist.specs.Counts.{inputs, outputs}
 use Rattle.verifier.specs.Checks.{verifyChecks}
-use Rattle.simulator.specs.Logic.{inputs, outputs, outputRow}
-use Rattle.simulator.specs.Evaluate.{written, bitChecks}
+use Rattle.simulator.specs.Logic.{outputRow}
+use Rattle.simulator.specs.Evaluate.{bitChecks}
 use Rattle.simulator.specs.Step.{stepped, badRows}
 
 -- row t of rows of w bytes each; empty once they are spent, so that every input takes 0
@@ -51,13 +52,13 @@ runAnswer source s mapped count rows area outs =
 -- the run's state area
 unfoldable pub runArea : List ℕ → ℕ → List ℕ → ℕ → List ℕ → List ℕ → List ℕ → List ℕ
 runArea source s mapped count rows area outs =
-    written (runAnswer source s mapped count rows area outs)
+    unlessRefused (runAnswer source s mapped count rows area outs)
     (after (netlist mapped) (inputs (netlist source)) rows (steps (netlist source) count))
     area
 
 -- the run's output area
 unfoldable pub runOutputs : List ℕ → ℕ → List ℕ → ℕ → List ℕ → List ℕ → List ℕ → List ℕ
 runOutputs source s mapped count rows area outs =
-    written (runAnswer source s mapped count rows area outs)
+    unlessRefused (runAnswer source s mapped count rows area outs)
     (outputRows (netlist source) (netlist mapped) rows count)
     outs

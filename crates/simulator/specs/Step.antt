@@ -5,13 +5,14 @@ use mathlib.Core.List.{List, _++_}
 use lib.ListN.{length, take}
 use lib.Dec.{ltb, eqb}
 use Rattle.facts.specs.declared.Checked.{Checked}
-use Rattle.facts.specs.Checks.{check, _andThen_}
+use Rattle.facts.specs.Checks.{check, _andThen_, unlessRefused}
 use Rattle.facts.specs.Sums.{bit}
 use Rattle.facts.specs.Lists.{tabulate}
 use Rattle.netlist.specs.Records.{Netlist, netlist}
+use Rattle.netlist.specs.Counts.{inputs}
 use Rattle.verifier.specs.Checks.{verifyChecks}
-use Rattle.simulator.specs.Logic.{on, inputs, next}
-use Rattle.simulator.specs.Evaluate.{written, bitChecks}
+use Rattle.simulator.specs.Logic.{on, next}
+use Rattle.simulator.specs.Evaluate.{bitChecks}
 
 -- the most rows of a run
 abbrev pub rowLimit : ℕ
@@ -50,4 +51,4 @@ stepAnswer source s mapped row area =
 -- the step's state area
 unfoldable pub stepArea : List ℕ → ℕ → List ℕ → List ℕ → List ℕ → List ℕ
 stepArea source s mapped row area =
-    written (stepAnswer source s mapped row area) (stepped (netlist mapped) row area) area
+    unlessRefused (stepAnswer source s mapped row area) (stepped (netlist mapped) row area) area

@@ -5,7 +5,7 @@ use mathlib.Core.List.{List, [], _∷_}
 use lib.ListN.{replicate}
 use lib.Dec.{ltb}
 use Rattle.facts.specs.declared.Checked.{Checked}
-use Rattle.facts.specs.declared.Checked.the-variants.{Passed, Refused}
+use Rattle.facts.specs.Checks.{unlessRefused}
 use Rattle.simulator.specs.Step.{stepAnswer, stepArea}
 use Rattle.simulator.specs.Run.{rowAt}
 
@@ -15,8 +15,7 @@ rowOfStep w rows r k = cond (ltb k r) (rowAt w rows k) (replicate w 0)
 
 -- one more of an accepted call; a refused call is no step
 abbrev pub counted : Checked → List ℕ → List (List ℕ) → List (List ℕ)
-counted Passed x xs = x ∷ xs
-counted (Refused number place) x xs = xs
+counted answer x xs = unlessRefused answer (x ∷ xs) xs
 
 -- the rows of the accepted calls, in order; each call gets the area as the last one left it
 unfoldable pub taken : List ℕ → ℕ → List ℕ → List ℕ → List (List ℕ) → List (List ℕ)

@@ -8,7 +8,6 @@ ghost use Rattle.netlist.specs.Checks.{sourceChecks};
 ghost use Rattle.simulator.specs.Evaluate.{bitChecks, badAreas, evaluateChecks, evaluateAnswer};
 ghost use Rattle.simulator.specs.Step.{rowLimit, badRows, stepChecks, stepAnswer};
 ghost use Rattle.simulator.specs.Run.{badOutputs, runChecks, runAnswer};
-use crate::plain_logic;
 use facts::Checked;
 
 // The most rows of a run.
@@ -34,7 +33,7 @@ fn check_bits(row: &[u8]) -> Checked
 fn bad_areas(source: &[u8], row: &[u8], area: &[u8]) -> bool
     ensures { λ b. ⌜ b ≡ badAreas (netlist (now (source .entry))) (now (row .entry)) (now (area .entry)) ⌝ }
 {
-    if row.len() != plain_logic::count_kind(source, netlist::INPUT) {
+    if row.len() != netlist::count_kind(source, netlist::INPUT) {
         return true;
     }
     area.len() != netlist::record_count(source)
@@ -70,7 +69,7 @@ fn bad_rows(source: &[u8], mapped: &[u8], row_count: u32, rows: &[u8], state: &[
     if ROW_LIMIT < row_count {
         return true;
     }
-    if rows.len() != row_count as usize * plain_logic::count_kind(source, netlist::INPUT) {
+    if rows.len() != row_count as usize * netlist::count_kind(source, netlist::INPUT) {
         return true;
     }
     state.len() != 2 * netlist::record_count(mapped)
@@ -109,7 +108,7 @@ fn bad_outputs(source: &[u8], row_count: u32, outs: &[u8]) -> bool
     requires { ⌜ (recordCount (now source) ≤ sourceLimit) × («row_count» ≤ rowLimit) ⌝ }
     ensures { λ b. ⌜ b ≡ badOutputs (netlist (now (source .entry))) «row_count» (now (outs .entry)) ⌝ }
 {
-    outs.len() != row_count as usize * plain_logic::count_kind(source, netlist::OUTPUT)
+    outs.len() != row_count as usize * netlist::count_kind(source, netlist::OUTPUT)
 }
 
 // Checks 18 and 19 of a run.

@@ -4,7 +4,7 @@ ghost use mathlib.Core.List.{_++_};
 ghost use Prim.Native.Nat.{_-_, _*_, _≤_};
 ghost use lib.ListN.{length, take, drop};
 ghost use Rattle.netlist.specs.Records.{netlist, recordCount};
-ghost use Rattle.verifier.specs.Legal.{Named};
+ghost use Rattle.netlist.specs.Balance.{Named};
 ghost use Rattle.simulator.specs.Step.{renewedBelow, older, stepped};
 ghost use Rattle.simulator.specs.PrivateStep.{Buffered, copied};
 use crate::plain_logic;
@@ -31,7 +31,7 @@ fn renew(mapped: &[u8], row: &[u8], n: usize, m: usize, state: &mut [u8])
     let mut i: usize = 0;
     while i < n {
         state[i] = plain_logic::next_byte(mapped, row, given, i, &state[m..]);
-        given += plain_logic::one_if(netlist::kind_at(mapped, i) == netlist::INPUT);
+        given += facts::one_if(netlist::kind_at(mapped, i) == netlist::INPUT);
         i += 1;
     }
 }

@@ -6,14 +6,14 @@ ghost use lib.ListN.{length, take, drop, getD, replicate};
 ghost use Rattle.facts.specs.Sums.{bit};
 ghost use Rattle.netlist.specs.Kinds.{sourceLimit};
 ghost use Rattle.netlist.specs.Records.{netlist, recordCount};
-ghost use Rattle.verifier.specs.Legal.{Named};
-ghost use Rattle.simulator.specs.Logic.{inputs, outputs, outputRow};
+ghost use Rattle.netlist.specs.Balance.{Named};
+ghost use Rattle.netlist.specs.Counts.{inputs, outputs};
+ghost use Rattle.simulator.specs.Logic.{outputRow};
 ghost use Rattle.simulator.specs.PrivateStep.{Buffered};
 ghost use Rattle.simulator.specs.Run.{rowAt, after, steps, outputRows};
 ghost use Rattle.simulator.specs.PrivateRun.{OutputRoom, putOutput, IsRun, Steppable, ShapeOf, Playable};
 use crate::Shape;
 use crate::one_step;
-use crate::plain_logic;
 
 // Fills an area with zeros.
 fn clear(area: &mut [u8])
@@ -99,8 +99,8 @@ fn shape_of(source: &[u8], mapped: &[u8]) -> Shape
 {
     Shape {
         sources: netlist::record_count(source),
-        inputs: plain_logic::count_kind(source, netlist::INPUT),
-        outputs: plain_logic::count_kind(source, netlist::OUTPUT),
+        inputs: netlist::count_kind(source, netlist::INPUT),
+        outputs: netlist::count_kind(source, netlist::OUTPUT),
         records: netlist::record_count(mapped),
         depth: netlist::depth(source) as usize,
     }

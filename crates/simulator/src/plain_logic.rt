@@ -3,20 +3,14 @@ ghost use mathlib.Core.Path.{_≡_};
 ghost use Prim.Native.Nat.{_+_, _<_};
 ghost use lib.ListN.{length, getD};
 ghost use lib.Dec.{leb};
-ghost use Rattle.facts.specs.Sums.{count, bit};
+ghost use Rattle.facts.specs.Sums.{bit};
 ghost use Rattle.netlist.specs.Kinds.{arity};
 ghost use Rattle.netlist.specs.Records.{netlist, recordCount, recordAt};
 ghost use Rattle.netlist.specs.Source.{IsSource};
-ghost use Rattle.simulator.specs.Logic.{on, ofKind, turned, values};
+ghost use Rattle.simulator.specs.Logic.{on, turned, values};
 ghost use Rattle.simulator.specs.PrivateLogic.{functionIn, valueIn, Wired, readIn, thirdIn};
+use facts::one_if;
 use netlist::Record;
-
-// 1 for true, 0 for false.
-pub(crate) fn one_if(b: bool) -> usize
-    ensures { λ r. ⌜ r ≡ bit b ⌝ }
-{
-    if b { 1 } else { 0 }
-}
 
 // The value as a byte.
 pub(crate) fn byte_of(b: bool) -> u8
@@ -30,20 +24,6 @@ fn is_on(area: &[u8], i: usize) -> bool
     ensures { λ r. ⌜ r ≡ on (now (area .entry)) i ⌝ }
 {
     if i < area.len() { area[i] != 0 } else { false }
-}
-
-// How many records of a kind there are.
-pub(crate) fn count_kind(bytes: &[u8], kind: u8) -> usize
-    ensures { λ r. ⌜ r ≡ count (ofKind (netlist (now (bytes .entry))) kind) (recordCount (now (bytes .entry))) ⌝ }
-{
-    let n = netlist::record_count(bytes);
-    let mut total: usize = 0;
-    let mut i: usize = 0;
-    while i < n {
-        total += one_if(netlist::kind_at(bytes, i) == kind);
-        i += 1;
-    }
-    total
 }
 
 // A value turned over where the lowest bit is 1.

@@ -11,14 +11,17 @@ use native.Mathlib.Nat.{add-sub-of-le}
 use Rattle.facts.specs.Sums.{count}
 use Rattle.facts.specs.declared.Checked.the-variants.{Passed, Refused as Failed}
 use Rattle.facts.specs.declared.Checked.{Checked}
+use Rattle.facts.specs.Checks.{outcome}
 use Rattle.facts.proofs.Reflect.{reflect}
 use Rattle.facts.proofs.Sums.{count-append, count-none, count-all}
 use Rattle.netlist.specs.Kinds.{slots, unused, buffer, arity}
 use Rattle.netlist.specs.Records.{Netlist, netlist, recordCount, fanin}
 use Rattle.netlist.specs.Source.{IsSource}
+use Rattle.netlist.specs.Balance.{Named, Balanced}
+use Rattle.netlist.specs.Counts.{isBuffer, bufferCount}
 use Rattle.netlist.proofs.Source.{source-passed, no-buffer}
-use Rattle.verifier.specs.Legal.{Legal, Traces, Named, Balanced}
-use Rattle.verifier.specs.Checks.{isBuffer, bufferCount, legalChecks, mappedChecks, verifyChecks, verified, verifyAnswer}
+use Rattle.verifier.specs.Legal.{Legal, Traces}
+use Rattle.verifier.specs.Checks.{legalChecks, mappedChecks, verifyChecks, verifyAnswer}
 use Rattle.verifier.specs.Accepted.{Accepted, AcceptedExactly}
 use Rattle.verifier.specs.declared.Verified.the-variants.{Buffers, Refused}
 use Rattle.verifier.proofs.Trace.{driver-traces, traces-driver}
@@ -112,7 +115,7 @@ checks-passed source s mapped = (
       ),
 )
 
-passed-buffers : (a : Checked) (n buffers : ℕ) → verified n a ≡ Buffers buffers → (a ≡ Passed) × (buffers ≡ n)
+passed-buffers : (a : Checked) (n buffers : ℕ) → outcome a (Buffers n) Refused ≡ Buffers buffers → (a ≡ Passed) × (buffers ≡ n)
 passed-buffers Passed n buffers e = (refl, cc)
 passed-buffers (Failed number place) n buffers e = (cc, cc)
 

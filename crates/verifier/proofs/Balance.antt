@@ -1,15 +1,17 @@
--- A legal mapped netlist of a source is path-balanced and properly branched: its records are the source's, at their levels, and buffers.
+-- A legal mapped netlist of a source is path-balanced: its records are the source's, at their levels, and buffers. So what the verifier
+-- accepts is path-balanced and properly branched.
 use Prim.Native.Nat.{ℕ, _<_}
 use native.Mathlib.Decide.{decLt}
 use native.Mathlib.Omega.{arith}
 use mathlib.Core.Path.{_≡_, sym, _∙_}
 use mathlib.Core.Logic.{_≢_}
-use borrow.Author.Tests.{leb-true, eq-eqb, ne-eqb}
-use Rattle.netlist.specs.Kinds.{majority, output, buffer}
+use Rattle.netlist.specs.Kinds.{output, buffer}
 use Rattle.netlist.specs.Records.{Netlist, netlist, depth}
 use Rattle.netlist.specs.Source.{IsSource, OutputsAt}
+use Rattle.netlist.specs.Balance.{PathBalanced}
+use Rattle.netlist.proofs.Balance.{properly-branched}
 use Rattle.verifier.specs.Legal.{Legal}
-use Rattle.verifier.specs.Balance.{PathBalanced, ProperlyBranched, AcceptedBalanced}
+use Rattle.verifier.specs.Balance.{AcceptedBalanced}
 use Rattle.verifier.proofs.Accepted.{accepted-exactly}
 
 module _ (n : Netlist) (s : ℕ) (m : Netlist) (source : IsSource n) (legal : Legal n s m) where
@@ -46,17 +48,9 @@ module _ (n : Netlist) (s : ℕ) (m : Netlist) (source : IsSource n) (legal : Le
         outputs = λ k i a b e f. output-level k a e ∙ sym (output-level i b f);
       }
 
-  pub properly-branched : ProperlyBranched s m
-  properly-branched =
-      record {
-        drivers = λ k l e.
-            rw (ne-eqb (m .at k .kind) buffer (λ b. omega (arith, leb-true (m .at k .kind) majority e))) at (legal .branched k l);
-        buffers = λ k l e. rw (eq-eqb (m .at k .kind) buffer e) at (legal .branched k l);
-      }
-
 pub accepted-balanced : AcceptedBalanced
 accepted-balanced source s mapped buffers e =
     let a = accepted-exactly source s mapped buffers .0 e .0 in (
       path-balanced (netlist source) s (netlist mapped) (a .isSource .isSource) (a .legal),
-      properly-branched (netlist source) s (netlist mapped) (a .isSource .isSource) (a .legal),
+      properly-branched (netlist mapped) s (a .legal .branched),
     )

@@ -21,9 +21,8 @@ use Rattle.facts.proofs.Sums.{count-used}
 use Rattle.netlist.specs.declared.Record.{Record}
 use Rattle.netlist.specs.Kinds.{slots, buffer, arity}
 use Rattle.netlist.specs.Records.{Netlist, netlist, recordAt, recordCount, names, feeds, slot}
+use Rattle.netlist.specs.Balance.{capacityOf, driverCapacity}
 use Rattle.netlist.proofs.Checks.{arity-slots}
-use Rattle.fanout.specs.Answer.{driverCapacity}
-use Rattle.verifier.specs.Legal.{capacityOf}
 use Rattle.verifier.specs.Checks.{differs, noBuffer, slotChecks, placeChecks, traceCheck, feedCheck, legalChecks}
 use Rattle.verifier.specs.PrivateWalking.{Sized, PlacesPassed}
 use Rattle.verifier.specs.PrivateFeeding.{stop, more, fedOnce, fedBy, tally, badFanin, bufferChecks, Fed, FedAtMost, Tallied, TalliedIfPassed, capacityAt, countCheck}

@@ -17,16 +17,17 @@ use Rattle.facts.proofs.Sums.{sum-cong, sum-mono, count-cong, count-mono, count
 use Rattle.netlist.specs.Kinds.{slots, topLevel, buffer, arity}
 use Rattle.netlist.specs.Records.{Netlist, netlist, used, fanin, names, feeds}
 use Rattle.netlist.specs.Source.{IsSource}
+use Rattle.netlist.specs.Balance.{driverCapacity}
+use Rattle.netlist.specs.Counts.{isBuffer, bufferCount}
 use Rattle.netlist.proofs.Source.{no-buffer}
+use Rattle.netlist.proofs.Balance.{buffer-slot, buffer-named}
 use Rattle.fanout.specs.Nets.{sinkAt, sinks, row, nodesAt, buffersAt, hasTree, fewest}
-use Rattle.fanout.specs.Answer.{driverCapacity}
 use Rattle.fanout.proofs.Nets.{minimal, minimal-nodes, fewest-sum, row-length, row-at}
 use Rattle.verifier.specs.Legal.{Legal, Traces}
 use Rattle.verifier.specs.Trace.{driver}
-use Rattle.verifier.specs.Checks.{isBuffer, bufferCount}
 use Rattle.verifier.specs.Fewest.{onNet, onNetAt, buffersOn, buffersOnAt, OnNetExactly, NoneFewer, NoneAcceptedFewer}
 use Rattle.verifier.proofs.Accepted.{buffers-all, accepted-exactly}
-use Rattle.verifier.proofs.Trace.{buffer-slot, buffer-named, driver-traces, traces-driver, driver-end, driver-here, driver-back, driver-under}
+use Rattle.verifier.proofs.Trace.{driver-traces, traces-driver, driver-end, driver-here, driver-back, driver-under}
 
 -- slot j of record i hangs on d's net at a level: it is used, traces back to d, and its record stands there
 hangs : Netlist → ℕ → ℕ → ℕ → ℕ → Bool
@@ -327,7 +328,7 @@ module _ (n : Netlist) (s : ℕ) (m : Netlist) (source : IsSource n) (legal : Le
       (λ x. driver m (fanin m x 0))
       (m .size)
       (n .size)
-      (λ x a h. driver-place (fanin m x 0) (buffer-named m (legal .named) (legal .balanced) x a (eqb-true _ buffer h)))
+      (λ x a h. driver-place (fanin m x 0) (buffer-named m (legal .named) x a (eqb-true _ buffer h)))
 
   pub in-all : 0 < s → sum (λ d. fewest s (row n d)) (n .size) ≤ bufferCount m
   in-all p =
@@ -357,7 +358,7 @@ on-net-exactly n s m legal d x l = (
 )
   where
     named : m .at x .kind ≡ buffer → fanin m x 0 < m .size
-    named b = buffer-named m (legal .named) (legal .balanced) x l b
+    named b = buffer-named m (legal .named) x l b
 
 -- demand 3's first half, over netlists
 pub none-fewer : NoneFewer

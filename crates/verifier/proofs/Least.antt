@@ -11,10 +11,10 @@ use Rattle.facts.proofs.Sums.{count-none, tight}
 use Rattle.netlist.specs.Kinds.{topLevel}
 use Rattle.netlist.specs.Records.{Netlist}
 use Rattle.netlist.specs.Source.{IsSource}
+use Rattle.netlist.specs.Counts.{bufferCount}
 use Rattle.fanout.specs.Nets.{row, buffersAt, fewest}
 use Rattle.fanout.proofs.Nets.{fewest-sum, row-length}
 use Rattle.verifier.specs.Legal.{Legal}
-use Rattle.verifier.specs.Checks.{bufferCount}
 use Rattle.verifier.specs.Fewest.{onNet, onNetAt, buffersOn, buffersOnAt, LeastEverywhere}
 use Rattle.verifier.proofs.Fewest.{above, at-levels, on-nets, in-all, levels-sum, nets-sum}
 

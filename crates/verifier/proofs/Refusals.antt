@@ -10,6 +10,7 @@ use lib.ListN.{length, getD-replicate}
 use lib.Dec.{ltb, leb, eqb}
 use Rattle.facts.specs.declared.Checked.{Checked}
 use Rattle.facts.specs.declared.Checked.the-variants.{Passed, Refused as Failed}
+use Rattle.facts.specs.Checks.{outcome}
 use Rattle.facts.specs.Sums.{any}
 use Rattle.facts.specs.Refusals.{rowOf, Fails, _or_, Each, First}
 use Rattle.facts.proofs.Sums.{any-some}
@@ -19,12 +20,13 @@ use Rattle.netlist.specs.declared.Record.{Record}
 use Rattle.netlist.specs.Kinds.{width, slots, unused, topLevel, mappedLimit, output, buffer, arity}
 use Rattle.netlist.specs.Records.{Netlist, netlist, recordCount, blank, slot, fanin, feeds}
 use Rattle.netlist.specs.Checks.{ragged}
+use Rattle.netlist.specs.Balance.{capacityOf}
+use Rattle.netlist.specs.Counts.{bufferCount}
 use Rattle.netlist.proofs.Refusals.{input-first, input-rows}
-use Rattle.verifier.specs.declared.Verified.the-variants.{Refused}
-use Rattle.verifier.specs.Legal.{capacityOf}
+use Rattle.verifier.specs.declared.Verified.the-variants.{Buffers, Refused}
 use Rattle.verifier.specs.PrivateWalking.{PlacesPassed}
 use Rattle.verifier.specs.Trace.{driver}
-use Rattle.verifier.specs.Checks.{badLength, badEmpty, differs, noBuffer, changed, foreign, badName, notOneLower, strays, placeChecks, traceCheck, feedCheck, legalChecks, mappedChecks, verifyChecks, verified, bufferCount}
+use Rattle.verifier.specs.Checks.{badLength, badEmpty, differs, noBuffer, changed, foreign, badName, notOneLower, strays, placeChecks, traceCheck, feedCheck, legalChecks, mappedChecks, verifyChecks}
 use Rattle.verifier.specs.Refusals.{BadLength, Changed, Foreign, BadNames, Unbalanced, Strays, KeepFails, SlotsFail, PlaceFails, TraceFails, FeedFails, LegalFails, MappedFails, VerifyFails, RefusedExactly}
 use Rattle.verifier.proofs.Trace.{driver-traces, traces-driver}
 use Rattle.verifier.proofs.Checks.{placed}
@@ -179,7 +181,7 @@ verify-rows source s mapped a p =
     (λ f. omega (arith, places-row n s m a p f))
     (⊎-elim (λ f. omega (arith, traces-row n s m a p f)) (λ f. omega (arith, feeds-row n s m a p f)))))
 
-refused-checked : (a : Checked) (buffers number place : ℕ) → (verified buffers a ≡ Refused number place) ↔ (a ≡ Failed number place)
+refused-checked : (a : Checked) (buffers number place : ℕ) → (outcome a (Buffers buffers) Refused ≡ Refused number place) ↔ (a ≡ Failed number place)
 refused-checked Passed buffers number place = (λ e. cc, λ e. cc)
 refused-checked (Failed n p) buffers number place = (λ e. cc, λ e. cc)
 

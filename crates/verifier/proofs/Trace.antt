@@ -4,18 +4,16 @@ use Prim.Native.Nat.{ℕ, zero, suc, _≤_, _<_}
 use mathlib.Core.Path.{_≡_, refl, sym, _∙_}
 use mathlib.Core.Logic.{_≢_}
 use mathlib.Core.Bool.{Bool, true, false}
-use lib.Dec.{eqb, lit<}
+use lib.Dec.{eqb}
 use borrow.Author.Tests.{eqb-true, eqb-false, eq-eqb, ne-eqb}
 use native.Mathlib.Omega.{arith}
-use Rattle.netlist.specs.Kinds.{buffer, arity}
+use Rattle.netlist.specs.Kinds.{buffer}
 use Rattle.netlist.specs.Records.{Netlist, fanin}
-use Rattle.verifier.specs.Legal.{Traces, Named, Balanced}
+use Rattle.netlist.specs.Balance.{Named, Balanced}
+use Rattle.netlist.proofs.Balance.{buffer-named, buffer-level}
+use Rattle.verifier.specs.Legal.{Traces}
 use Rattle.verifier.specs.Legal.Traces.{here, back}
 use Rattle.verifier.specs.Trace.{walk, driver}
-
--- a buffer uses slot 0
-pub buffer-slot : (m : Netlist) (x : ℕ) → m .at x .kind ≡ buffer → 0 < arity (m .at x .kind)
-buffer-slot m x e = rw e (lit< tt)
 
 -- where no buffer stands the walk stays
 pub walk-here : (m : Netlist) (level x : ℕ) → m .at x .kind ≢ buffer → walk m level x ≡ x
@@ -36,23 +34,16 @@ traces-one (back b t) (here q c) = absurd (c b)
 traces-one (back b t) (back c u) = traces-one t u
 
 module _ (m : Netlist) (named : Named m) (balanced : Balanced m) where
-  -- a buffer's fanin is a record, and stands one level lower
-  pub buffer-named : (x : ℕ) → x < m .size → m .at x .kind ≡ buffer → fanin m x 0 < m .size
-  buffer-named x h b = named x 0 h (buffer-slot m x b)
-
-  pub buffer-level : (x : ℕ) → x < m .size → m .at x .kind ≡ buffer → m .at x .level ≡ suc (m .at (fanin m x 0) .level)
-  buffer-level x h b = balanced x 0 h (buffer-slot m x b)
-
   walk-traces : (level x : ℕ) → x < m .size → m .at x .level ≡ level → Traces m (walk m level x) x
   walk-traces zero x h l = rw (walk-here m 0 x none) (here refl none)
     where
       none : m .at x .kind ≢ buffer
-      none b = omega (arith, buffer-level x h b)
+      none b = omega (arith, buffer-level m balanced x h b)
   walk-traces (suc level) x h l =
       go
       (eqb (m .at x .kind) buffer)
       refl
-      (λ b. walk-traces level (fanin m x 0) (buffer-named x h b) (omega (arith, buffer-level x h b)))
+      (λ b. walk-traces level (fanin m x 0) (buffer-named m named x h b) (omega (arith, buffer-level m balanced x h b)))
     where
       go :
           (b : Bool) →
@@ -76,11 +67,11 @@ module _ (m : Netlist) (named : Named m) (balanced : Balanced m) where
 
   -- a buffer's driver is its fanin's
   pub driver-back : (x : ℕ) → x < m .size → m .at x .kind ≡ buffer → driver m x ≡ driver m (fanin m x 0)
-  driver-back x h b = traces-driver (driver m (fanin m x 0)) x h (back b (driver-traces (fanin m x 0) (buffer-named x h b)))
+  driver-back x h b = traces-driver (driver m (fanin m x 0)) x h (back b (driver-traces (fanin m x 0) (buffer-named m named x h b)))
 
   traces-end : {d : ℕ} (x : ℕ) → x < m .size → Traces m d x → (d < m .size) × (m .at d .kind ≢ buffer)
   traces-end x h (here p b) = rw (← p) (h, b)
-  traces-end x h (back b t) = traces-end (fanin m x 0) (buffer-named x h b) t
+  traces-end x h (back b t) = traces-end (fanin m x 0) (buffer-named m named x h b) t
 
   -- a driver is a record, and no buffer
   pub driver-end : (x : ℕ) → x < m .size → (driver m x < m .size) × (m .at (driver m x) .kind ≢ buffer)
@@ -88,7 +79,7 @@ module _ (m : Netlist) (named : Named m) (balanced : Balanced m) where
 
   traces-level : {d : ℕ} (x : ℕ) → x < m .size → Traces m d x → m .at d .level ≤ m .at x .level
   traces-level x h (here p b) = rw p (omega arith)
-  traces-level x h (back b t) = omega (arith, buffer-level x h b, traces-level (fanin m x 0) (buffer-named x h b) t)
+  traces-level x h (back b t) = omega (arith, buffer-level m balanced x h b, traces-level (fanin m x 0) (buffer-named m named x h b) t)
 
   -- a driver stands no higher than what traces to it, and below each of its buffers
   pub driver-below : (x : ℕ) → x < m .size → m .at (driver m x) .level ≤ m .at x .level
@@ -97,4 +88,4 @@ module _ (m : Netlist) (named : Named m) (balanced : Balanced m) where
   pub driver-under : (x : ℕ) → x < m .size → m .at x .kind ≡ buffer → m .at (driver m x) .level < m .at x .level
   driver-under x h b =
       rw (driver-back x h b)
-      (omega (arith, buffer-level x h b, driver-below (fanin m x 0) (buffer-named x h b)))
+      (omega (arith, buffer-level m balanced x h b, driver-below (fanin m x 0) (buffer-named m named x h b)))

@@ -20,11 +20,12 @@ use Rattle.facts.proofs.Loops.{NoneYet, any-start, any-more, any-found, any-end
 use Rattle.netlist.specs.declared.Record.{Record}
 use Rattle.netlist.specs.Kinds.{buffer, arity}
 use Rattle.netlist.specs.Records.{Netlist, netlist, recordAt, recordCount, slot, fanin}
+use Rattle.netlist.proofs.Balance.{buffer-named, buffer-level}
 use Rattle.verifier.specs.Trace.{walk, driver}
 use Rattle.verifier.specs.PrivateWalking.{Sized, Driven, Buffering, unknown, Known, knownDriver, PlacesPassed, Walkable, Traceable, Traced, SlotsTraceable, SlotsTraced}
 use Rattle.verifier.specs.PrivateFeeding.{stop, badFanin, bufferChecks, Fed, Tallied, TalliedIfPassed}
 use Rattle.verifier.specs.Checks.{noBuffer, placeChecks, strays, traceCheck}
-use Rattle.verifier.proofs.Trace.{walk-here, walk-back, buffer-named, buffer-level, driver-back}
+use Rattle.verifier.proofs.Trace.{walk-here, walk-back, driver-back}
 use Rattle.verifier.proofs.Checks.{driven, placed-driven, place-buffer}
 use Rattle.verifier.proofs.Feeding.{tallied-start, buffer-kind, Tallying, tallying-onward, tallying-end, tallying-stop, tallying-more}
 
@@ -131,7 +132,7 @@ module _ (n : ℕ) (m : Netlist) (drivers : List ℕ) (level x : ℕ) (w : Trace
 
     -- a buffer stands above level 0, and its fanin one level lower
     lower : level ≡ suc (m .at (fanin m x 0) .level)
-    lower = w .stands ∙ buffer-level m (w .walkable .named) (w .walkable .balanced) x (w .here) is-buffer
+    lower = w .stands ∙ buffer-level m (w .walkable .balanced) x (w .here) is-buffer
 
     pub walk-level : 1 ≤ level
     walk-level = omega (arith, lower)
@@ -144,7 +145,7 @@ module _ (n : ℕ) (m : Netlist) (drivers : List ℕ) (level x : ℕ) (w : Trace
       walk-next =
           rw f (record {
             walkable = w .walkable;
-            here = buffer-named m (w .walkable .named) (w .walkable .balanced) x (w .here) is-buffer;
+            here = buffer-named m (w .walkable .named) x (w .here) is-buffer;
             stands = omega (arith, lower);
             known = w .known;
           })

@@ -7,9 +7,10 @@ use lib.ListN.{length}
 use Rattle.netlist.specs.Kinds.{width, mappedLimit}
 use Rattle.netlist.specs.Records.{netlist, recordCount}
 use Rattle.netlist.specs.Source.{Source}
+use Rattle.netlist.specs.Counts.{bufferCount}
 use Rattle.verifier.specs.declared.Verified.the-variants.{Buffers}
 use Rattle.verifier.specs.Legal.{Legal}
-use Rattle.verifier.specs.Checks.{bufferCount, verifyAnswer}
+use Rattle.verifier.specs.Checks.{verifyAnswer}
 
 -- the mapped bytes are a legal netlist of the source bytes, within document 01's sizes
 pub record Accepted (source : List ℕ) (s : ℕ) (mapped : List ℕ) : Type 0 where

@@ -4,16 +4,16 @@ use mathlib.Core.Bool.{Bool, not, _&&_, _||_}
 use mathlib.Core.List.{List, [], _∷_}
 use lib.Dec.{ltb, leb, eqb}
 use Rattle.facts.specs.declared.Checked.{Checked}
-use Rattle.facts.specs.declared.Checked.the-variants.{Passed, Refused as Failed}
-use Rattle.facts.specs.Checks.{check, _andThen_, scan}
-use Rattle.facts.specs.Sums.{count, any}
+use Rattle.facts.specs.Checks.{check, _andThen_, outcome, scan}
+use Rattle.facts.specs.Sums.{any}
 use Rattle.netlist.specs.declared.Record.{Record}
 use Rattle.netlist.specs.Kinds.{slots, topLevel, mappedLimit, output, buffer, arity}
 use Rattle.netlist.specs.Records.{Netlist, netlist, recordCount, blank, slot, feeds}
+use Rattle.netlist.specs.Counts.{bufferCount}
 use Rattle.netlist.specs.Checks.{ragged, inputChecks}
+use Rattle.netlist.specs.Balance.{capacityOf}
 use Rattle.verifier.specs.declared.Verified.{Verified}
 use Rattle.verifier.specs.declared.Verified.the-variants.{Buffers, Refused}
-use Rattle.verifier.specs.Legal.{capacityOf}
 use Rattle.verifier.specs.Trace.{driver}
 
 -- 11: no whole records, fewer than the source's, or too many
@@ -97,22 +97,9 @@ mappedChecks n s bytes = check 11 0 (badLength (n .size) bytes) andThen legalChe
 unfoldable pub verifyChecks : List ℕ → ℕ → List ℕ → Checked
 verifyChecks source s mapped = inputChecks s source andThen mappedChecks (netlist source) s mapped
 
--- record k is a buffer
-abbrev pub isBuffer : Netlist → ℕ → Bool
-isBuffer m k = eqb (m .at k .kind) buffer
-
--- a netlist's buffers: its records of kind 5
-unfoldable pub bufferCount : Netlist → ℕ
-bufferCount m = count (isBuffer m) (m .size)
-
--- the answer that the checks leave
-abbrev pub verified : ℕ → Checked → Verified
-verified buffers Passed = Buffers buffers
-verified buffers (Failed number place) = Refused number place
-
 -- the verifier's answer
 abbrev pub verifyAnswer : List ℕ → ℕ → List ℕ → Verified
-verifyAnswer source s mapped = verified (bufferCount (netlist mapped)) (verifyChecks source s mapped)
+verifyAnswer source s mapped = outcome (verifyChecks source s mapped) (Buffers (bufferCount (netlist mapped))) Refused
 
 -- document 01's numbers of an answer: number, place, buffers
 unfoldable pub verifiedNumbers : Verified → List ℕ

@@ -9,12 +9,13 @@ use Rattle.facts.specs.Sums.{sum, count}
 use Rattle.netlist.specs.Kinds.{buffer}
 use Rattle.netlist.specs.Records.{Netlist, netlist, fanin}
 use Rattle.netlist.specs.Source.{IsSource}
+use Rattle.netlist.specs.Balance.{driverCapacity}
+use Rattle.netlist.specs.Counts.{isBuffer, bufferCount}
 use Rattle.fanout.specs.Nets.{row, buffersAt, hasTree, fewest}
-use Rattle.fanout.specs.Answer.{driverCapacity}
 use Rattle.verifier.specs.declared.Verified.the-variants.{Buffers}
 use Rattle.verifier.specs.Legal.{Legal, Traces}
 use Rattle.verifier.specs.Trace.{driver}
-use Rattle.verifier.specs.Checks.{isBuffer, bufferCount, verifyAnswer}
+use Rattle.verifier.specs.Checks.{verifyAnswer}
 
 -- record x is a buffer on the net of d: its slot, traced back through buffers, ends there
 abbrev pub onNet : Netlist → ℕ → ℕ → Bool

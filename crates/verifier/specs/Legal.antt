@@ -1,13 +1,11 @@
 -- Document 01, 'Legal' (document 000, section 3): what a legal mapped netlist m of a source n is, for splitters of capacity s.
-use Prim.Native.Nat.{ℕ, suc, _≤_, _<_}
+use Prim.Native.Nat.{ℕ, _≤_, _<_}
 use mathlib.Core.Path.{_≡_}
 use mathlib.Core.Logic.{_≢_}
-use mathlib.Core.Bool.{cond}
-use lib.Dec.{eqb}
 use Rattle.netlist.specs.declared.Record.{Record}
 use Rattle.netlist.specs.Kinds.{slots, unused, topLevel, output, buffer, arity}
 use Rattle.netlist.specs.Records.{Netlist, slot, fanin, feeds}
-use Rattle.fanout.specs.Answer.{driverCapacity}
+use Rattle.netlist.specs.Balance.{capacityOf, Named, Balanced}
 
 -- record b is a outside a's used slots
 pub record Kept (a b : Record) : Type 0 where
@@ -28,18 +26,6 @@ pub record IsBuffer (r : Record) : Type 0 where
 pub data Traces (m : Netlist) (d : ℕ) : ℕ → Type 0 where
   here : {x : ℕ} → x ≡ d → m .at x .kind ≢ buffer → Traces m d x
   back : {x : ℕ} → m .at x .kind ≡ buffer → Traces m d (fanin m x 0) → Traces m d x
-
--- the most slots that a record may feed: a buffer s, an input or a gate one
-abbrev pub capacityOf : ℕ → ℕ → ℕ
-capacityOf s kind = cond (eqb kind buffer) s driverCapacity
-
--- every used slot names a record of the netlist
-abbrev pub Named : Netlist → Type 0
-Named m = (k j : ℕ) → k < m .size → j < arity (m .at k .kind) → fanin m k j < m .size
-
--- every fanin stands exactly one level lower
-abbrev pub Balanced : Netlist → Type 0
-Balanced m = (k j : ℕ) → k < m .size → j < arity (m .at k .kind) → m .at k .level ≡ suc (m .at (fanin m k j) .level)
 
 -- m is a legal mapped netlist of the source n
 pub record Legal (n : Netlist) (s : ℕ) (m : Netlist) : Type 0 where

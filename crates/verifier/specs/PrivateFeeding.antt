@@ -12,7 +12,7 @@ use Rattle.facts.specs.Sums.{any}
 use Rattle.netlist.specs.declared.Record.{Record}
 use Rattle.netlist.specs.Kinds.{arity}
 use Rattle.netlist.specs.Records.{Netlist, slot}
-use Rattle.fanout.specs.Answer.{driverCapacity}
+use Rattle.netlist.specs.Balance.{driverCapacity}
 use Rattle.verifier.specs.Checks.{noBuffer, badName, notOneLower, slotChecks}
 
 -- where a count stops: one above the largest capacity

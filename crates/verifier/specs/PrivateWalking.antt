@@ -10,7 +10,7 @@ use Rattle.netlist.specs.declared.Record.{Record}
 use Rattle.netlist.specs.Kinds.{mappedLimit, buffer}
 use Rattle.netlist.specs.Records.{Netlist, slot}
 use Rattle.netlist.specs.Source.{IsSource}
-use Rattle.verifier.specs.Legal.{Named, Balanced}
+use Rattle.netlist.specs.Balance.{Named, Balanced}
 use Rattle.verifier.specs.Trace.{driver}
 
 -- what 1 to 7 and 11 leave: a source of so many records, and a mapped netlist of a size that fits

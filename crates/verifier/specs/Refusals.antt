@@ -8,8 +8,9 @@ use Rattle.netlist.specs.declared.Record.{Record}
 use Rattle.netlist.specs.Kinds.{slots, unused, topLevel, mappedLimit, output, buffer, arity}
 use Rattle.netlist.specs.Records.{Netlist, netlist, recordCount, slot, fanin, feeds}
 use Rattle.netlist.specs.Refusals.{Ragged, InputFails}
+use Rattle.netlist.specs.Balance.{capacityOf}
 use Rattle.verifier.specs.declared.Verified.the-variants.{Refused}
-use Rattle.verifier.specs.Legal.{Traces, capacityOf}
+use Rattle.verifier.specs.Legal.{Traces}
 use Rattle.verifier.specs.Checks.{verifyAnswer}
 
 -- 11: the length is no multiple of 10, or there are fewer records than the source's or over 60,000

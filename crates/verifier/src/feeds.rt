@@ -5,7 +5,7 @@ ghost use lib.ListN.{length};
 ghost use Rattle.facts.specs.Checks.{scan};
 ghost use Rattle.verifier.specs.PrivateFeeding.{countCheck, fedOnce, FedAtMost};
 use facts::Checked;
-use fanout::DRIVER_CAPACITY;
+use netlist::DRIVER_CAPACITY;
 
 // Where a count of check 17 stops: one above the largest capacity.
 const STOP: u8 = 5;

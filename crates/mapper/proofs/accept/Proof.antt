@@ -1,32 +1,36 @@
 -- `accept` meets its contract: the prices fit, and the numbers are those of the definition.
-use Rattle.mapper.proofs.Answering.{gates-price, all-price, accepted}
+use Rattle.netlist.proofs.Counts.{gates-counted}
+use Rattle.mapper.proofs.Answering.{gates-fit, gates-price, all-price, accepted}
 use borrow.Author.Needs.{needs}
 use Rattle.mapper.proofs.accept.Statement.{statement}
 use Rattle.mapper.proofs.accept.Tie as tie
 
-count-gates-requires : tie.Need-count-gates-requires
-count-gates-requires c κs = search needs
+count-kinds-requires : tie.Need-count-kinds-requires
+count-kinds-requires c κs = search needs
+
+cast-gates : tie.Need-cast-gates
+cast-gates c = search (gates-fit, gates-counted)
 
 mul-junctions : tie.Need-mul-junctions
-mul-junctions c = search gates-price
+mul-junctions c = search (gates-price, gates-counted)
 
 mul-junctions-2 : tie.Need-mul-junctions-2
 mul-junctions-2 c = search needs
 
 add-junctions : tie.Need-add-junctions
-add-junctions c = search all-price
+add-junctions c = search (all-price, gates-counted)
 
-cast-t5 : tie.Need-cast-t5
-cast-t5 c = search needs
+cast-t7 : tie.Need-cast-t7
+cast-t7 c = search needs
 
-add-t7 : tie.Need-add-t7
-add-t7 c = search needs
+add-t8 : tie.Need-add-t8
+add-t8 c = search needs
 
 depth-requires : tie.Need-depth-requires
 depth-requires c κs = search needs
 
-cast-t6 : tie.Need-cast-t6
-cast-t6 c = search needs
+cast-t10 : tie.Need-cast-t10
+cast-t10 c = search needs
 
 mul-share-of : tie.Need-mul-share-of
 mul-share-of c = search needs
@@ -35,20 +39,21 @@ share-of-requires : tie.Need-share-of-requires
 share-of-requires c κs = search needs
 
 returns : tie.Need-returns
-returns c = search accepted
+returns c = search (accepted, gates-counted)
 
 pub accept-spec : {M : Type 1} → statement M
 accept-spec =
     tie.close
     (tie.spec
-    count-gates-requires
+    count-kinds-requires
+    cast-gates
     mul-junctions
     mul-junctions-2
     add-junctions
-    cast-t5
-    add-t7
+    cast-t7
+    add-t8
     depth-requires
-    cast-t6
+    cast-t10
     mul-share-of
     share-of-requires
     returns)

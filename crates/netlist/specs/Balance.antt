@@ -1,0 +1,35 @@
+-- Document 000, section 3, with one branch for inputs and gates: what it is for a netlist to be balanced and branched.
+use Prim.Native.Nat.{ℕ, suc, _≤_, _<_}
+use mathlib.Core.Path.{_≡_}
+use mathlib.Core.Bool.{true, cond}
+use lib.Dec.{eqb}
+use Rattle.netlist.specs.Kinds.{input, output, buffer, arity, isDriver}
+use Rattle.netlist.specs.Records.{Netlist, fanin, feeds}
+
+-- every used slot names a record of the netlist
+abbrev pub Named : Netlist → Type 0
+Named m = (k j : ℕ) → k < m .size → j < arity (m .at k .kind) → fanin m k j < m .size
+
+-- every fanin stands exactly one level lower
+abbrev pub Balanced : Netlist → Type 0
+Balanced m = (k j : ℕ) → k < m .size → j < arity (m .at k .kind) → m .at k .level ≡ suc (m .at (fanin m k j) .level)
+
+-- slots that a driver may feed
+abbrev pub driverCapacity : ℕ
+driverCapacity = 1
+
+-- the most slots that a record may feed: a buffer s, an input or a gate one
+abbrev pub capacityOf : ℕ → ℕ → ℕ
+capacityOf s kind = cond (eqb kind buffer) s driverCapacity
+
+-- every fanin stands exactly one level lower, inputs at 0, outputs on one level
+pub record PathBalanced (m : Netlist) : Type 0 where
+  pub fanins : Balanced m
+  pub inputs : (k : ℕ) → k < m .size → m .at k .kind ≡ input → m .at k .level ≡ 0
+  pub outputs : (k i : ℕ) → k < m .size → i < m .size → m .at k .kind ≡ output → m .at i .kind ≡ output →
+      m .at k .level ≡ m .at i .level
+
+-- an input or a gate feeds at most one slot, a buffer at most s
+pub record ProperlyBranched (s : ℕ) (m : Netlist) : Type 0 where
+  pub drivers : (k : ℕ) → k < m .size → isDriver (m .at k .kind) ≡ true → feeds m k ≤ 1
+  pub buffers : (k : ℕ) → k < m .size → m .at k .kind ≡ buffer → feeds m k ≤ s
