@@ -1,15 +1,17 @@
--- Laws of stored answers: four stores at a number's place store it, and numbers stored from 0 on are the whole area.
-use Prim.Native.Nat.{ℕ, suc, _+_, _*_, _/_, _%_, _≤_}
+-- Laws of stored answers: four stores at a number's place store it, and numbers stored one after another from 0 on are the whole area.
+use Prim.Native.Nat.{ℕ, _+_, _*_, _/_, _%_, _<_, _≤_}
+use native.Mathlib.Numerals.{add-one}
 use native.Mathlib.Omega.{arith}
-use mathlib.Core.Path.{_≡_, refl, sym, ap, _∙_}
+use mathlib.Core.Path.{_≡_, refl, sym, ap, ap₂, _∙_}
 use mathlib.Core.List.{List, [], _∷_, _++_, append-assoc, append-nil}
-use lib.ListN.{length, take, drop, set, length-append, length-take, length-drop}
-use lib.Seq.{take-all, take-at}
+use lib.ListN.{length, getD, take, drop, set, length-append, length-take}
+use lib.Seq.{take-all, take-suc}
 use Rattle.facts.specs.declared.Checked.{Checked}
 use Rattle.facts.specs.declared.Checked.the-variants.{Passed, Refused}
 use Rattle.facts.specs.Checks.{checkedNumbers}
 use Rattle.facts.specs.Bytes.{four}
 use Rattle.facts.proofs.Bytes.{length-four, stores-four}
+use Rattle.facts.proofs.Areas.{Written, length-written, take-written, drop-written, written-none, written-all}
 use Rattle.fanout.specs.declared.Count.{Count}
 use Rattle.fanout.specs.declared.Count.the-variants as count
 use Rattle.fanout.specs.Answer.{noTree, countNumbers}
@@ -18,7 +20,7 @@ use Rattle.mapper.specs.Answer.{mappingNumbers}
 use Rattle.verifier.specs.declared.Verified.{Verified}
 use Rattle.verifier.specs.declared.Verified.the-variants as verified
 use Rattle.verifier.specs.Checks.{verifiedNumbers}
-use Rattle.aqfp.specs.Answers.{numbers, stored, Answered}
+use Rattle.aqfp.specs.Answers.{numbers, first, stored, Answered}
 
 -- the four stores of a number
 pub stores : (l : List ℕ) (k n : ℕ) → 4 * k + 4 ≤ length l →
@@ -27,47 +29,70 @@ pub stores : (l : List ℕ) (k n : ℕ) → 4 * k + 4 ≤ length l →
 unfolding stored
 stores l k n h = stores-four l (4 * k) n h
 
-length-stored : (l : List ℕ) (k n : ℕ) → 4 * k + 4 ≤ length l → length (stored l k n) ≡ length l
-unfolding stored
-length-stored l k n h = simp (length-append, length-take, length-drop, length-four) (omega arith)
+length-numbers : (ns : List ℕ) → length (numbers ns) ≡ 4 * length ns
+unfolding numbers
+length-numbers [] = refl
+length-numbers (n ∷ ns) = omega (arith, length-append (four n) (numbers ns), length-four n, length-numbers ns)
 
--- numbers stored one after another from place k on
-storedAll : List ℕ → ℕ → List ℕ → List ℕ
-storedAll l k [] = l
-storedAll l k (n ∷ ns) = storedAll (stored l k n) (suc k) ns
+-- one number more
+numbers-more : (ns : List ℕ) (n : ℕ) → numbers (ns ++ (n ∷ [])) ≡ numbers ns ++ four n
+unfolding numbers
+numbers-more [] n = append-nil (four n)
+numbers-more (m ∷ ns) n =
+    ap (λ (l : List ℕ). four m ++ l) (numbers-more ns n) ∙ sym (append-assoc (four m) (numbers ns) (four n))
 
-stored-all : (l : List ℕ) (k : ℕ) (ns : List ℕ) → length l ≡ 4 * (k + length ns) → storedAll l k ns ≡ take (4 * k) l ++ numbers ns
-unfolding numbers stored storedAll
-stored-all l k [] h = sym (append-nil (take (4 * k) l) ∙ take-all (4 * k) l (omega arith))
-stored-all l k (n ∷ ns) h =
-    stored-all (stored l k n) (suc k) ns (length-stored l k n (omega arith) ∙ omega arith)
-    ∙ ap (λ (xs : List ℕ). xs ++ numbers ns) taken
-    ∙ append-assoc (take (4 * k) l) (four n) (numbers ns)
-  where
-    taken : take (4 * suc k) (stored l k n) ≡ take (4 * k) l ++ four n
-    taken =
-        ap (take (4 * suc k)) (sym (append-assoc (take (4 * k) l) (four n) (drop (4 * k + 4) l)))
-        ∙ take-at (take (4 * k) l ++ four n) (drop (4 * k + 4) l) (4 * suc k)
-        (simp (length-append, length-take, length-four) (omega arith))
+-- the first k numbers are stored, and the rest of the area is as it was
+pub record Storing (ns : List ℕ) (k : ℕ) (area old : List ℕ) : Type 0 where
+  pub within : k ≤ length ns
+  pub long : length area ≡ 4 * length ns
+  pub all : length old ≡ 4 * length ns
+  pub so-far : Written (numbers (take k ns)) (4 * k) area old
 
--- an answer's numbers, stored from 0 on, are the whole area
-pub stored-two : (l l₁ l₂ : List ℕ) (a b : ℕ) → length l ≡ 8 → l₁ ≡ stored l 0 a → l₂ ≡ stored l₁ 1 b → Answered a l₂ (a ∷ b ∷ [])
-unfolding storedAll
-stored-two l l₁ l₂ a b h e f = record { number = refl; written = f ∙ rw e (stored-all l 0 (a ∷ b ∷ []) h) }
+module _ (ns old : List ℕ) where
+  pub storing-start : length old ≡ 4 * length ns → Storing ns 0 old old
+  unfolding numbers
+  storing-start e = record { within = omega arith; long = e; all = e; so-far = written-none old }
 
-pub stored-three : (l l₁ l₂ l₃ : List ℕ) (a b c : ℕ) → length l ≡ 12 → l₁ ≡ stored l 0 a → l₂ ≡ stored l₁ 1 b → l₃ ≡ stored l₂ 2 c → Answered a l₃ (a ∷ b ∷ c ∷ [])
-unfolding storedAll
-stored-three l l₁ l₂ l₃ a b c h e f g =
-    record { number = refl; written = g ∙ rw (f, e) (stored-all l 0 (a ∷ b ∷ c ∷ []) h) }
+  pub storing-room : (k : ℕ) (area : List ℕ) → Storing ns k area old → k < length ns → 4 * k + 4 ≤ length area
+  storing-room k area s h = omega (arith, s .long)
 
-pub stored-seven :
-    (l l₁ l₂ l₃ l₄ l₅ l₆ l₇ : List ℕ) (m : Mapping) → length l ≡ 28 →
-    l₁ ≡ stored l 0 (m .number) → l₂ ≡ stored l₁ 1 (m .place) → l₃ ≡ stored l₂ 2 (m .size) → l₄ ≡ stored l₃ 3 (m .buffers) →
-    l₅ ≡ stored l₄ 4 (m .depth) → l₆ ≡ stored l₅ 5 (m .junctions) → l₇ ≡ stored l₆ 6 (m .share) →
-    Answered (m .number) l₇ (mappingNumbers m)
-unfolding storedAll mappingNumbers
-stored-seven l l₁ l₂ l₃ l₄ l₅ l₆ l₇ m h e₁ e₂ e₃ e₄ e₅ e₆ e₇ =
-    record { number = refl; written = e₇ ∙ rw (e₆, e₅, e₄, e₃, e₂, e₁) (stored-all l 0 (mappingNumbers m) h) }
+  pub storing-more : (k : ℕ) (area new : List ℕ) → Storing ns k area old → k < length ns → new ≡ stored area k (getD ns k 0) → Storing ns (k + 1) new old
+  unfolding stored
+  storing-more k area new s h e =
+      record {
+        within = omega arith;
+        long = length-written _ (4 * (k + 1)) new old done (omega (arith, s .all)) ∙ s .all;
+        all = s .all;
+        so-far = done;
+      }
+    where
+      added : numbers (take (k + 1) ns) ≡ numbers (take k ns) ++ four (getD ns k 0)
+      added = rw (add-one k) (ap numbers (take-suc ns k 0 h) ∙ numbers-more (take k ns) (getD ns k 0))
+
+      done : Written (numbers (take (k + 1) ns)) (4 * (k + 1)) new old
+      done =
+          let behind : 4 * k + 4 ≡ 4 * (k + 1) = omega arith in
+          record {
+            long = length-numbers (take (k + 1) ns) ∙ simp length-take (omega arith);
+            parts =
+                e
+                ∙ ap₂ (λ (a b : List ℕ). a ++ (four (getD ns k 0) ++ b))
+                (take-written _ (4 * k) area old (s .so-far))
+                (drop-written _ (4 * k) (4 * k + 4) area old (s .so-far) (omega arith))
+                ∙ sym (append-assoc (numbers (take k ns)) (four (getD ns k 0)) (drop (4 * k + 4) old))
+                ∙ ap₂ (λ (a : List ℕ) (n : ℕ). a ++ drop n old) (sym added) behind;
+          }
+
+  pub storing-end : (k x : ℕ) (area : List ℕ) → Storing ns k area old → length ns ≤ k → x ≡ getD ns 0 0 → Answered x area ns
+  storing-end k x area s h e =
+      record {
+        number = e ∙ head ns;
+        written = written-all _ (4 * k) area old (s .so-far) (omega (arith, s .all)) ∙ ap numbers (take-all k ns h);
+      }
+    where
+      head : (l : List ℕ) → getD l 0 0 ≡ first l
+      head [] = refl
+      head (n ∷ l) = refl
 
 -- the cases of an answer
 module _ {r : ℕ} {l : List ℕ} where
@@ -83,7 +108,10 @@ module _ {r : ℕ} {l : List ℕ} where
   pub checked-as : {a b : Checked} → a ≡ b → Answered r l (checkedNumbers a) → Answered r l (checkedNumbers b)
   checked-as e g = rw e at g
 
-  pub mapped-as : {a b : Mapping} → a ≡ b → Answered r l (mappingNumbers a) → Answered r l (mappingNumbers b)
+  pub mapped-as :
+      {a b : Mapping} → a ≡ b → Answered r l (a .number ∷ a .place ∷ a .size ∷ a .buffers ∷ a .depth ∷ a .junctions ∷ a .share ∷ []) →
+      Answered r l (mappingNumbers b)
+  unfolding mappingNumbers
   mapped-as e g = rw e at g
 
   pub counted-fewest :

@@ -1,7 +1,6 @@
 // The C interface: the calls over numbers and byte areas. Numbers of an answer are four bytes each, low byte first.
 ghost use mathlib.Core.Path.{_≡_};
-ghost use Prim.Native.Nat.{_+_, _*_, _≤_};
-ghost use mathlib.Core.List.{[], _∷_};
+ghost use Prim.Native.Nat.{_+_, _*_, _≤_, _<_};
 ghost use lib.ListN.{length};
 ghost use Rattle.facts.specs.Checks.{checkedNumbers};
 ghost use Rattle.fanout.specs.Answer.{countAnswer, countNumbers};
@@ -13,7 +12,6 @@ ghost use Rattle.simulator.specs.Run.{runAnswer, runArea, runOutputs};
 ghost use Rattle.aqfp.specs.Answers.{stored, Answered};
 use facts::Checked;
 use fanout::Count;
-use mapper::Mapping;
 use verifier::Verified;
 
 // What stands for no tree in the count's answer.
@@ -31,37 +29,18 @@ fn store(answer: &mut [u8], k: usize, n: u32)
     answer[at + 3] = (n / 16777216 % 256) as u8;
 }
 
-// Stores an answer of two numbers and returns the first.
-fn answer_two(answer: &mut [u8; 8], a: u32, b: u32) -> u32
-    ensures { λ r. ⌜ Answered r (now (answer .exit)) (a ∷ b ∷ []) ⌝ }
+// Stores the numbers of an answer and returns the first.
+fn write_answer(answer: &mut [u8], numbers: &[u32]) -> u32
+    requires { ⌜ length (now answer) ≡ 4 * length (now numbers) ⌝ }
+    requires { ⌜ 0 < length (now numbers) ⌝ }
+    ensures { λ r. ⌜ Answered r (now (answer .exit)) (now (numbers .entry)) ⌝ }
 {
-    store(answer, 0, a);
-    store(answer, 1, b);
-    a
-}
-
-// Stores an answer of three numbers and returns the first.
-fn answer_three(answer: &mut [u8; 12], a: u32, b: u32, c: u32) -> u32
-    ensures { λ r. ⌜ Answered r (now (answer .exit)) (a ∷ b ∷ c ∷ []) ⌝ }
-{
-    store(answer, 0, a);
-    store(answer, 1, b);
-    store(answer, 2, c);
-    a
-}
-
-// Stores the mapper's seven numbers and returns the first.
-fn answer_mapping(answer: &mut [u8; 28], mapping: Mapping) -> u32
-    ensures { λ r. ⌜ Answered r (now (answer .exit)) (mappingNumbers mapping) ⌝ }
-{
-    store(answer, 0, mapping.number);
-    store(answer, 1, mapping.place);
-    store(answer, 2, mapping.size);
-    store(answer, 3, mapping.buffers);
-    store(answer, 4, mapping.depth);
-    store(answer, 5, mapping.junctions);
-    store(answer, 6, mapping.share);
-    mapping.number
+    let mut k: usize = 0;
+    while k < numbers.len() {
+        store(answer, k, numbers[k]);
+        k += 1;
+    }
+    numbers[0]
 }
 
 // Stores the number and the place of checks.
@@ -69,8 +48,8 @@ fn answer_checked(answer: &mut [u8; 8], checked: Checked) -> u32
     ensures { λ r. ⌜ Answered r (now (answer .exit)) (checkedNumbers checked) ⌝ }
 {
     match checked {
-        Checked::Passed => answer_two(answer, 0, 0),
-        Checked::Refused(number, place) => answer_two(answer, number, place),
+        Checked::Passed => write_answer(answer, &[0, 0]),
+        Checked::Refused(number, place) => write_answer(answer, &[number, place]),
     }
 }
 
@@ -85,7 +64,19 @@ pub extern "C" fn aqfp_map(
     ensures answer { λ r. ⌜ Answered r (now (answer .exit)) (mappingNumbers (mapAnswer (now (source .entry)) capacity (now (mapped .entry)))) ⌝ }
     ensures area { λ _. ⌜ now (mapped .exit) ≡ mapArea (now (source .entry)) capacity (now (mapped .entry)) ⌝ }
 {
-    answer_mapping(answer, mapper::map_netlist(source, capacity, mapped))
+    let mapping = mapper::map_netlist(source, capacity, mapped);
+    write_answer(
+        answer,
+        &[
+            mapping.number,
+            mapping.place,
+            mapping.size,
+            mapping.buffers,
+            mapping.depth,
+            mapping.junctions,
+            mapping.share,
+        ],
+    )
 }
 
 // The count of one net: number, place, fewest buffers, or what stands for no tree.
@@ -100,9 +91,9 @@ pub extern "C" fn aqfp_count(
 {
     let count = fanout::count_net(source, capacity, record);
     match count {
-        Count::Fewest(buffers) => answer_three(answer, 0, 0, buffers),
-        Count::NoTree => answer_three(answer, 0, 0, NO_TREE),
-        Count::Refused(number, place) => answer_three(answer, number, place, 0),
+        Count::Fewest(buffers) => write_answer(answer, &[0, 0, buffers]),
+        Count::NoTree => write_answer(answer, &[0, 0, NO_TREE]),
+        Count::Refused(number, place) => write_answer(answer, &[number, place, 0]),
     }
 }
 
@@ -118,8 +109,8 @@ pub extern "C" fn aqfp_verify(
 {
     let verified = verifier::verify(source, capacity, mapped);
     match verified {
-        Verified::Buffers(buffers) => answer_three(answer, 0, 0, buffers),
-        Verified::Refused(number, place) => answer_three(answer, number, place, 0),
+        Verified::Buffers(buffers) => write_answer(answer, &[0, 0, buffers]),
+        Verified::Refused(number, place) => write_answer(answer, &[number, place, 0]),
     }
 }
 

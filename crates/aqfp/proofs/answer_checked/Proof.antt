@@ -7,14 +7,20 @@ use Rattle.aqfp.proofs.answer_checked.Tie as tie
 enum-told : tie.Need-enum-told
 enum-told c = search needs
 
-answer-two-requires : tie.Need-answer-two-requires
-answer-two-requires c κs = search needs
+slice-aggregate-write-answer : tie.Need-slice-aggregate-write-answer
+slice-aggregate-write-answer c = search needs
+
+write-answer-requires : tie.Need-write-answer-requires
+write-answer-requires c κs = search needs
 
 enum-known-checked : tie.Need-enum-known-checked
 enum-known-checked c = search needs
 
-answer-two-requires-2 : tie.Need-answer-two-requires-2
-answer-two-requires-2 c κs = search needs
+slice-aggregate-write-answer-2 : tie.Need-slice-aggregate-write-answer-2
+slice-aggregate-write-answer-2 c = search needs
+
+write-answer-requires-2 : tie.Need-write-answer-requires-2
+write-answer-requires-2 c κs = search needs
 
 returns : tie.Need-returns
 returns c = search checked-passed
@@ -27,8 +33,10 @@ answer-checked-spec =
     tie.close
     (tie.spec
     enum-told
-    answer-two-requires
+    slice-aggregate-write-answer
+    write-answer-requires
     enum-known-checked
-    answer-two-requires-2
+    slice-aggregate-write-answer-2
+    write-answer-requires-2
     returns
     returns-2)

@@ -10,20 +10,29 @@ count-net-requires c κs = search needs
 enum-known-count : tie.Need-enum-known-count
 enum-known-count c = search needs
 
-answer-three-requires : tie.Need-answer-three-requires
-answer-three-requires c κs = search needs
+slice-aggregate-write-answer : tie.Need-slice-aggregate-write-answer
+slice-aggregate-write-answer c = search needs
+
+write-answer-requires : tie.Need-write-answer-requires
+write-answer-requires c κs = search needs
 
 enum-told : tie.Need-enum-told
 enum-told c = search needs
 
-answer-three-requires-2 : tie.Need-answer-three-requires-2
-answer-three-requires-2 c κs = search needs
+slice-aggregate-write-answer-2 : tie.Need-slice-aggregate-write-answer-2
+slice-aggregate-write-answer-2 c = search needs
+
+write-answer-requires-2 : tie.Need-write-answer-requires-2
+write-answer-requires-2 c κs = search needs
 
 enum-known-count-2 : tie.Need-enum-known-count-2
 enum-known-count-2 c = search needs
 
-answer-three-requires-3 : tie.Need-answer-three-requires-3
-answer-three-requires-3 c κs = search needs
+slice-aggregate-write-answer-3 : tie.Need-slice-aggregate-write-answer-3
+slice-aggregate-write-answer-3 c = search needs
+
+write-answer-requires-3 : tie.Need-write-answer-requires-3
+write-answer-requires-3 c κs = search needs
 
 returns : tie.Need-returns
 returns c = search counted-fewest
@@ -40,11 +49,14 @@ aqfp-count-spec =
     (tie.spec
     count-net-requires
     enum-known-count
-    answer-three-requires
+    slice-aggregate-write-answer
+    write-answer-requires
     enum-told
-    answer-three-requires-2
+    slice-aggregate-write-answer-2
+    write-answer-requires-2
     enum-known-count-2
-    answer-three-requires-3
+    slice-aggregate-write-answer-3
+    write-answer-requires-3
     returns
     returns-2
     returns-3)

@@ -10,14 +10,20 @@ verify-requires c κs = search needs
 enum-known-verified : tie.Need-enum-known-verified
 enum-known-verified c = search needs
 
-answer-three-requires : tie.Need-answer-three-requires
-answer-three-requires c κs = search needs
+slice-aggregate-write-answer : tie.Need-slice-aggregate-write-answer
+slice-aggregate-write-answer c = search needs
+
+write-answer-requires : tie.Need-write-answer-requires
+write-answer-requires c κs = search needs
 
 enum-known-verified-2 : tie.Need-enum-known-verified-2
 enum-known-verified-2 c = search needs
 
-answer-three-requires-2 : tie.Need-answer-three-requires-2
-answer-three-requires-2 c κs = search needs
+slice-aggregate-write-answer-2 : tie.Need-slice-aggregate-write-answer-2
+slice-aggregate-write-answer-2 c = search needs
+
+write-answer-requires-2 : tie.Need-write-answer-requires-2
+write-answer-requires-2 c κs = search needs
 
 returns : tie.Need-returns
 returns c = search verified-accepted
@@ -31,8 +37,10 @@ aqfp-verify-spec =
     (tie.spec
     verify-requires
     enum-known-verified
-    answer-three-requires
+    slice-aggregate-write-answer
+    write-answer-requires
     enum-known-verified-2
-    answer-three-requires-2
+    slice-aggregate-write-answer-2
+    write-answer-requires-2
     returns
     returns-2)
