@@ -13,9 +13,10 @@ use borrow.Author.Tests.{eqb-true, eq-eqb, ne-eqb, ltb-true, leb-true}
 use Rattle.facts.specs.Sums.{bit, sum, count}
 use Rattle.facts.proofs.Bools.{and-l, and-r}
 use Rattle.facts.proofs.Sums.{sum-first, count-cong, count-none, count₂-flat, count₂-le, count₂-none}
-use Rattle.netlist.specs.Kinds.{slots, topLevel, arity}
+use Rattle.netlist.specs.Kinds.{slots, topLevel, arity, isDriver}
 use Rattle.netlist.specs.Records.{Netlist, names, used, fanin}
 use Rattle.netlist.specs.Source.{IsSource}
+use Rattle.netlist.proofs.Source.{is-output}
 use Rattle.fanout.specs.Nets.{sinkAt, sinks, row, added}
 use Rattle.fanout.specs.Trees.{RowOf, netOf, netAt, sinksAt}
 use Rattle.fanout.specs.Worked.{addedAll, rowAt}
@@ -163,3 +164,15 @@ module _ (m : Netlist) (d : ℕ) (source : IsSource m) where
         sink-above i j l (and-l (names m d i j) _ e),
         eqb-true (m .at i .level) (m .at d .level + 0) (and-r (names m d i j) _ e),
       )))
+
+  -- what is no driver has no sinks
+  pub no-sinks : isDriver (m .at d .kind) ≡ false → (k : ℕ) → sinks m d k ≡ 0
+  unfolding sinks
+  no-sinks e k =
+      count₂-none (sinkAt m d k) slots (m .size)
+      (λ i j l b t.
+      let n = and-l (names m d i j) _ t in
+      let u : j < arity (m .at i .kind) = ltb-true j (arity (m .at i .kind)) (and-l (used m i j) _ n) in
+      let f : fanin m i j ≡ d = eqb-true (fanin m i j) d (and-r (used m i j) _ n) in
+      source .noOutput i j l u
+      (is-output m source (fanin m i j) (omega (arith, source .earlier i j l u)) (ap (λ (x : ℕ). isDriver (m .at x .kind)) f ∙ e)))

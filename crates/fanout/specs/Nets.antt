@@ -4,7 +4,7 @@ use mathlib.Core.Bool.{Bool, _&&_}
 use mathlib.Core.List.{List, [], _∷_}
 use lib.ListN.{getD, set, drop}
 use lib.Dec.{leb, eqb}
-use Rattle.facts.specs.Sums.{count₂}
+use Rattle.facts.specs.Sums.{count₂, sum}
 use Rattle.facts.specs.Lists.{tabulate}
 use Rattle.netlist.specs.Kinds.{slots, topLevel}
 use Rattle.netlist.specs.Records.{Netlist, names}
@@ -53,3 +53,10 @@ hasTree c s r = leb (nodesAt s r 1) c
 -- the fewest buffers of a tree: those from distance 1 on
 abbrev pub fewest : ℕ → List ℕ → ℕ
 fewest s r = buffers s (drop 1 r)
+
+-- the fewest buffers of d's net, and of all nets; an output drives nothing, so its row is empty
+abbrev pub treeSize : Netlist → ℕ → ℕ → ℕ
+treeSize m s d = fewest s (row m d)
+
+abbrev pub fewestInAll : Netlist → ℕ → ℕ
+fewestInAll m s = sum (treeSize m s) (m .size)

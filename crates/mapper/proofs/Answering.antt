@@ -20,9 +20,10 @@ use Rattle.netlist.specs.Checks.{inputChecks}
 use Rattle.netlist.specs.Source.{IsSource}
 use Rattle.netlist.specs.Counts.{gates}
 use Rattle.netlist.proofs.Source.{input-passed}
+use Rattle.fanout.specs.Nets.{treeSize, fewestInAll}
 use Rattle.mapper.specs.declared.Mapping.{Mapping}
 use Rattle.mapper.specs.Bytes.{bytesOf, onto}
-use Rattle.mapper.specs.Mapped.{treeSize, bufferTotal, mappedSize, mapped, Ready}
+use Rattle.mapper.specs.Mapped.{mappedSize, mapped, Ready}
 use Rattle.mapper.specs.Answer.{gatePrice, bufferPrice, share, junctions, figures, answerOf, areaOf, refusal, noTree, treeCheck, treesBelow, treeChecks, tooLarge, tooShort, sourceMaps, mapChecks, mapAnswer, mapArea}
 use Rattle.mapper.specs.declared.trees.Sizing.{Sizing}
 use Rattle.mapper.specs.declared.trees.Sizing.the-variants.{Total, Stops}
@@ -123,11 +124,11 @@ module _ (bytes : List ℕ) (s : ℕ) (i : inputChecks s bytes ≡ Passed) where
 
     -- the trees of all records are all trees
     pub input-sized : (z : Sizing) → z ≡ sizingOf (treesBelow (netlist bytes) s N) (sum (treeSize (netlist bytes) s) N) →
-        z ≡ sizingOf (treeChecks (netlist bytes) s) (bufferTotal (netlist bytes) s)
+        z ≡ sizingOf (treeChecks (netlist bytes) s) (fewestInAll (netlist bytes) s)
     input-sized z e =
         e ∙ ap (λ (m : ℕ). sizingOf (treesBelow (netlist bytes) s m) (sum (treeSize (netlist bytes) s) m)) size
 
-    pub counted-all : (total : ℕ) (z : Sizing) → z ≡ sizingOf (treeChecks (netlist bytes) s) (bufferTotal (netlist bytes) s) →
+    pub counted-all : (total : ℕ) (z : Sizing) → z ≡ sizingOf (treeChecks (netlist bytes) s) (fewestInAll (netlist bytes) s) →
         z ≡ Total total → (first next : List ℕ) (end : ℕ) → Chained (netlist bytes) first next 0 end →
         Counted bytes s N first next end total
     counted-all total z e f first next end l =

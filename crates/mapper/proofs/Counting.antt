@@ -18,48 +18,43 @@ use Rattle.netlist.specs.Kinds.{topLevel}
 use Rattle.netlist.specs.Records.{Netlist}
 use Rattle.netlist.specs.Source.{IsSource}
 use Rattle.netlist.specs.Balance.{driverCapacity}
-use Rattle.fanout.specs.Nets.{nodesAt}
+use Rattle.fanout.specs.Nets.{nodesAt, treeSize, row, fewestInAll}
 use Rattle.fanout.specs.declared.TreeTotals.{TreeTotals}
 use Rattle.mapper.specs.declared.trees.Sizing.{Sizing}
 use Rattle.mapper.specs.declared.trees.Sizing.the-variants.{Total, Stops}
-use Rattle.mapper.specs.Mapped.{netRow, treeSize, bufferTotal}
 use Rattle.mapper.specs.Answer.{treeCheck, treesBelow, treeChecks}
 use Rattle.mapper.specs.Chains.{Chained, Measured, sizingOf}
 use Rattle.fanout.proofs.Walking.{bufferLimit, fewest-small}
-use Rattle.mapper.proofs.Measuring.{net-buffers}
 
-pub record Counting (n : Netlist) (s m : ℕ) (row : List ℕ) (total d : ℕ) : Type 0 where
+pub record Counting (n : Netlist) (s m : ℕ) (counts : List ℕ) (total d : ℕ) : Type 0 where
   pub checks : Scanning (treeCheck n s) m d
   pub before : total ≡ sum (treeSize n s) d
   pub small : total ≤ bufferLimit * d
-  pub clear : row ≡ replicate (suc topLevel) 0
+  pub clear : counts ≡ replicate (suc topLevel) 0
 
 module _ (n : Netlist) (s : ℕ) where
-  pub count-start : (m : ℕ) (row : List ℕ) → row ≡ replicate (suc topLevel) 0 → Counting n s m row 0 0
+  pub count-start : (m : ℕ) (counts : List ℕ) → counts ≡ replicate (suc topLevel) 0 → Counting n s m counts 0 0
   unfolding sum
-  count-start m row e =
+  count-start m counts e =
       record { checks = scan-start (treeCheck n s) m; before = refl; small = omega arith; clear = e }
 
-  tree-small : (d : ℕ) → IsSource n → 2 ≤ s → d < n .size → treeSize n s d ≤ bufferLimit
-  tree-small d i l b = omega (arith, net-buffers n s d 1 i (omega arith) b, fewest-small n s d i l)
-
   -- the sum of all trees cannot overflow
-  pub total-small : IsSource n → 2 ≤ s → bufferTotal n s ≤ bufferLimit * n .size
+  pub total-small : IsSource n → 2 ≤ s → fewestInAll n s ≤ bufferLimit * n .size
   total-small i l =
       omega (
         arith,
-        sum-mono (treeSize n s) (λ d. bufferLimit) (n .size) (λ d b. tree-small d i l b),
+        sum-mono (treeSize n s) (λ d. bufferLimit) (n .size) (λ d b. fewest-small n s d i l),
         sum-const bufferLimit (n .size),
       )
 
-  pub count-stop : (row : List ℕ) (total d m : ℕ) (t : TreeTotals) → Counting n s m row total d → d < m → Measured n s d t → driverCapacity < t .nodes →
+  pub count-stop : (counts : List ℕ) (total d m : ℕ) (t : TreeTotals) → Counting n s m counts total d → d < m → Measured n s d t → driverCapacity < t .nodes →
       Stops 8 d ≡ sizingOf (treesBelow n s m) (sum (treeSize n s) m)
-  count-stop row total d m t h l g f =
+  count-stop counts total d m t h l g f =
       ap (λ (a : Checked). sizingOf a (sum (treeSize n s) m))
       (scan-stop (treeCheck n s) m d 8 d (treeCheck n s d) (h .checks) (omega arith) refl
-      (ap (λ (b : Bool). check 8 d (not b)) (lt-leb (nodesAt s (netRow n d) 1) driverCapacity (omega (arith, g .nodes)))))
+      (ap (λ (b : Bool). check 8 d (not b)) (lt-leb (nodesAt s (row n d) 1) driverCapacity (omega (arith, g .nodes)))))
 
-  module _ (row : List ℕ) (total d m : ℕ) (h : Counting n s m row total d) (size : m ≤ n .size) where
+  module _ (counts : List ℕ) (total d m : ℕ) (h : Counting n s m counts total d) (size : m ≤ n .size) where
     pub count-end : m ≤ d → Total total ≡ sizingOf (treesBelow n s m) (sum (treeSize n s) m)
     count-end l =
         let e : d ≡ m = omega (arith, h .checks .within) in
@@ -70,7 +65,7 @@ module _ (n : Netlist) (s : ℕ) where
         (g : Measured n s d t) where
       -- a net's buffers are few enough to add
       pub count-fits : Fits w64 (total + t .buffers)
-      count-fits = omega (arith, h .small, g .buffers, tree-small d (chained .source) (c .0) (omega arith), chained .source .few)
+      count-fits = omega (arith, h .small, g .buffers, fewest-small n s d (chained .source) (c .0), chained .source .few)
 
       pub count-more : (after : List ℕ) → after ≡ replicate (suc topLevel) 0 → t .nodes ≤ driverCapacity →
           Counting n s m after (total + t .buffers) (d + 1)
@@ -78,9 +73,9 @@ module _ (n : Netlist) (s : ℕ) where
           record {
             checks =
                 scan-more (treeCheck n s) m d (treeCheck n s d) (h .checks) (omega arith) refl
-                (ap (λ (b : Bool). check 8 d (not b)) (le-leb (nodesAt s (netRow n d) 1) driverCapacity (omega (arith, g .nodes))));
+                (ap (λ (b : Bool). check 8 d (not b)) (le-leb (nodesAt s (row n d) 1) driverCapacity (omega (arith, g .nodes))));
             before = omega (arith, h .before, g .buffers, sum-last (treeSize n s) d);
-            small = omega (arith, h .small, g .buffers, tree-small d (chained .source) (c .0) (omega arith));
+            small = omega (arith, h .small, g .buffers, fewest-small n s d (chained .source) (c .0));
             clear = e;
           }
 

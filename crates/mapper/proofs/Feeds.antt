@@ -13,8 +13,8 @@ use Rattle.netlist.specs.Kinds.{slots, topLevel, buffer, arity}
 use Rattle.netlist.specs.Records.{Netlist, used, fanin, names, feeds}
 use Rattle.netlist.specs.Balance.{driverCapacity}
 use Rattle.netlist.proofs.Source.{no-buffer}
-use Rattle.fanout.specs.Nets.{sinks, sinkAt, nodesAt}
-use Rattle.mapper.specs.Mapped.{netRow, buffersOf, treeSize, mappedSize, place, parent, bufferRecord, rank, distance, sinkNumber, sinkParent, mappedAt, mapped, Ready}
+use Rattle.fanout.specs.Nets.{sinks, sinkAt, nodesAt, treeSize, row}
+use Rattle.mapper.specs.Mapped.{buffersOf, mappedSize, place, parent, bufferRecord, rank, distance, sinkNumber, sinkParent, mappedAt, mapped, Ready}
 use Rattle.mapper.proofs.Blocks.{sum-blocks, count₂-rank}
 use Rattle.mapper.proofs.Mapped.{tree-sum, at-place, place-driver, place-distance}
 use Rattle.mapper.proofs.Nodes.{IsNode, nodes-split, hangs, IsSink, sink-facts, is-sink, pos, kind-kept, slot-used, source-sink, buffer-kind}
@@ -142,7 +142,7 @@ module _ (n : Netlist) (s : ℕ) (r : Ready n s) where
   unfolding buffersOf
   counted-node d zero q ld l b = absurd (omega (arith, none-level d))
   counted-node d (suc k) q ld l b =
-      record { driver = ld; above = omega arith; near = l; number = omega (arith, nodes-split n s r d k ld l) }
+      record { driver = ld; above = omega arith; near = l; number = omega (arith, nodes-split n s r d k l) }
 
   -- only the nodes at distance 1 of x's own net hang on a driver x
   on-driver : (x d k q : ℕ) → x < n .size → IsNode n s r d k q → parent n s d k q ≡ x → (d ≡ x) × (k ≡ 1)
@@ -180,8 +180,8 @@ module _ (n : Netlist) (s : ℕ) (r : Ready n s) where
         arith,
         feeds-single x x 1 l (λ d k q h e. on-driver x d k q l h e),
         count-le (hung n s x x 1) (buffersOf n s x 1 + sinks n x 1),
-        nodes-split n s r x 0 l (omega arith),
-        leb-true (nodesAt s (netRow n x) 1) driverCapacity (r .trees x l),
+        nodes-split n s r x 0 (omega arith),
+        leb-true (nodesAt s (row n x) 1) driverCapacity (r .trees x l),
       )
 
   -- a buffer at distance k carries nodes of its own net at distance k + 1, s at most

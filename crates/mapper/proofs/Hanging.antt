@@ -13,9 +13,9 @@ use Rattle.facts.proofs.Bools.{and-l, and-r}
 use Rattle.facts.proofs.Sums.{bit-same, count-append, count-cong, count₂-flat}
 use Rattle.netlist.specs.Kinds.{slots, topLevel, arity}
 use Rattle.netlist.specs.Records.{Netlist}
-use Rattle.fanout.specs.Nets.{sinks, sinkAt, nodesAt}
+use Rattle.fanout.specs.Nets.{sinks, sinkAt, nodesAt, row, treeSize}
 use Rattle.fanout.proofs.Rows.{added-at}
-use Rattle.mapper.specs.Mapped.{netRow, buffersOf, treeSize, parent, rank, sinkNumber, sinkParent, Ready}
+use Rattle.mapper.specs.Mapped.{buffersOf, parent, rank, sinkNumber, sinkParent, Ready}
 use Rattle.mapper.specs.Chains.{slotEnd, usedSlot, faninSlot, namesSlot, nextSink, slotDistance, sinksBelow, behind, onParent, Hangable, Noded}
 use Rattle.facts.proofs.Blocks.{block-before}
 use Rattle.mapper.proofs.Mapped.{tree-sum}
@@ -174,12 +174,12 @@ module _ (n : Netlist) (s d : ℕ) (first before : List ℕ) (end : ℕ) (counts
     pub hang-noded : end ≤ p → Noded n s d counts
     hang-noded l = record { size = f .size; at = all }
       where
-        all : (k : ℕ) → 1 ≤ k → k ≤ topLevel → getD counts k 0 ≡ nodesAt s (netRow n d) k
+        all : (k : ℕ) → 1 ≤ k → k ≤ topLevel → getD counts k 0 ≡ nodesAt s (row n d) k
         all zero a b = absurd (omega arith)
         all (suc k) a b =
             omega (
               arith,
               f .counted (suc k) a b,
               chain-all n first before end d (h .hung .chained) p (f .threading .chain) l (suc k),
-              nodes-split n s (h .ready) d k (h .driver) b,
+              nodes-split n s (h .ready) d k b,
             )

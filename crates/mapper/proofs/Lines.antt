@@ -11,16 +11,15 @@ use Rattle.facts.proofs.Sums.{sum-cong, sum-first, count-all, count-stop}
 use Rattle.netlist.specs.Kinds.{width, topLevel}
 use Rattle.netlist.specs.Records.{Netlist}
 use Rattle.netlist.specs.Source.{IsSource}
-use Rattle.fanout.specs.Nets.{row, up, buffersAt}
+use Rattle.fanout.specs.Nets.{row, buffersAt, treeSize}
 use Rattle.fanout.proofs.Nets.{nodes-at, line-row, row-at}
 use Rattle.mapper.specs.Bytes.{encoded, put, withRecords}
-use Rattle.mapper.specs.Mapped.{buffersOf, treeSize, blockStart, place, parent, bufferOf, bufferRecord, mappedAt, mapped, Ready}
+use Rattle.mapper.specs.Mapped.{buffersOf, blockStart, place, parent, bufferOf, bufferRecord, mappedAt, mapped, Ready}
 use Rattle.mapper.specs.Chains.{slotDistance, ShortChain, Measured, lineParent, lineRecord, Hooked, onParent, onLine}
 use Rattle.mapper.proofs.Area.{encoded-cong}
 use Rattle.mapper.proofs.Mapped.{tree-sum, at-place}
 use Rattle.mapper.proofs.Nodes.{pos, IsNode, hangs, buffer-node}
 use Rattle.fanout.proofs.Rows.{row-none}
-use Rattle.mapper.proofs.Measuring.{net-nodes}
 use Rattle.mapper.proofs.Hanging.{sink-node, sink-parent, flatNumbered}
 
 -- d's net of one or two sinks
@@ -38,7 +37,7 @@ module _ (n : Netlist) (s d top atOne : ℕ) (i : IsSource n) (two : 2 ≤ s) (l
 
   line-at : (k : ℕ) → buffersOf n s d (suc k) ≡ bit (ltb (suc k) top)
   unfolding buffersOf
-  line-at k = ap (up s) (net-nodes n s d (suc (suc k)) i positive ld) ∙ row-line (suc k) (omega arith)
+  line-at k = row-line (suc k) (omega arith)
 
   -- buffers nearer than distance suc k
   line-sum : (k : ℕ) → sum (buffersOf n s d) (suc k) ≡ count (λ x. ltb (suc x) top) k
@@ -71,7 +70,6 @@ module _ (n : Netlist) (s d top atOne : ℕ) (i : IsSource n) (two : 2 ≤ s) (l
               row-line 1 (omega arith),
               nodes-at s (row n d) 1 positive,
               row-at n d 1 (omega arith),
-              net-nodes n s d 1 i positive ld,
             );
         buffers = sym line-size;
       }

@@ -1,35 +1,24 @@
 -- The mapped netlist by index: which record stands at each index, and what each used slot of it names.
 use Prim.Native.Nat.{ℕ, suc, _+_, _-_, _≤_, _<_}
 use mathlib.Core.Path.{_≡_, refl, sym, _∙_, ap}
-use mathlib.Core.Bool.{Bool, true, false, cond}
-use mathlib.Core.List.{[]}
 use native.Mathlib.Omega.{arith}
 use native.Mathlib.Nat.{add-sub-cancel-left}
-use lib.ListN.{length}
 use borrow.Author.Tests.{lt-ltb, le-ltb}
 use Rattle.facts.specs.Sums.{sum}
 use Rattle.facts.specs.Blocks.{block}
-use Rattle.netlist.specs.Kinds.{topLevel, isDriver}
+use Rattle.netlist.specs.Kinds.{topLevel}
 use Rattle.netlist.specs.Records.{Netlist, blank}
 use Rattle.fanout.proofs.Nets.{fewest-sum, row-length}
-use Rattle.mapper.specs.Mapped.{netRow, buffersOf, treeSize, mappedSize, place, bufferRecord, rewired, bufferAt, mappedAt}
+use Rattle.fanout.specs.Nets.{row, treeSize}
+use Rattle.mapper.specs.Mapped.{buffersOf, mappedSize, place, bufferRecord, rewired, bufferAt, mappedAt}
 use Rattle.facts.proofs.Blocks.{InBlock, block-at, in-block, block-before}
 use Rattle.facts.proofs.Sums.{sum-first}
-
--- no more distances than levels
-row-short : (n : Netlist) (d : ℕ) → length (netRow n d) ≤ suc topLevel
-unfolding netRow
-row-short n d = go (isDriver (n .at d .kind))
-  where
-    go : (b : Bool) → length (cond b (Rattle.fanout.specs.Nets.row n d) []) ≤ suc topLevel
-    go true = omega (arith, row-length n d)
-    go false = omega arith
 
 module _ (n : Netlist) (s : ℕ) (pos : 0 < s) where
   -- a tree's buffers, distance by distance
   pub tree-sum : (d : ℕ) → treeSize n s d ≡ sum (buffersOf n s d) (suc topLevel)
   unfolding buffersOf
-  tree-sum d = fewest-sum s (netRow n d) topLevel pos (row-short n d) ∙ omega (arith, sum-first (buffersOf n s d) topLevel)
+  tree-sum d = fewest-sum s (row n d) topLevel pos (omega (arith, row-length n d)) ∙ omega (arith, sum-first (buffersOf n s d) topLevel)
 
   -- the buffers up to the j-th of distance k are d's
   pub within-tree : (d k j : ℕ) → k ≤ topLevel → j < buffersOf n s d k → sum (buffersOf n s d) k + j < treeSize n s d

@@ -1,25 +1,21 @@
 -- Laws of one net's measure: no sink, or a row that is filled and walked; and of clearing a row.
 use Prim.Native.Nat.{ℕ, suc, _+_, _≤_, _<_}
-use mathlib.Core.Path.{_≡_, refl, sym, _∙_, ap}
-use mathlib.Core.Bool.{Bool, true, false, cond}
-use mathlib.Core.List.{List, []}
+use mathlib.Core.Path.{_≡_, sym, _∙_, ap}
+use mathlib.Core.Bool.{false}
+use mathlib.Core.List.{List}
 use native.Mathlib.Omega.{arith}
 use native.Mathlib.Decide.{decLt, ℕ-discrete}
 use lib.ListN.{length, getD, drop, set, replicate, length-set}
-use lib.Seq.{getD-set-same, getD-set-other, getD-drop, drop-nil}
-use Rattle.netlist.specs.Kinds.{topLevel, isDriver}
+use lib.Seq.{getD-set-same, getD-set-other, getD-drop}
+use Rattle.netlist.specs.Kinds.{topLevel}
 use Rattle.netlist.specs.Records.{Netlist}
-use Rattle.netlist.specs.Source.{IsSource}
-use Rattle.netlist.proofs.Source.{is-output}
 use Rattle.fanout.specs.Nets.{row, sinks, nodes, buffers, nodesAt, fewest}
 use Rattle.fanout.specs.declared.TreeTotals.{TreeTotals}
-use Rattle.mapper.specs.Mapped.{netRow}
 use Rattle.fanout.specs.Walk.{Filled, Walked}
 use Rattle.fanout.proofs.Lists.{zeros}
 use Rattle.fanout.proofs.Nets.{nodes-none, buffers-none}
 use Rattle.fanout.proofs.Rows.{row-none}
 use Rattle.mapper.specs.Chains.{Stale, Measured}
-use Rattle.mapper.proofs.Nodes.{no-sinks}
 
 -- entries below k are zero, and those beyond top
 pub record Clearing (counts : List ℕ) (top k : ℕ) : Type 0 where
@@ -54,52 +50,22 @@ module _ (counts : List ℕ) (top : ℕ) where
       zeros (suc topLevel) counts (h .size)
       (λ x. elim (decLt x k) [ yes b ↦ h .before x b | no b ↦ h .beyond x (omega arith) ])
 
--- an output's row is as good as none
-module _ (n : Netlist) (s d k : ℕ) (i : IsSource n) (p : 0 < s) (l : d < n .size) where
-  no-driver : isDriver (n .at d .kind) ≡ false → (x : ℕ) → getD (drop k (row n d)) x 0 ≡ 0
-  no-driver e x =
-      getD-drop k (row n d) x 0
-      ∙ row-none n d (k + x) (no-sinks n d (k + x) i (is-output n i d l e))
-
-  pub net-nodes : nodesAt s (netRow n d) k ≡ nodesAt s (row n d) k
-  unfolding netRow nodes
-  net-nodes = go (isDriver (n .at d .kind)) refl
-    where
-      go : (b : Bool) → isDriver (n .at d .kind) ≡ b → nodesAt s (cond b (row n d) []) k ≡ nodesAt s (row n d) k
-      go true e = refl
-      go false e = ap (nodes s) (drop-nil k) ∙ sym (nodes-none s (drop k (row n d)) p (no-driver e))
-
-  pub net-buffers : buffers s (drop k (netRow n d)) ≡ buffers s (drop k (row n d))
-  unfolding netRow buffers
-  net-buffers = go (isDriver (n .at d .kind)) refl
-    where
-      go : (b : Bool) → isDriver (n .at d .kind) ≡ b → buffers s (drop k (cond b (row n d) [])) ≡ buffers s (drop k (row n d))
-      go true e = refl
-      go false e = ap (buffers s) (drop-nil k) ∙ sym (buffers-none s (drop k (row n d)) p (no-driver e))
-
--- the measure of d's net is that of its row
-pub net-measured : (n : Netlist) (s d : ℕ) → IsSource n → 2 ≤ s → d < n .size → (t : TreeTotals) →
-    t .nodes ≡ nodesAt s (row n d) 1 → t .buffers ≡ fewest s (row n d) → Measured n s d t
-net-measured n s d i p l t e f =
-    record {
-      nodes = e ∙ sym (net-nodes n s d 1 i (omega arith) l);
-      buffers = f ∙ sym (net-buffers n s d 1 i (omega arith) l);
-    }
-
 -- no sink: no node and no buffer
-pub measured-none : (n : Netlist) (s d : ℕ) → IsSource n → (2 ≤ s) × (s ≤ 4) → d < n .size → ((k : ℕ) → sinks n d k ≡ 0) →
+pub measured-none : (n : Netlist) (s d : ℕ) → 2 ≤ s → ((k : ℕ) → sinks n d k ≡ 0) →
     Measured n s d (record { nodes = 0; buffers = 0 })
-measured-none n s d i c l z =
-    net-measured n s d i (c .0) l (record { nodes = 0; buffers = 0 })
-    (sym (nodes-none s (drop 1 (row n d)) (omega (arith, c .0)) none))
-    (sym (buffers-none s (drop 1 (row n d)) (omega (arith, c .0)) none))
+measured-none n s d p z =
+    record {
+      nodes = sym (nodes-none s (drop 1 (row n d)) (omega arith) none);
+      buffers = sym (buffers-none s (drop 1 (row n d)) (omega arith) none);
+    }
   where
     none : (x : ℕ) → getD (drop 1 (row n d)) x 0 ≡ 0
     none x = getD-drop 1 (row n d) x 0 ∙ row-none n d (1 + x) (z (1 + x))
 
-pub measured : (n : Netlist) (s d top : ℕ) (counts : List ℕ) → IsSource n → (2 ≤ s) × (s ≤ 4) → Filled n d counts top →
-    (after : List ℕ) (t : TreeTotals) → Walked s counts false after t → d < n .size → Measured n s d t
-measured n s d top counts i c f after t w l =
-    net-measured n s d i (c .0) l t
-    (w .nodes ∙ ap (λ (r : List ℕ). nodesAt s r 1) (f .counted))
-    (w .buffers ∙ ap (fewest s) (f .counted))
+pub measured : (n : Netlist) (s d top : ℕ) (counts : List ℕ) → Filled n d counts top → (after : List ℕ) (t : TreeTotals) →
+    Walked s counts false after t → Measured n s d t
+measured n s d top counts f after t w =
+    record {
+      nodes = w .nodes ∙ ap (λ (r : List ℕ). nodesAt s r 1) (f .counted);
+      buffers = w .buffers ∙ ap (fewest s) (f .counted);
+    }

@@ -13,10 +13,10 @@ use Rattle.facts.specs.Sums.{sum}
 use Rattle.facts.proofs.Sums.{sum-last}
 use Rattle.netlist.specs.Kinds.{width, topLevel, mappedLimit}
 use Rattle.netlist.specs.Records.{Netlist}
-use Rattle.fanout.specs.Nets.{row, sinks, up, buffersAt}
+use Rattle.fanout.specs.Nets.{row, sinks, buffersAt, treeSize}
 use Rattle.fanout.specs.declared.TreeTotals.{TreeTotals}
 use Rattle.mapper.specs.Bytes.{encoded, put, withRecords}
-use Rattle.mapper.specs.Mapped.{buffersOf, treeSize, blockStart, mappedSize, mapped, Ready}
+use Rattle.mapper.specs.Mapped.{buffersOf, blockStart, mappedSize, mapped, Ready}
 use Rattle.mapper.specs.Chains.{slotEnd, namesSlot, slotDistance, Stale, ShortChain, GrownNet, Hung, Hooked, onParent, onLine, lineRecord, Noded, Writable, Wrote}
 use Rattle.mapper.proofs.Area.{records-none, records-more, records-length}
 use Rattle.facts.proofs.Blocks.{block-before}
@@ -26,7 +26,7 @@ use Rattle.mapper.proofs.Nodes.{pos}
 use Rattle.mapper.proofs.Hanging.{named-sink}
 use Rattle.mapper.proofs.Lines.{line-size, line-written, line-hooked}
 use Rattle.mapper.proofs.Threading.{hung-next}
-use Rattle.mapper.proofs.Measuring.{net-nodes, measured-none}
+use Rattle.mapper.proofs.Measuring.{measured-none}
 
 module _ (n : Netlist) (s d top : ℕ) (counts : List ℕ) (r : Ready n s) (f : Filled n d counts top) where
   -- after the walk the row holds the tree's buffers
@@ -37,7 +37,6 @@ module _ (n : Netlist) (s d top : ℕ) (counts : List ℕ) (r : Ready n s) (f : 
   rowed after t w ld (suc k) a b =
       w .at (suc k) a
       ∙ ap (λ (r : List ℕ). buffersAt s r (suc k)) (f .counted)
-      ∙ ap (up s) (sym (net-nodes n s d (suc (suc k)) (r .source) (pos n s r) ld))
 
   pub net-grown : (after : List ℕ) (t : TreeTotals) → Walked s counts true after t → d < n .size → GrownNet n s d after top
   net-grown after t w ld =
@@ -47,8 +46,7 @@ module _ (n : Netlist) (s d top : ℕ) (counts : List ℕ) (r : Ready n s) (f : 
         rowed = record { size = w .size; at = rowed after t w ld };
         near = f .near;
         beyond = λ k l.
-            net-nodes n s d k (r .source) (pos n s r) ld
-            ∙ nodes-none s (drop k (row n d)) (pos n s r)
+            nodes-none s (drop k (row n d)) (pos n s r)
             (λ x.
             getD-drop k (row n d) x 0
             ∙ ap (λ (r : List ℕ). getD r (k + x) 0) (sym (f .counted))
@@ -95,7 +93,7 @@ module _ (n : Netlist) (s d at : ℕ) (first next : List ℕ) (end : ℕ) (count
       (sym (ap (λ (c : ℕ). withRecords (mapped n s) at c area) (sym none) ∙ records-none (mapped n s) at 0 area))
     where
       none : 0 ≡ treeSize n s d
-      none = measured-none n s d (w .ready .source) (w .ready .low, w .ready .high) (w .driver) z .buffers
+      none = measured-none n s d (w .ready .low) z .buffers
 
       unnamed : (y : ℕ) → y < slotEnd n → namesSlot n d y ≡ true → ⊥
       unnamed y l c = omega (arith, z (slotDistance n d y), named-sink n s (w .ready) d y l c)

@@ -3,11 +3,10 @@
 use Prim.Native.Nat.{ℕ, zero, suc, _+_, _-_, _≤_, _<_, _/_}
 use mathlib.Core.Path.{_≡_, refl, _∙_, ap, subst, subst⁻¹}
 use mathlib.Core.Logic.{_≢_}
-use mathlib.Core.Bool.{Bool, true, false, cond}
-use mathlib.Core.List.{[]}
+use mathlib.Core.Bool.{Bool, true, cond}
 use native.Mathlib.Omega.{arith}
 use native.Mathlib.Decide.{decLt}
-use lib.ListN.{getD, drop, List·getD-eq-default}
+use lib.ListN.{drop}
 use lib.Seq.{getD-drop}
 use borrow.Author.Tests.{lt-ltb, le-ltb, ltb-true, eq-eqb, eqb-true}
 use Rattle.facts.proofs.Bools.{and-l, and-r, and-i}
@@ -16,13 +15,12 @@ use Rattle.facts.proofs.Lists.{getD-tabulate}
 use Rattle.netlist.specs.declared.Record.{Record}
 use Rattle.netlist.specs.Kinds.{slots, unused, topLevel, output, buffer, arity, isDriver}
 use Rattle.netlist.specs.Records.{Netlist, slot, used, fanin, names}
-use Rattle.netlist.specs.Source.{IsSource}
 use Rattle.netlist.proofs.Checks.{arity-slots}
-use Rattle.netlist.proofs.Source.{is-output}
-use Rattle.fanout.specs.Nets.{row, sinks, sinkAt, up, nodes, nodesAt, buffersAt}
-use Rattle.fanout.proofs.Nets.{div-up, up-zero, nodes-at, nodes-none, row-length, row-at}
-use Rattle.mapper.specs.Mapped.{netRow, buffersOf, mappedSize, place, parent, bufferRecord, rank, distance, sinkNumber, sinkParent, rewired, mappedAt, Ready}
+use Rattle.fanout.specs.Nets.{row, sinks, sinkAt, up, nodesAt}
+use Rattle.fanout.proofs.Nets.{div-up, up-zero, nodes-at, nodes-none, row-at}
+use Rattle.mapper.specs.Mapped.{buffersOf, mappedSize, place, parent, bufferRecord, rank, distance, sinkNumber, sinkParent, rewired, mappedAt, Ready}
 use Rattle.fanout.proofs.Lists.{getD-replicated}
+use Rattle.fanout.proofs.Rows.{row-none, no-sinks}
 use Rattle.mapper.proofs.Blocks.{rank-below}
 use Rattle.mapper.proofs.Mapped.{at-source, at-place, place-inside, Placed, placed}
 
@@ -44,41 +42,21 @@ pub is-sink : (n : Netlist) (d k i j : ℕ) → IsSink n d k i j → sinkAt n d 
 is-sink n d k i j h =
     and-i (names n d i j) _ (and-i (used n i j) _ (lt-ltb j _ (h .inUse)) (eq-eqb _ d (h .driver))) (eq-eqb _ _ (h .level))
 
--- an output has no sinks
-pub no-sinks : (n : Netlist) (d k : ℕ) → IsSource n → n .at d .kind ≡ output → sinks n d k ≡ 0
-unfolding sinks
-no-sinks n d k i e =
-    count₂-none (sinkAt n d k) slots (n .size)
-    (λ i′ j l b t.
-    let h = sink-facts n d k i′ j t in
-    i .noOutput i′ j l (h .inUse) (ap (λ (x : ℕ). n .at x .kind) (h .driver) ∙ e))
-
 module _ (n : Netlist) (s : ℕ) (r : Ready n s) where
   pub pos : 0 < s
   pos = omega (arith, r .low)
 
   -- the nodes at a distance: its buffers and its sinks
-  pub nodes-split : (d k : ℕ) → d < n .size → suc k ≤ topLevel →
-      nodesAt s (netRow n d) (suc k) ≡ buffersOf n s d (suc k) + sinks n d (suc k)
-  unfolding netRow buffersOf nodes
-  nodes-split d k ld l = go (isDriver (n .at d .kind)) refl
-    where
-      go : (b : Bool) → isDriver (n .at d .kind) ≡ b →
-          nodesAt s (cond b (row n d) []) (suc k) ≡ buffersAt s (cond b (row n d) []) (suc k) + sinks n d (suc k)
-      go true e = omega (arith, nodes-at s (row n d) (suc k) pos, row-at n d (suc k) l)
-      go false e =
-          omega (
-            arith,
-            up-zero s pos,
-            no-sinks n d (suc k) (r .source) (is-output n (r .source) d ld e),
-          )
+  pub nodes-split : (d k : ℕ) → suc k ≤ topLevel → nodesAt s (row n d) (suc k) ≡ buffersOf n s d (suc k) + sinks n d (suc k)
+  unfolding buffersOf
+  nodes-split d k l = omega (arith, nodes-at s (row n d) (suc k) pos, row-at n d (suc k) l)
 
   -- a node of d's tree at distance k
   pub record IsNode (d k q : ℕ) : Type 0 where
     pub driver : d < n .size
     pub above : 1 ≤ k
     pub near : k ≤ topLevel
-    pub number : q < nodesAt s (netRow n d) k
+    pub number : q < nodesAt s (row n d) k
 
   -- node q at a distance from 2 on hangs on a buffer
   pub hangs : (d k q : ℕ) → IsNode d (suc (suc k)) q → q / s < buffersOf n s d (suc k)
@@ -125,7 +103,7 @@ module _ (n : Netlist) (s : ℕ) (r : Ready n s) where
             driver = h .driver;
             above = omega arith;
             near = omega (arith, h .near);
-            number = omega (arith, nodes-split d k (h .driver) (omega (arith, h .near)), hangs d k q h);
+            number = omega (arith, nodes-split d k (omega (arith, h .near)), hangs d k q h);
           }
 
   -- a buffer is a node of its tree
@@ -133,32 +111,30 @@ module _ (n : Netlist) (s : ℕ) (r : Ready n s) where
   unfolding buffersOf
   buffer-node d zero j ld l b = absurd (omega arith)
   buffer-node d (suc k) j ld l b =
-      record { driver = ld; above = omega arith; near = l; number = omega (arith, nodes-split d k ld l) }
+      record { driver = ld; above = omega arith; near = l; number = omega (arith, nodes-split d k l) }
+
+  -- without sinks from a distance on there are no nodes
+  none-from : (d k : ℕ) → ((x : ℕ) → k ≤ x → sinks n d x ≡ 0) → nodesAt s (row n d) k ≡ 0
+  none-from d k z =
+      nodes-none s (drop k (row n d)) pos (λ x. getD-drop k (row n d) x 0 ∙ row-none n d (k + x) (z (k + x) (omega arith)))
 
   -- an output has no buffer
   pub buffer-drives : (d k j : ℕ) → j < buffersOf n s d k → n .at d .kind ≢ output
-  unfolding buffersOf netRow nodes
+  unfolding buffersOf
   buffer-drives d zero j b e = omega arith
   buffer-drives d (suc k) j b e =
-      omega (arith, rw (ap isDriver e) at b, up-zero s pos)
+      omega (
+        arith,
+        ap (up s) (none-from d (suc (suc k)) (λ x l. no-sinks n d (r .source) (ap isDriver e) x)),
+        up-zero s pos,
+      )
 
   -- no sink stands above the top level
-  row-far : (d x : ℕ) → topLevel < n .at d .level + x → getD (netRow n d) x 0 ≡ 0
-  unfolding netRow sinks
-  row-far d x l = go (isDriver (n .at d .kind))
-    where
-      none : sinks n d x ≡ 0
-      none =
-          count₂-none (sinkAt n d x) slots (n .size)
-          (λ i j a b t. omega (arith, sink-facts n d x i j t .level, r .source .levels i a))
-
-      go : (b : Bool) → getD (cond b (row n d) []) x 0 ≡ 0
-      go true =
-          elim (decLt topLevel x) [
-            | yes h ↦ List·getD-eq-default (row n d) 0 {n = x} (omega (arith, row-length n d))
-            | no h ↦ row-at n d x (omega arith) ∙ none
-          ]
-      go false = List·getD-eq-default [] 0 {n = x} (omega arith)
+  sinks-far : (d x : ℕ) → topLevel < n .at d .level + x → sinks n d x ≡ 0
+  unfolding sinks
+  sinks-far d x l =
+      count₂-none (sinkAt n d x) slots (n .size)
+      (λ i j a b t. omega (arith, sink-facts n d x i j t .level, r .source .levels i a))
 
   -- a buffer stands on a level: some sink stands further on
   pub buffer-level : (d k j : ℕ) → j < buffersOf n s d k → n .at d .level + k ≤ topLevel
@@ -166,14 +142,9 @@ module _ (n : Netlist) (s : ℕ) (r : Ready n s) where
   buffer-level d zero j b = absurd (omega arith)
   buffer-level d (suc k) j b =
       elim (decLt topLevel (n .at d .level + suc k)) [
-        | yes h ↦ absurd (omega (arith, ap (up s) (none-from (suc (suc k)) (omega arith)), up-zero s pos))
+        | yes h ↦ absurd (omega (arith, ap (up s) (none-from d (suc (suc k)) (λ x l. sinks-far d x (omega arith))), up-zero s pos))
         | no h ↦ omega arith
       ]
-    where
-      none-from : (k : ℕ) → topLevel < n .at d .level + k → nodesAt s (netRow n d) k ≡ 0
-      none-from k h =
-          nodes-none s (drop k (netRow n d)) pos
-          (λ x. getD-drop k (netRow n d) x 0 ∙ row-far d (k + x) (omega arith))
 
   -- a used slot of the mapped netlist and the node that it is
   pub record SlotNode (i j : ℕ) : Type 0 where
@@ -201,11 +172,11 @@ module _ (n : Netlist) (s : ℕ) (r : Ready n s) where
     where
       go : (k : ℕ) → k ≡ distance n i j →
           buffersOf n s (fanin n i j) (distance n i j) + rank (sinkAt n (fanin n i j) (distance n i j)) i j
-          < nodesAt s (netRow n (fanin n i j)) (distance n i j)
+          < nodesAt s (row n (fanin n i j)) (distance n i j)
       go zero e = absurd (omega (arith, r .source .lower i j l b))
       go (suc k) e = rw (← e) (omega (
         arith,
-        nodes-split (fanin n i j) k (omega (arith, r .source .earlier i j l b)) (omega (arith, r .source .levels i l)),
+        nodes-split (fanin n i j) k (omega (arith, r .source .levels i l)),
         rank-below (sinkAt n (fanin n i j) (suc k)) i j (n .size) l (omega (arith, arity-slots (n .at i .kind))) (rw e (is-sink n _ _ i j (source-sink i j l b))),
       ))
 

@@ -14,10 +14,10 @@ use Rattle.facts.specs.Sums.{sum}
 use Rattle.facts.proofs.Sums.{sum-last, sum-none, sum-append, sum-more}
 use Rattle.netlist.specs.Kinds.{width, topLevel}
 use Rattle.netlist.specs.Records.{Netlist}
-use Rattle.fanout.specs.Nets.{up}
+use Rattle.fanout.specs.Nets.{up, treeSize}
 use Rattle.fanout.proofs.Nets.{up-zero}
 use Rattle.mapper.specs.Bytes.{encoded, recs, put, withRecords}
-use Rattle.mapper.specs.Mapped.{buffersOf, treeSize, blockStart, mappedSize, place, parent, bufferOf, bufferRecord, mappedAt, mapped, Ready}
+use Rattle.mapper.specs.Mapped.{buffersOf, blockStart, mappedSize, place, parent, bufferOf, bufferRecord, mappedAt, mapped, Ready}
 use Rattle.mapper.specs.Chains.{behind, levelRecord, GrownNet, Based}
 use Rattle.facts.proofs.Blocks.{block-before}
 use Rattle.mapper.proofs.Mapped.{tree-sum, at-place}

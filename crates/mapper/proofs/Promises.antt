@@ -1,6 +1,6 @@
 -- The promises of the mapper and of the block view.
 use Prim.Native.Nat.{ℕ, suc, _+_, _-_, _*_, _≤_, _<_}
-use mathlib.Core.Path.{_≡_, refl, sym, _∙_, ap, ap₂, subst}
+use mathlib.Core.Path.{_≡_, refl, sym, _∙_, ap, ap₂}
 use mathlib.Core.Logic.{_↔_, ⊎-elim}
 use mathlib.Core.Bool.{Bool, true, false, cond, not}
 use mathlib.Core.List.{List, [], _++_, append-assoc}
@@ -26,48 +26,40 @@ use Rattle.netlist.specs.Checks.{inputChecks}
 use Rattle.netlist.specs.Balance.{driverCapacity}
 use Rattle.netlist.proofs.Source.{driver-inside}
 use Rattle.netlist.proofs.Refusals.{input-rows, input-first}
-use Rattle.fanout.specs.Nets.{row, nodes, buffers, hasTree, fewest}
+use Rattle.fanout.specs.Nets.{row, nodesAt, hasTree, treeSize, fewestInAll}
 use Rattle.fanout.specs.Trees.{netOf, RowOf}
 use Rattle.fanout.specs.Promises.{LeastTree, Attained}
 use Rattle.fanout.proofs.Promises.{tree-exactly, least-in-all, fewest-attained}
-use Rattle.fanout.proofs.Rows.{row-of-net}
+use Rattle.fanout.proofs.Rows.{row-of-net, no-sinks}
 use Rattle.mapper.specs.declared.Mapping.{Mapping}
-use Rattle.mapper.specs.Mapped.{netRow, treeSize, blockStart, bufferTotal, mappedSize, mapped, Ready}
+use Rattle.mapper.specs.Mapped.{blockStart, mappedSize, mapped, Ready}
 use Rattle.mapper.specs.View.{noEnds, ownEnds, blockEnds, between, blockView}
 use Rattle.mapper.specs.Bytes.{recs, bytesOf, onto}
 use Rattle.mapper.specs.Answer.{figures, noTree, treeCheck, treeChecks, tooLarge, tooShort, sourceMaps, mapChecks, answerOf, areaOf, mapAnswer, mapArea}
 use Rattle.mapper.specs.Promises.{Treeless, TooLarge, TooShort, SourceMapFails, MapFails, MapExact, RefusedLeaves, Accepts, AcceptedMaps, BlockWritten, BlockNone}
 use Rattle.mapper.proofs.Answering.{input-source, input-capacity, passed-ready}
 use Rattle.mapper.proofs.Area.{length-recs, recs-append}
+use Rattle.mapper.proofs.Measuring.{measured-none}
 use Rattle.mapper.proofs.Written.{mapped-read}
 use Rattle.mapper.proofs.Feeds.{buffer-count}
 
 -- a driver's row is its net's; another record has none
-driver-row : (n : Netlist) (d : ℕ) → isDriver (n .at d .kind) ≡ true → netRow n d ≡ row n d
-unfolding netRow
-driver-row n d e = rw e refl
-
-other-row : (n : Netlist) (d : ℕ) → isDriver (n .at d .kind) ≡ false → netRow n d ≡ []
-unfolding netRow
-other-row n d e = rw e refl
-
 -- check 8 of d fails exactly if d is a driver for whose net no legal tree exists
-treeless-is : (n : Netlist) (s d : ℕ) → IsSource n → 0 < s → (noTree n s d ≡ true) ↔ Treeless n s d
-unfolding nodes
-treeless-is n s d i p = (there (isDriver (n .at d .kind)) refl, λ h. back (hasTree driverCapacity s (netRow n d)) refl h)
+treeless-is : (n : Netlist) (s d : ℕ) → IsSource n → 2 ≤ s → (noTree n s d ≡ true) ↔ Treeless n s d
+treeless-is n s d i p = (there (isDriver (n .at d .kind)) refl, λ h. back (hasTree driverCapacity s (row n d)) refl h)
   where
     exactly : ((t : Rattle.fanout.specs.Trees.Tree) × Rattle.fanout.specs.Trees.Legal driverCapacity s (netOf n d) t) ↔ (hasTree driverCapacity s (row n d) ≡ true)
-    exactly = tree-exactly driverCapacity s (netOf n d) (row n d) p (row-of-net n d i)
+    exactly = tree-exactly driverCapacity s (netOf n d) (row n d) (omega arith) (row-of-net n d i)
 
     there : (b : Bool) → isDriver (n .at d .kind) ≡ b → noTree n s d ≡ true → Treeless n s d
-    there true e h = (e, λ t l. true-false (hasTree driverCapacity s (netRow n d)) (rw (driver-row n d e) (exactly .0 (t, l))) (not-true _ h))
-    there false e h = absurd (true-false (hasTree driverCapacity s (netRow n d)) (rw (other-row n d e) empty) (not-true _ h))
+    there true e h = (e, λ t l. true-false (hasTree driverCapacity s (row n d)) (exactly .0 (t, l)) (not-true _ h))
+    there false e h = absurd (true-false (hasTree driverCapacity s (row n d)) empty (not-true _ h))
       where
-        empty : hasTree driverCapacity s [] ≡ true
-        empty = refl
+        empty : hasTree driverCapacity s (row n d) ≡ true
+        empty = le-leb (nodesAt s (row n d) 1) driverCapacity (omega (arith, measured-none n s d p (no-sinks n d i e) .nodes))
 
-    back : (b : Bool) → hasTree driverCapacity s (netRow n d) ≡ b → Treeless n s d → noTree n s d ≡ true
-    back true e h = let t = exactly .1 (rw (driver-row n d (h .0)) at e) in absurd (h .1 (t .0) (t .1))
+    back : (b : Bool) → hasTree driverCapacity s (row n d) ≡ b → Treeless n s d → noTree n s d ≡ true
+    back true e h = let t = exactly .1 e in absurd (h .1 (t .0) (t .1))
     back false e h = ap not e
 
 -- the checks give their first failing condition
@@ -93,7 +85,7 @@ module _ (bytes : List ℕ) (s : ℕ) where
       (rows-before (rowOf 8) (λ k p f. omega (arith, tree-rows k p f)) (λ k p f. omega (arith, one-row 9 0 (TooLarge (netlist bytes) s) k p f)))
       (first-scan (treeCheck (netlist bytes) s) (λ d. Fails 8 d (Treeless (netlist bytes) s d)) (rowOf 8) 8 8
       (λ d. within-one 8 d (Treeless (netlist bytes) s d)) (recordCount bytes)
-      (λ d l. first-check 8 d (treeless-is (netlist bytes) s d (input-source bytes s i) (omega (arith, input-capacity bytes s i .0)))))
+      (λ d l. first-check 8 d (treeless-is (netlist bytes) s d (input-source bytes s i) (input-capacity bytes s i .0))))
       (first-check 9 0 (less mappedLimit (mappedSize (netlist bytes) s))))
 
   map-first : (area : List ℕ) → First (MapFails bytes s area) (mapChecks bytes s area)
@@ -138,7 +130,7 @@ module _ (bytes : List ℕ) (s : ℕ) where
     room : width * mappedSize (netlist bytes) s ≤ length area
     room = less-none (length area) (width * mappedSize (netlist bytes) s) .0 (check-passed 10 0 (tooShort (netlist bytes) s area) .0 (parts .1))
 
-    answered : mapAnswer bytes s area ≡ figures (netlist bytes) (bufferTotal (netlist bytes) s)
+    answered : mapAnswer bytes s area ≡ figures (netlist bytes) (fewestInAll (netlist bytes) s)
     unfolding mapAnswer
     answered = ap (λ (a : Checked). answerOf a (netlist bytes) s) e
 
@@ -155,8 +147,8 @@ module _ (bytes : List ℕ) (s : ℕ) where
         record {
           tree = t .tree;
           legal = t .legal;
-          size = t .inAll ∙ sym same;
-          least = λ u l. rw same (least-in-all driverCapacity s (netOf (netlist bytes) d) (row (netlist bytes) d) positive rowed u l);
+          size = t .inAll;
+          least = least-in-all driverCapacity s (netOf (netlist bytes) d) (row (netlist bytes) d) positive rowed;
         }
       where
         positive : 0 < s
@@ -165,17 +157,14 @@ module _ (bytes : List ℕ) (s : ℕ) where
         rowed : RowOf (netOf (netlist bytes) d) (row (netlist bytes) d)
         rowed = row-of-net (netlist bytes) d (ready .source)
 
-        same : treeSize (netlist bytes) s d ≡ fewest s (row (netlist bytes) d)
-        same = ap (fewest s) (driver-row (netlist bytes) d b)
-
         t : Attained driverCapacity s (netOf (netlist bytes) d) (row (netlist bytes) d)
         t =
             fewest-attained driverCapacity s (netOf (netlist bytes) d) (row (netlist bytes) d) positive rowed
-            (subst (λ (r : List ℕ). hasTree driverCapacity s r ≡ true) (driver-row (netlist bytes) d b) (ready .trees d (driver-inside bytes d b)))
+            (ready .trees d (driver-inside bytes d b))
 
     net-none : (d : ℕ) → isDriver (recordAt bytes d .kind) ≡ false → treeSize (netlist bytes) s d ≡ 0
-    unfolding buffers
-    net-none d b = ap (fewest s) (other-row (netlist bytes) d b)
+    net-none d b =
+        sym (measured-none (netlist bytes) s d (ready .low) (no-sinks (netlist bytes) d (ready .source) b) .buffers)
 
     accepts : Accepts bytes s area
     accepts =

@@ -20,10 +20,11 @@ use Rattle.netlist.specs.Kinds.{width, mappedLimit, isDriver}
 use Rattle.netlist.specs.Records.{netlist, recordCount, recordAt}
 use Rattle.netlist.specs.Checks.{inputChecks}
 use Rattle.netlist.proofs.Records.{record-past}
+use Rattle.fanout.specs.Nets.{treeSize}
 use Rattle.mapper.specs.declared.trees.Sizing.{Sizing}
 use Rattle.mapper.specs.declared.trees.Sizing.the-variants.{Total, Stops}
 use Rattle.mapper.specs.declared.Ends.{Ends}
-use Rattle.mapper.specs.Mapped.{treeSize, blockStart, mappedSize}
+use Rattle.mapper.specs.Mapped.{blockStart, mappedSize}
 use Rattle.mapper.specs.Answer.{treeCheck, treesBelow, treeChecks, tooLarge, sourceMaps}
 use Rattle.mapper.specs.Chains.{sizingOf, Counted, Mappable}
 use Rattle.mapper.specs.View.{noEnds, ownEnds, endsOf, blockEnds, between}

@@ -10,8 +10,9 @@ use Rattle.netlist.specs.declared.Record.{Record}
 use Rattle.netlist.specs.Kinds.{width, slots}
 use Rattle.facts.specs.Lists.{tabulate}
 use Rattle.netlist.specs.Records.{netlist, used, fanin}
+use Rattle.fanout.specs.Nets.{fewestInAll}
 use Rattle.mapper.specs.Bytes.{encoded, bytesOf, put, withRecords, onto}
-use Rattle.mapper.specs.Mapped.{bufferTotal, mappedSize, sinkParent, rewired, mappedAt, mapped, Ready}
+use Rattle.mapper.specs.Mapped.{mappedSize, sinkParent, rewired, mappedAt, mapped, Ready}
 use Rattle.mapper.specs.Chains.{Hung, relinkedAt}
 use Rattle.mapper.proofs.Mapped.{at-source}
 use Rattle.mapper.proofs.Nodes.{pos}
@@ -56,14 +57,14 @@ module _ (bytes : List ℕ) (s : ℕ) (first parents : List ℕ) (end : ℕ) (r 
 
   -- buffers, then the source's records: all of the mapped netlist
   pub whole-area : (area₀ area₁ area : List ℕ) → width * mappedSize (netlist bytes) s ≤ length area₀ →
-      area₁ ≡ withRecords (mapped (netlist bytes) s) (netlist bytes .size) (bufferTotal (netlist bytes) s) area₀ →
+      area₁ ≡ withRecords (mapped (netlist bytes) s) (netlist bytes .size) (fewestInAll (netlist bytes) s) area₀ →
       area ≡ put area₁ 0 (encoded (relinkedAt bytes parents) (netlist bytes .size)) → area ≡ onto (bytesOf (mapped (netlist bytes) s)) area₀
   whole-area area₀ area₁ area room f g =
       g
       ∙ ap (put area₁ 0)
       (encoded-cong _ _ (netlist bytes .size) (λ i l. new-record i l ∙ ap (mappedAt (netlist bytes) s) (from-zero i)))
       ∙ ap (withRecords (mapped (netlist bytes) s) 0 (netlist bytes .size)) f
-      ∙ records-all (mapped (netlist bytes) s) (netlist bytes .size) (bufferTotal (netlist bytes) s) area₀ (omega arith) refl
+      ∙ records-all (mapped (netlist bytes) s) (netlist bytes .size) (fewestInAll (netlist bytes) s) area₀ (omega arith) refl
     where
       from-zero : (i : ℕ) → i ≡ 0 + i
       from-zero i = omega arith

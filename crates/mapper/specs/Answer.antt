@@ -11,14 +11,14 @@ use Rattle.netlist.specs.Records.{Netlist, netlist, depth}
 use Rattle.netlist.specs.Counts.{gates}
 use Rattle.netlist.specs.Checks.{inputChecks}
 use Rattle.netlist.specs.Balance.{driverCapacity}
-use Rattle.fanout.specs.Nets.{hasTree}
+use Rattle.fanout.specs.Nets.{hasTree, row, fewestInAll}
 use Rattle.mapper.specs.declared.Mapping.{Mapping}
 use Rattle.mapper.specs.Bytes.{bytesOf, onto}
-use Rattle.mapper.specs.Mapped.{netRow, bufferTotal, mappedSize, mapped}
+use Rattle.mapper.specs.Mapped.{mappedSize, mapped}
 
 -- 8: a driver without a tree
 abbrev pub noTree : Netlist → ℕ → ℕ → Bool
-noTree n s d = not (hasTree driverCapacity s (netRow n d))
+noTree n s d = not (hasTree driverCapacity s (row n d))
 
 -- 8 of driver d
 abbrev pub treeCheck : Netlist → ℕ → ℕ → Checked
@@ -83,7 +83,7 @@ figures n bs =
 
 -- the answer that the checks leave
 abbrev pub answerOf : Checked → Netlist → ℕ → Mapping
-answerOf checks n s = outcome checks (figures n (bufferTotal n s)) refusal
+answerOf checks n s = outcome checks (figures n (fewestInAll n s)) refusal
 
 -- the area that the checks leave
 abbrev pub areaOf : Checked → Netlist → ℕ → List ℕ → List ℕ

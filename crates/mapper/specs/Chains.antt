@@ -14,7 +14,7 @@ use Rattle.netlist.specs.Kinds.{width, slots, topLevel, arity}
 use Rattle.netlist.specs.Records.{Netlist, netlist, slot, recordCount, recordAt, used, fanin, names}
 use Rattle.netlist.specs.Checks.{inputChecks}
 use Rattle.netlist.specs.Source.{IsSource}
-use Rattle.fanout.specs.Nets.{sinks, sinkAt, nodesAt}
+use Rattle.fanout.specs.Nets.{row, sinks, sinkAt, nodesAt, treeSize, fewestInAll}
 use Rattle.fanout.specs.declared.TreeTotals.{TreeTotals}
 use Rattle.mapper.specs.declared.sinks.Chain.{Chain}
 use Rattle.mapper.specs.declared.sinks.Chain.the-variants.{Empty, Short, Long}
@@ -22,7 +22,7 @@ use Rattle.mapper.specs.declared.trees.Sizing.{Sizing}
 use Rattle.mapper.specs.declared.trees.Sizing.the-variants.{Total, Stops}
 use Rattle.mapper.specs.Bytes.{withRecords}
 use Rattle.mapper.specs.Answer.{treeChecks, sourceMaps}
-use Rattle.mapper.specs.Mapped.{netRow, buffersOf, treeSize, blockStart, bufferTotal, mappedSize, parent, bufferOf, sinkParent, mapped, Ready}
+use Rattle.mapper.specs.Mapped.{buffersOf, blockStart, mappedSize, parent, bufferOf, sinkParent, mapped, Ready}
 
 -- one past the last slot
 abbrev pub slotEnd : Netlist → ℕ
@@ -101,7 +101,7 @@ ChainIs n d Long = Unit {0}
 
 -- d's net: the nodes left at distance 1, and its buffers
 pub record Measured (n : Netlist) (s d : ℕ) (t : TreeTotals) : Type 0 where
-  pub nodes : t .nodes ≡ nodesAt s (netRow n d) 1
+  pub nodes : t .nodes ≡ nodesAt s (row n d) 1
   pub buffers : t .buffers ≡ treeSize n s d
 
 -- the buffers of all trees, or check 8's refusal
@@ -120,12 +120,12 @@ pub record GrownNet (n : Netlist) (s d : ℕ) (counts : List ℕ) (top : ℕ) : 
   pub driver : d < n .size
   pub rowed : Rowed n s d counts
   pub near : top ≤ topLevel
-  pub beyond : (k : ℕ) → top < k → nodesAt s (netRow n d) k ≡ 0
+  pub beyond : (k : ℕ) → top < k → nodesAt s (row n d) k ≡ 0
 
 -- what the first node of each distance of d's tree hangs on
 pub record Based (n : Netlist) (s d : ℕ) (base : List ℕ) : Type 0 where
   pub size : length base ≡ suc topLevel
-  pub at : (k : ℕ) → 1 ≤ k → 0 < nodesAt s (netRow n d) k → getD base k 0 ≡ parent n s d k 0
+  pub at : (k : ℕ) → 1 ≤ k → 0 < nodesAt s (row n d) k → getD base k 0 ≡ parent n s d k 0
 
 -- what slot y hangs on
 abbrev pub onParent : Netlist → ℕ → ℕ → ℕ
@@ -167,7 +167,7 @@ pub record Hangable (n : Netlist) (s d : ℕ) (first next : List ℕ) (end : ℕ
 -- the row of d's net once its sinks are hung: the nodes at each distance
 pub record Noded (n : Netlist) (s d : ℕ) (counts : List ℕ) : Type 0 where
   pub size : length counts ≡ suc topLevel
-  pub at : (k : ℕ) → 1 ≤ k → k ≤ topLevel → getD counts k 0 ≡ nodesAt s (netRow n d) k
+  pub at : (k : ℕ) → 1 ≤ k → k ≤ topLevel → getD counts k 0 ≡ nodesAt s (row n d) k
 
 -- how far behind the parent of the first node of distance k that of node q stands: at distance 1 all hang on the driver
 unfoldable pub behind : ℕ → ℕ → ℕ → ℕ
@@ -217,7 +217,7 @@ pub record Counted (bytes : List ℕ) (s size : ℕ) (first next : List ℕ) (en
   pub trees : treeChecks (netlist bytes) s ≡ Passed
   pub chained : Chained (netlist bytes) first next 0 end
   pub records : size ≡ recordCount bytes
-  pub buffers : total ≡ bufferTotal (netlist bytes) s
+  pub buffers : total ≡ fewestInAll (netlist bytes) s
 
 -- a source whose trees are counted and that is not too large; capacity and trees follow from `maps`
 pub record Mappable (bytes : List ℕ) (s size : ℕ) (first next : List ℕ) (end : ℕ) : Type 0 where

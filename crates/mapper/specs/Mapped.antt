@@ -2,43 +2,31 @@
 use Prim.Native.Nat.{ℕ, zero, suc, _+_, _-_, _≤_, _<_, _/_}
 use mathlib.Core.Path.{_≡_}
 use mathlib.Core.Bool.{Bool, true, cond}
-use mathlib.Core.List.{List, [], _∷_}
+use mathlib.Core.List.{_∷_}
 use lib.ListN.{replicate}
 use lib.Dec.{ltb}
 use Rattle.facts.specs.Sums.{sum, count, count₂}
 use Rattle.facts.specs.Blocks.{block}
 use Rattle.facts.specs.Lists.{tabulate}
 use Rattle.netlist.specs.declared.Record.{Record}
-use Rattle.netlist.specs.Kinds.{slots, unused, topLevel, mappedLimit, buffer, isDriver}
+use Rattle.netlist.specs.Kinds.{slots, unused, topLevel, mappedLimit, buffer}
 use Rattle.netlist.specs.Records.{Netlist, blank, used, fanin}
 use Rattle.netlist.specs.Source.{IsSource}
 use Rattle.netlist.specs.Balance.{driverCapacity}
-use Rattle.fanout.specs.Nets.{row, sinkAt, buffersAt, hasTree, fewest}
-
--- the row of d's net; only drivers have one
-unfoldable pub netRow : Netlist → ℕ → List ℕ
-netRow n d = cond (isDriver (n .at d .kind)) (row n d) []
+use Rattle.fanout.specs.Nets.{row, sinkAt, buffersAt, hasTree, treeSize, fewestInAll}
 
 -- the buffers of d's tree at distance k; at 0 stands the driver
 unfoldable pub buffersOf : Netlist → ℕ → ℕ → ℕ → ℕ
 buffersOf n s d zero = 0
-buffersOf n s d (suc k) = buffersAt s (netRow n d) (suc k)
-
--- the buffers of d's whole tree
-abbrev pub treeSize : Netlist → ℕ → ℕ → ℕ
-treeSize n s d = fewest s (netRow n d)
+buffersOf n s d (suc k) = buffersAt s (row n d) (suc k)
 
 -- the index of the first buffer of d's block: the source and the trees of all drivers before d stand before it
 abbrev pub blockStart : Netlist → ℕ → ℕ → ℕ
 blockStart n s d = n .size + sum (treeSize n s) d
 
--- the buffers of all trees
-abbrev pub bufferTotal : Netlist → ℕ → ℕ
-bufferTotal n s = sum (treeSize n s) (n .size)
-
 -- M, the number of records
 abbrev pub mappedSize : Netlist → ℕ → ℕ
-mappedSize n s = n .size + bufferTotal n s
+mappedSize n s = n .size + fewestInAll n s
 
 -- the index of buffer j of d's tree at distance k
 abbrev pub place : Netlist → ℕ → ℕ → ℕ → ℕ → ℕ
@@ -108,5 +96,5 @@ pub record Ready (n : Netlist) (s : ℕ) : Type 0 where
   pub source : IsSource n
   pub low : 2 ≤ s
   pub high : s ≤ 4
-  pub trees : (d : ℕ) → d < n .size → hasTree driverCapacity s (netRow n d) ≡ true
+  pub trees : (d : ℕ) → d < n .size → hasTree driverCapacity s (row n d) ≡ true
   pub fits : mappedSize n s ≤ mappedLimit

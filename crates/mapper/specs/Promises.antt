@@ -14,8 +14,9 @@ use Rattle.netlist.specs.Refusals.{InputFails}
 use Rattle.netlist.specs.Balance.{driverCapacity}
 use Rattle.fanout.specs.Trees.{netOf}
 use Rattle.fanout.specs.Promises.{NoLegalTree, LeastTree}
+use Rattle.fanout.specs.Nets.{treeSize, fewestInAll}
 use Rattle.mapper.specs.Bytes.{recs}
-use Rattle.mapper.specs.Mapped.{treeSize, blockStart, bufferTotal, mappedSize, mapped}
+use Rattle.mapper.specs.Mapped.{blockStart, mappedSize, mapped}
 use Rattle.mapper.specs.Answer.{refusal, sourceMaps, mapChecks, mapAnswer, mapArea}
 use Rattle.mapper.specs.View.{blockView}
 
@@ -68,7 +69,7 @@ pub record Accepts (bytes : List ℕ) (s : ℕ) (area : List ℕ) : Type 0 where
   -- the buffers answered are the records of kind 5 written ..
   pub kinds : mapAnswer bytes s area .buffers ≡ count (λ i. eqb (mapped (netlist bytes) s .at i .kind) buffer) (mapped (netlist bytes) s .size)
   -- .. and the sum of the fewest buffers of all nets
-  pub fewest : mapAnswer bytes s area .buffers ≡ bufferTotal (netlist bytes) s
+  pub fewest : mapAnswer bytes s area .buffers ≡ fewestInAll (netlist bytes) s
   -- each net's being the least number of buffers of a legal tree
   pub least : (d : ℕ) → isDriver (recordAt bytes d .kind) ≡ true →
       LeastTree driverCapacity s (netOf (netlist bytes) d) (treeSize (netlist bytes) s d)

@@ -6,7 +6,7 @@ ghost use Rattle.facts.specs.Sums.{sum};
 ghost use Rattle.netlist.specs.Kinds.{slots, topLevel};
 ghost use Rattle.netlist.specs.Records.{netlist, recordCount};
 ghost use Rattle.netlist.specs.Checks.{inputChecks};
-ghost use Rattle.mapper.specs.Mapped.{treeSize, bufferTotal};
+ghost use Rattle.fanout.specs.Nets.{treeSize, fewestInAll};
 ghost use Rattle.mapper.specs.Answer.{treesBelow, treeChecks};
 ghost use Rattle.mapper.specs.Chains.{Linked, Chained, Measured, sizingOf};
 ghost use Rattle.facts.specs.declared.Checked.{Checked};
@@ -102,7 +102,7 @@ pub(crate) fn size_trees(
     requires { ⌜ end ≡ slots * n ⌝ }
     requires { ⌜ Linked (netlist (now source)) (now first) (now next) (slots * n) ⌝ }
     requires { ⌜ now row ≡ replicate (suc topLevel) 0 ⌝ }
-    ensures { λ r. ⌜ r ≡ sizingOf (treeChecks (netlist (now (source .entry))) s) (bufferTotal (netlist (now (source .entry))) s) ⌝ }
+    ensures { λ r. ⌜ r ≡ sizingOf (treeChecks (netlist (now (source .entry))) s) (fewestInAll (netlist (now (source .entry))) s) ⌝ }
     ensures { λ _. ⌜ Chained (netlist (now (source .entry))) (now (first .exit)) (now (next .exit)) 0 end ⌝ }
     ensures { λ _. ⌜ now (row .exit) ≡ replicate (suc topLevel) 0 ⌝ }
 {

@@ -19,8 +19,9 @@ use Rattle.verifier.specs.Legal.{Traces}
 use Rattle.verifier.specs.Trace.{driver}
 use Rattle.verifier.specs.Fewest.{onNet}
 use Rattle.verifier.proofs.Trace.{traces-driver}
+use Rattle.fanout.specs.Nets.{treeSize}
 use Rattle.mapper.specs.Bytes.{recs}
-use Rattle.mapper.specs.Mapped.{Ready, treeSize, blockStart, mappedSize, bufferRecord, mapped}
+use Rattle.mapper.specs.Mapped.{Ready, blockStart, mappedSize, bufferRecord, mapped}
 use Rattle.mapper.proofs.Mapped.{within-tree, placed}
 use Rattle.mapper.proofs.Nodes.{pos, kind-kept, parent-traced, buffer-node, at-placed, buffer-kind}
 use Rattle.mapper.proofs.Promises.{block-written}

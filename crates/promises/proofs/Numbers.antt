@@ -14,7 +14,6 @@ use Rattle.netlist.specs.Records.{netlist}
 use Rattle.netlist.specs.Refusals.{SourceFails}
 use Rattle.netlist.specs.Counts.{bufferCount}
 use Rattle.netlist.proofs.Refusals.{source-rows, input-numbered}
-use Rattle.verifier.specs.declared.Verified.the-variants as verified
 use Rattle.verifier.specs.Refusals.{VerifyFails}
 use Rattle.verifier.specs.Checks.{verifyChecks, verifyAnswer, verifiedNumbers}
 use Rattle.verifier.proofs.Accepted.{checks-passed}
@@ -30,6 +29,7 @@ use Rattle.promises.specs.Written.{Maps}
 use Rattle.promises.specs.Numbers.{AnsweredExactly, TwoNumbers, Figures, MapNumbers, VerifyNumbers, NumbersExact}
 use Rattle.promises.proofs.Written.{map-numbered, maps-passed}
 use Rattle.promises.proofs.Figures.{figures-hold, figures-same}
+use Rattle.verifier.specs.declared.Verified.the-variants as verified
 
 area-numbered : (Bad : Type 0) (row : List ℕ) → Numbered (AreaFails Bad row)
 area-numbered Bad row number place = ⊎-elim (λ f. omega (arith, f .0)) (λ z. omega (arith, z .2 .0))

@@ -2,29 +2,19 @@
 use Prim.Native.Nat.{ℕ, _≤_, _<_}
 use native.Mathlib.Decide.{decLt}
 use native.Mathlib.Omega.{arith}
-use mathlib.Core.Path.{_≡_, refl, sym, subst, _∙_}
+use mathlib.Core.Path.{_≡_, refl, sym, subst}
 use borrow.Author.Tests.{ne-eqb, eq-eqb}
-use Rattle.facts.specs.Sums.{sum}
-use Rattle.facts.proofs.Sums.{sum-cong}
 use Rattle.netlist.specs.Kinds.{buffer, arity}
 use Rattle.netlist.specs.Records.{Netlist, fanin, feeds}
-use Rattle.netlist.specs.Source.{IsSource}
 use Rattle.netlist.specs.Balance.{capacityOf}
 use Rattle.netlist.specs.Counts.{bufferCount}
 use Rattle.netlist.proofs.Source.{no-buffer}
-use Rattle.fanout.specs.Nets.{row, fewest}
 use Rattle.verifier.specs.Legal.{Legal, Kept, Traces}
-use Rattle.mapper.specs.Mapped.{Ready, treeSize, mappedSize, mappedAt, mapped}
-use Rattle.promises.specs.Written.{fewestInAll}
+use Rattle.mapper.specs.Mapped.{Ready, mappedSize, mappedAt, mapped}
+use Rattle.fanout.specs.Nets.{fewestInAll}
 use Rattle.mapper.proofs.Mapped.{placed}
 use Rattle.mapper.proofs.Nodes.{pos, kind-kept, inversion-kept, level-kept, slot-kept, named, no-output, balanced, traced, buffer-kind, buffer-inversion, buffer-low, buffer-empty}
-use Rattle.mapper.proofs.Measuring.{net-buffers}
 use Rattle.mapper.proofs.Feeds.{driver-feeds, buffer-feeds, buffer-count}
-
--- an output drives nothing, so its row asks for no buffer
-pub trees-fewest : (n : Netlist) (s : ℕ) → IsSource n → 0 < s → sum (treeSize n s) (n .size) ≡ fewestInAll n s
-trees-fewest n s source p =
-    sum-cong (treeSize n s) (λ d. fewest s (row n d)) (n .size) (λ d l. net-buffers n s d 1 source p l)
 
 module _ (n : Netlist) (s : ℕ) (r : Ready n s) where
   kept : (k : ℕ) → k < n .size → Kept (n .at k) (mappedAt n s k)
@@ -72,4 +62,4 @@ module _ (n : Netlist) (s : ℕ) (r : Ready n s) where
 
   pub mapped-fewest : bufferCount (mapped n s) ≡ fewestInAll n s
   unfolding bufferCount
-  mapped-fewest = buffer-count n s r ∙ trees-fewest n s (r .source) (pos n s r)
+  mapped-fewest = buffer-count n s r

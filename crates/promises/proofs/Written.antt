@@ -4,7 +4,6 @@ use Prim.Native.Nat.{ℕ, _*_, _-_, _<_}
 use native.Mathlib.Omega.{arith}
 use mathlib.Core.Path.{_≡_, refl, sym, ap, _∙_}
 use mathlib.Core.Bool.{not}
-use lib.Dec.{leb}
 use mathlib.Core.Logic.{⊎-elim}
 use mathlib.Core.List.{List}
 use lib.ListN.{length, drop}
@@ -18,7 +17,6 @@ use Rattle.netlist.specs.Kinds.{width, mappedLimit}
 use Rattle.netlist.specs.Records.{Netlist, netlist, recordCount}
 use Rattle.netlist.specs.Source.{Source}
 use Rattle.netlist.specs.Checks.{inputChecks}
-use Rattle.netlist.specs.Balance.{driverCapacity}
 use Rattle.netlist.specs.Counts.{bufferCount}
 use Rattle.netlist.proofs.Refusals.{input-numbered}
 use Rattle.netlist.proofs.Source.{input-passed}
@@ -27,7 +25,6 @@ use Rattle.mapper.specs.Bytes.{bytesOf}
 use Rattle.mapper.specs.Answer.{treeChecks, treeCheck, noTree, tooLarge, sourceMaps, mapChecks, answerOf, mapAnswer, mapArea}
 use Rattle.mapper.specs.Promises.{MapFails}
 use Rattle.mapper.proofs.Promises.{maps-ready, map-exact}
-use Rattle.mapper.proofs.Measuring.{net-nodes}
 use Rattle.mapper.proofs.Area.{length-recs}
 use Rattle.mapper.proofs.Written.{mapped-read}
 use Rattle.verifier.specs.Checks.{verifyChecks}
@@ -36,7 +33,7 @@ use Rattle.verifier.proofs.Balance.{accepted-balanced}
 use Rattle.verifier.proofs.Fewest.{none-accepted-fewer}
 use Rattle.verifier.proofs.Least.{least-everywhere}
 use Rattle.promises.specs.Written.{Maps, written, WrittenLegal, WrittenBalanced, WrittenAccepted, WrittenLeast, BuffersOneNumber, BeyondKept, MapsWhereAccepted}
-use Rattle.promises.proofs.Ready.{trees-fewest, mapped-legal, mapped-fewest}
+use Rattle.promises.proofs.Ready.{mapped-legal, mapped-fewest}
 
 -- what passing 1 to 9 gives
 pub record Mapped (source : List ℕ) (s : ℕ) : Type 0 where
@@ -152,7 +149,7 @@ maps-where-accepted source s other buffers e =
     then-passed (inputChecks s source) _ .1 (
       then-passed (inputChecks s source) _ .0 (checks-passed source s other .1 a) .0,
       then-passed (treeChecks n s) _ .1 (
-        scan-passed (treeCheck n s) (n .size) .1 (λ d l. check-passed 8 d (noTree n s d) .1 (ap not (ap (λ (x : ℕ). leb x driverCapacity) (net-nodes n s d 1 (a .isSource .isSource) p l) ∙ few .trees d l))),
-        check-passed 9 0 (tooLarge n s) .1 (le-ltb mappedLimit (mappedSize n s) (omega (arith, trees-fewest n s (a .isSource .isSource) p, few .fits))),
+        scan-passed (treeCheck n s) (n .size) .1 (λ d l. check-passed 8 d (noTree n s d) .1 (ap not (few .trees d l))),
+        check-passed 9 0 (tooLarge n s) .1 (le-ltb mappedLimit (mappedSize n s) (omega (arith, few .fits))),
       ),
     )

@@ -20,7 +20,7 @@ use Rattle.simulator.specs.Evaluate.{evaluateAnswer}
 use Rattle.simulator.specs.Step.{stepAnswer}
 use Rattle.simulator.specs.Run.{runAnswer}
 use Rattle.simulator.specs.Refusals.{EvaluateFails, StepFails, RunFails}
-use Rattle.promises.specs.Written.{fewestInAll}
+use Rattle.fanout.specs.Nets.{fewestInAll}
 
 -- these numbers, whose first is a refusal's and all after the place are 0, are answered exactly where that check is the first
 abbrev pub AnsweredExactly : Conditions → List ℕ → (ℕ → ℕ → List ℕ) → Type 0

@@ -4,21 +4,16 @@ use mathlib.Core.Path.{_≡_}
 use mathlib.Core.List.{List}
 use lib.ListN.{take, drop}
 use Rattle.facts.specs.declared.Checked.the-variants.{Passed}
-use Rattle.facts.specs.Sums.{sum}
 use Rattle.netlist.specs.Kinds.{width}
-use Rattle.netlist.specs.Records.{Netlist, netlist, recordCount}
+use Rattle.netlist.specs.Records.{netlist, recordCount}
 use Rattle.netlist.specs.Balance.{PathBalanced, ProperlyBranched}
 use Rattle.netlist.specs.Counts.{bufferCount}
-use Rattle.fanout.specs.Nets.{row, fewest}
+use Rattle.fanout.specs.Nets.{fewestInAll}
 use Rattle.mapper.specs.Answer.{sourceMaps, mapAnswer, mapArea}
 use Rattle.verifier.specs.declared.Verified.the-variants.{Buffers}
 use Rattle.verifier.specs.Checks.{verifyAnswer}
 use Rattle.verifier.specs.Accepted.{Accepted}
 use Rattle.verifier.specs.Fewest.{NoMore}
-
--- the fewest buffers of all nets
-abbrev pub fewestInAll : Netlist → ℕ → ℕ
-fewestInAll n s = sum (λ d. fewest s (row n d)) (n .size)
 
 -- the mapper accepts source, capacity and area
 abbrev pub Maps : List ℕ → ℕ → List ℕ → Type 0

@@ -21,7 +21,7 @@ use Rattle.netlist.specs.Balance.{driverCapacity}
 use Rattle.netlist.specs.Counts.{isBuffer, bufferCount}
 use Rattle.netlist.proofs.Source.{no-buffer}
 use Rattle.netlist.proofs.Balance.{buffer-slot, buffer-named}
-use Rattle.fanout.specs.Nets.{sinkAt, sinks, row, nodesAt, buffersAt, hasTree, fewest}
+use Rattle.fanout.specs.Nets.{sinkAt, sinks, row, nodesAt, buffersAt, hasTree, treeSize, fewestInAll}
 use Rattle.fanout.proofs.Nets.{minimal, minimal-nodes, fewest-sum, row-length, row-at}
 use Rattle.verifier.specs.Legal.{Legal, Traces}
 use Rattle.verifier.specs.Trace.{driver}
@@ -296,7 +296,7 @@ module _ (n : Netlist) (s : ℕ) (m : Netlist) (source : IsSource n) (legal : Le
           (λ h. omega arith))
       same k x a false e = rw e
 
-  pub on-nets : (d : ℕ) → 0 < s → d < n .size → fewest s (row n d) ≤ buffersOn m d
+  pub on-nets : (d : ℕ) → 0 < s → d < n .size → treeSize n s d ≤ buffersOn m d
   on-nets d p l =
       omega (
         arith,
@@ -330,11 +330,11 @@ module _ (n : Netlist) (s : ℕ) (m : Netlist) (source : IsSource n) (legal : Le
       (n .size)
       (λ x a h. driver-place (fanin m x 0) (buffer-named m (legal .named) x a (eqb-true _ buffer h)))
 
-  pub in-all : 0 < s → sum (λ d. fewest s (row n d)) (n .size) ≤ bufferCount m
+  pub in-all : 0 < s → fewestInAll n s ≤ bufferCount m
   in-all p =
       omega (
         arith,
-        sum-mono (λ d. fewest s (row n d)) (buffersOn m) (n .size) (λ d l. on-nets d p l),
+        sum-mono (treeSize n s) (buffersOn m) (n .size) (λ d l. on-nets d p l),
         nets-sum,
       )
 

@@ -5,24 +5,23 @@ use native.Mathlib.Decide.{decLt}
 use native.Mathlib.Omega.{arith}
 use mathlib.Core.Path.{_≡_, subst}
 use borrow.Author.Tests.{eqb-true}
-use Rattle.facts.specs.Sums.{sum}
 use Rattle.facts.proofs.Bools.{and-l, and-r}
 use Rattle.facts.proofs.Sums.{count-none, tight}
 use Rattle.netlist.specs.Kinds.{topLevel}
 use Rattle.netlist.specs.Records.{Netlist}
 use Rattle.netlist.specs.Source.{IsSource}
 use Rattle.netlist.specs.Counts.{bufferCount}
-use Rattle.fanout.specs.Nets.{row, buffersAt, fewest}
+use Rattle.fanout.specs.Nets.{row, buffersAt, treeSize, fewestInAll}
 use Rattle.fanout.proofs.Nets.{fewest-sum, row-length}
 use Rattle.verifier.specs.Legal.{Legal}
 use Rattle.verifier.specs.Fewest.{onNet, onNetAt, buffersOn, buffersOnAt, LeastEverywhere}
 use Rattle.verifier.proofs.Fewest.{above, at-levels, on-nets, in-all, levels-sum, nets-sum}
 
 module _ (n : Netlist) (s : ℕ) (m : Netlist) (p : 0 < s) (source : IsSource n) (legal : Legal n s m)
-    (few : bufferCount m ≤ sum (λ d. fewest s (row n d)) (n .size)) where
-  net-least : (d : ℕ) → d < n .size → buffersOn m d ≤ fewest s (row n d)
+    (few : bufferCount m ≤ fewestInAll n s) where
+  net-least : (d : ℕ) → d < n .size → buffersOn m d ≤ treeSize n s d
   net-least =
-      tight (λ d. fewest s (row n d)) (buffersOn m) (n .size) (λ d l. on-nets n s m source legal d p l)
+      tight (treeSize n s) (buffersOn m) (n .size) (λ d l. on-nets n s m source legal d p l)
       (omega (arith, nets-sum n s m source legal))
 
   level-least : (d k : ℕ) → d < n .size → k < topLevel → buffersOnAt m d (n .at d .level + suc k) ≤ buffersAt s (row n d) (suc k)

@@ -5,13 +5,13 @@ use mathlib.Core.Bool.{Bool, true, _&&_}
 use mathlib.Core.Logic.{_↔_}
 use mathlib.Core.List.{List}
 use lib.Dec.{eqb}
-use Rattle.facts.specs.Sums.{sum, count}
+use Rattle.facts.specs.Sums.{count}
 use Rattle.netlist.specs.Kinds.{buffer}
 use Rattle.netlist.specs.Records.{Netlist, netlist, fanin}
 use Rattle.netlist.specs.Source.{IsSource}
 use Rattle.netlist.specs.Balance.{driverCapacity}
 use Rattle.netlist.specs.Counts.{isBuffer, bufferCount}
-use Rattle.fanout.specs.Nets.{row, buffersAt, hasTree, fewest}
+use Rattle.fanout.specs.Nets.{row, buffersAt, hasTree, treeSize, fewestInAll}
 use Rattle.verifier.specs.declared.Verified.the-variants.{Buffers}
 use Rattle.verifier.specs.Legal.{Legal, Traces}
 use Rattle.verifier.specs.Trace.{driver}
@@ -42,10 +42,10 @@ OnNetExactly =
 pub record NoFewer (n : Netlist) (s : ℕ) (m : Netlist) : Type 0 where
   pub trees : (d : ℕ) → d < n .size → hasTree driverCapacity s (row n d) ≡ true
   pub atLevels : (d k : ℕ) → d < n .size → 1 ≤ k → buffersAt s (row n d) k ≤ buffersOnAt m d (n .at d .level + k)
-  pub onNets : (d : ℕ) → d < n .size → fewest s (row n d) ≤ buffersOn m d
-  pub inAll : sum (λ d. fewest s (row n d)) (n .size) ≤ bufferCount m
+  pub onNets : (d : ℕ) → d < n .size → treeSize n s d ≤ buffersOn m d
+  pub inAll : fewestInAll n s ≤ bufferCount m
   -- a netlist with the fewest buffers on every net has no more records
-  pub fits : n .size + sum (λ d. fewest s (row n d)) (n .size) ≤ m .size
+  pub fits : n .size + fewestInAll n s ≤ m .size
 
 -- of every legal mapped netlist
 abbrev pub NoneFewer : Type 0
@@ -68,5 +68,5 @@ pub record NoMore (n m other : Netlist) : Type 0 where
 abbrev pub LeastEverywhere : Type 0
 LeastEverywhere =
     (n : Netlist) (s : ℕ) (m other : Netlist) → 0 < s → IsSource n → Legal n s m → Legal n s other →
-    bufferCount m ≤ sum (λ d. fewest s (row n d)) (n .size) →
+    bufferCount m ≤ fewestInAll n s →
     NoMore n m other
