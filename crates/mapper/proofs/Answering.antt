@@ -11,25 +11,23 @@ use borrow.Author.Tests.{eq-eqb, ne-eqb, lt-ltb, le-ltb, not-false}
 use Rattle.facts.specs.declared.Checked.{Checked}
 use Rattle.facts.specs.declared.Checked.the-variants.{Passed, Refused}
 use Rattle.facts.specs.Checks.{check, _andThen_}
-use Rattle.facts.specs.Sums.{sum}
 use Rattle.facts.proofs.Sums.{count-le}
 use Rattle.facts.proofs.Reflect.{check-passed, scan-passed}
-use Rattle.netlist.specs.Kinds.{width, slots, sourceLimit, mappedLimit, isGate}
+use Rattle.netlist.specs.Kinds.{width, sourceLimit, mappedLimit, isGate}
 use Rattle.netlist.specs.Records.{Netlist, netlist, recordCount, depth}
 use Rattle.netlist.specs.Checks.{inputChecks}
-use Rattle.netlist.specs.Source.{IsSource}
 use Rattle.netlist.specs.Counts.{gates}
-use Rattle.netlist.proofs.Source.{input-passed}
-use Rattle.fanout.specs.Nets.{treeSize, fewestInAll}
+use Rattle.fanout.specs.Nets.{fewestInAll}
 use Rattle.mapper.specs.declared.Mapping.{Mapping}
 use Rattle.mapper.specs.Bytes.{bytesOf, onto}
 use Rattle.mapper.specs.Mapped.{mappedSize, mapped, Ready}
-use Rattle.mapper.specs.Answer.{gatePrice, bufferPrice, share, junctions, figures, answerOf, areaOf, refusal, noTree, treeCheck, treesBelow, treeChecks, tooLarge, tooShort, sourceMaps, mapChecks, mapAnswer, mapArea}
-use Rattle.mapper.specs.declared.trees.Sizing.{Sizing}
-use Rattle.mapper.specs.declared.trees.Sizing.the-variants.{Total, Stops}
-use Rattle.mapper.specs.Chains.{Linked, Chained, Hung, sizingOf, Counted}
-use Rattle.mapper.proofs.Chains.{chained-all}
-use Rattle.mapper.proofs.Counting.{total-small, refusing, counting}
+use Rattle.mapper.specs.Answer.{gatePrice, bufferPrice, share, junctions, figures, answerOf, areaOf, refusal, tooLarge, tooShort, sourceMaps, mapChecks, mapAnswer, mapArea}
+use Rattle.nets.specs.Checks.{treeCheck, treeChecks, noTree}
+use Rattle.nets.specs.declared.trees.Sizing.{Sizing}
+use Rattle.nets.specs.declared.trees.Sizing.the-variants.{Total, Stops}
+use Rattle.nets.specs.Chains.{Chained, sizingOf}
+use Rattle.mapper.specs.Writing.{Hung, Counted}
+use Rattle.nets.proofs.TreeCounts.{total-small, refusing, counting, input-source, input-capacity}
 
 -- the share, where the whole is 0 and where it is not
 pub share-none : (part whole : ℕ) → whole ≡ 0 → 0 ≡ share part whole
@@ -107,39 +105,20 @@ module _ (bytes : List ℕ) (s : ℕ) (area : List ℕ) where
     kept-tree number place total z e f =
         area-is (Refused number place) (trees-refuse number place (refusing (netlist bytes) s number place total z e f))
 
--- what 1 to 7 show
-module _ (bytes : List ℕ) (s : ℕ) (i : inputChecks s bytes ≡ Passed) where
-  pub input-source : IsSource (netlist bytes)
-  input-source = input-passed s bytes i .isSource .isSource
-
-  pub input-capacity : (2 ≤ s) × (s ≤ 4)
-  input-capacity = (input-passed s bytes i .low, input-passed s bytes i .high)
-
-  -- the chains once all slots are linked
-  module _ (N : ℕ) (size : N ≡ recordCount bytes) where
-    pub input-chained : (first next : List ℕ) (end : ℕ) → end ≡ slots * N → Linked (netlist bytes) first next 0 →
-        Chained (netlist bytes) first next 0 end
-    input-chained first next end e l =
-        chained-all (netlist bytes) first next end input-source l (e ∙ ap (λ (k : ℕ). slots * k) size)
-
-    -- the trees of all records are all trees
-    pub input-sized : (z : Sizing) → z ≡ sizingOf (treesBelow (netlist bytes) s N) (sum (treeSize (netlist bytes) s) N) →
-        z ≡ sizingOf (treeChecks (netlist bytes) s) (fewestInAll (netlist bytes) s)
-    input-sized z e =
-        e ∙ ap (λ (m : ℕ). sizingOf (treesBelow (netlist bytes) s m) (sum (treeSize (netlist bytes) s) m)) size
-
-    pub counted-all : (total : ℕ) (z : Sizing) → z ≡ sizingOf (treeChecks (netlist bytes) s) (fewestInAll (netlist bytes) s) →
-        z ≡ Total total → (first next : List ℕ) (end : ℕ) → Chained (netlist bytes) first next 0 end →
-        Counted bytes s N first next end total
-    counted-all total z e f first next end l =
-        let c = counting (netlist bytes) s (recordCount bytes) total z e f in
-        record {
-          input = i;
-          trees = c .0;
-          chained = l;
-          records = size;
-          buffers = c .1;
-        }
+-- what 1 to 8 show
+module _ (bytes : List ℕ) (s : ℕ) (i : inputChecks s bytes ≡ Passed) (N : ℕ) (size : N ≡ recordCount bytes) where
+  pub counted-all : (total : ℕ) (z : Sizing) → z ≡ sizingOf (treeChecks (netlist bytes) s) (fewestInAll (netlist bytes) s) →
+      z ≡ Total total → (first next : List ℕ) (end : ℕ) → Chained (netlist bytes) first next 0 end →
+      Counted bytes s N first next end total
+  counted-all total z e f first next end l =
+      let c = counting (netlist bytes) s (recordCount bytes) total z e f in
+      record {
+        input = i;
+        trees = c .0;
+        chained = l;
+        records = size;
+        buffers = c .1;
+      }
 
 -- what 1 to 9 show
 pub passed-ready : (bytes : List ℕ) (s : ℕ) → inputChecks s bytes ≡ Passed → treeChecks (netlist bytes) s ≡ Passed →

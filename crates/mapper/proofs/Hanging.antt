@@ -16,11 +16,12 @@ use Rattle.netlist.specs.Records.{Netlist}
 use Rattle.fanout.specs.Nets.{sinks, sinkAt, nodesAt, row, treeSize}
 use Rattle.fanout.proofs.Rows.{added-at}
 use Rattle.mapper.specs.Mapped.{buffersOf, parent, rank, sinkNumber, sinkParent, Ready}
-use Rattle.mapper.specs.Chains.{slotEnd, usedSlot, faninSlot, namesSlot, nextSink, slotDistance, sinksBelow, behind, onParent, Hangable, Noded}
+use Rattle.nets.specs.Chains.{slotEnd, usedSlot, faninSlot, namesSlot, nextSink, slotDistance, sinksBelow}
+use Rattle.mapper.specs.Writing.{behind, onParent, Hangable, Noded}
+use Rattle.nets.proofs.OneChain.{sinks-all, sinks-below, sinks-rise, sinks-more, named-above, chain-none, chain-all, chain-inside, chain-names, chain-apart, chain-near, chain-count}
 use Rattle.facts.proofs.Blocks.{block-before}
 use Rattle.mapper.proofs.Mapped.{tree-sum}
 use Rattle.mapper.proofs.Nodes.{pos, IsNode, nodes-split, source-node, parent-inside}
-use Rattle.mapper.proofs.Following.{sinks-all, sinks-below, sinks-rise, sinks-more, named-above, chain-none, chain-all, chain-inside, chain-names, chain-apart, chain-near, chain-count}
 use Rattle.mapper.proofs.Planting.{parent-from}
 use Rattle.mapper.proofs.Threading.{Threading, thread-start, thread-next, thread-more}
 

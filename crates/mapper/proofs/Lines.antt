@@ -1,86 +1,35 @@
--- Laws of nets of one or two sinks: their tree is a line, with one buffer at each distance below the largest.
+-- Laws of writing the net of one or two sinks: its line of buffers, and what its sinks hang on.
 use Prim.Native.Nat.{ℕ, zero, suc, _+_, _-_, _*_, _≤_, _<_, _/_}
 use mathlib.Core.Path.{_≡_, refl, sym, _∙_, ap}
 use mathlib.Core.List.{List}
 use native.Mathlib.Omega.{arith}
 use native.Mathlib.Decide.{decLt}
 use lib.Dec.{ltb}
-use borrow.Author.Tests.{lt-ltb, le-ltb, ltb-true}
-use Rattle.facts.specs.Sums.{bit, sum, count}
-use Rattle.facts.proofs.Sums.{sum-cong, sum-first, count-all, count-stop}
+use borrow.Author.Tests.{lt-ltb, le-ltb}
+use Rattle.facts.specs.Sums.{bit, sum}
+use Rattle.facts.proofs.Sums.{sum-first}
 use Rattle.netlist.specs.Kinds.{width, topLevel}
 use Rattle.netlist.specs.Records.{Netlist}
-use Rattle.netlist.specs.Source.{IsSource}
-use Rattle.fanout.specs.Nets.{row, buffersAt, treeSize}
-use Rattle.fanout.proofs.Nets.{nodes-at, line-row, row-at}
+use Rattle.fanout.specs.Nets.{treeSize}
 use Rattle.mapper.specs.Bytes.{encoded, put, withRecords}
 use Rattle.mapper.specs.Mapped.{buffersOf, blockStart, place, parent, bufferOf, bufferRecord, mappedAt, mapped, Ready}
-use Rattle.mapper.specs.Chains.{slotDistance, ShortChain, Measured, lineParent, lineRecord, Hooked, onParent, onLine}
+use Rattle.nets.proofs.Lines.{line-at, line-below, line-size}
+use Rattle.nets.specs.Chains.{slotDistance, ShortChain}
+use Rattle.mapper.specs.Writing.{lineParent, lineRecord, Hooked, onParent, onLine}
 use Rattle.mapper.proofs.Area.{encoded-cong}
-use Rattle.mapper.proofs.Mapped.{tree-sum, at-place}
+use Rattle.mapper.proofs.Mapped.{at-place}
 use Rattle.mapper.proofs.Nodes.{pos, IsNode, hangs, buffer-node}
-use Rattle.fanout.proofs.Rows.{row-none}
 use Rattle.mapper.proofs.Hanging.{sink-node, sink-parent, flatNumbered}
-
--- d's net of one or two sinks
-module _ (n : Netlist) (s d top atOne : ℕ) (i : IsSource n) (two : 2 ≤ s) (ld : d < n .size) (h : ShortChain n d top atOne) where
-  positive : 0 < s
-  positive = omega arith
-
-  row-line : (k : ℕ) → 1 ≤ k → buffersAt s (row n d) k ≡ bit (ltb k top)
-  row-line =
-      line-row s (row n d) top two
-      (omega (arith, row-at n d top (h .near), h .farthest))
-      (omega (arith, row-at n d top (h .near), h .few))
-      (λ k l. omega (arith, row-at n d k (omega (arith, h .near)), h .nearer k l))
-      (λ k l. row-none n d k (h .beyond k l))
-
-  line-at : (k : ℕ) → buffersOf n s d (suc k) ≡ bit (ltb (suc k) top)
-  unfolding buffersOf
-  line-at k = row-line (suc k) (omega arith)
-
-  -- buffers nearer than distance suc k
-  line-sum : (k : ℕ) → sum (buffersOf n s d) (suc k) ≡ count (λ x. ltb (suc x) top) k
-  unfolding buffersOf count
-  line-sum k =
-      omega (
-        arith,
-        sum-first (buffersOf n s d) k,
-        sum-cong (λ x. buffersOf n s d (suc x)) (λ x. bit (ltb (suc x) top)) k (λ x l. line-at x),
-      )
-
-  line-below : (k : ℕ) → k < top → sum (buffersOf n s d) (suc k) ≡ k
-  line-below k l = line-sum k ∙ count-all (λ x. ltb (suc x) top) k (λ x b. lt-ltb (suc x) top (omega arith))
-
-  pub line-size : treeSize n s d ≡ top - 1
-  line-size =
-      tree-sum n s positive d
-      ∙ line-sum topLevel
-      ∙ count-stop (λ x. ltb (suc x) top) (top - 1) topLevel (omega (arith, h .near))
-      (λ x a b. omega (arith, ltb-true (suc x) top b))
-      ∙ count-all (λ x. ltb (suc x) top) (top - 1) (λ x b. lt-ltb (suc x) top (omega arith))
-
-  pub measured-few : (x : ℕ) → x ≡ bit (ltb 1 top) → Measured n s d (record { nodes = x + atOne; buffers = top - 1 })
-  measured-few x e =
-      record {
-        nodes =
-            omega (
-              arith,
-              h .ones,
-              row-line 1 (omega arith),
-              nodes-at s (row n d) 1 positive,
-              row-at n d 1 (omega arith),
-            );
-        buffers = sym line-size;
-      }
 
 -- d's line as it is written
 module _ (n : Netlist) (s d top atOne : ℕ) (r : Ready n s) (ld : d < n .size) (h : ShortChain n d top atOne) where
-  below : (k : ℕ) → k < top → sum (buffersOf n s d) (suc k) ≡ k
-  below = line-below n s d top atOne (r .source) (r .low) ld h
-
   at : (k : ℕ) → buffersOf n s d (suc k) ≡ bit (ltb (suc k) top)
-  at = line-at n s d top atOne (r .source) (r .low) ld h
+  unfolding buffersOf
+  at k = line-at n s d top atOne (r .low) h (suc k) (omega arith)
+
+  below : (k : ℕ) → k < top → sum (buffersOf n s d) (suc k) ≡ k
+  unfolding buffersOf
+  below k l = omega (arith, sum-first (buffersOf n s d) k, line-below n s d top atOne (r .low) h k l)
 
   -- what a node hangs on
   line-node : (k q : ℕ) → IsNode n s r d k q → parent n s d k q ≡ lineParent d (blockStart n s d) k
@@ -114,7 +63,7 @@ module _ (n : Netlist) (s d top atOne : ℕ) (r : Ready n s) (ld : d < n .size) 
   line-written area =
       ap (put area (width * blockStart n s d))
       (encoded-cong _ _ (top - 1) line-record
-      ∙ ap (encoded (λ j. mappedAt n s (blockStart n s d + j))) (sym (line-size n s d top atOne (r .source) (r .low) ld h)))
+      ∙ ap (encoded (λ j. mappedAt n s (blockStart n s d + j))) (sym (line-size n s d top atOne (r .low) h)))
 
   pub line-hooked : (before after : List ℕ) → Hooked n d (onLine n d (blockStart n s d)) before after → Hooked n d (onParent n s) before after
   unfolding onLine

@@ -17,16 +17,18 @@ use Rattle.fanout.specs.Nets.{row, sinks, buffersAt, treeSize}
 use Rattle.fanout.specs.declared.TreeTotals.{TreeTotals}
 use Rattle.mapper.specs.Bytes.{encoded, put, withRecords}
 use Rattle.mapper.specs.Mapped.{buffersOf, blockStart, mappedSize, mapped, Ready}
-use Rattle.mapper.specs.Chains.{slotEnd, namesSlot, slotDistance, Stale, ShortChain, GrownNet, Hung, Hooked, onParent, onLine, lineRecord, Noded, Writable, Wrote}
+use Rattle.nets.specs.Chains.{slotEnd, namesSlot, slotDistance, ShortChain}
+use Rattle.mapper.specs.Writing.{Stale, GrownNet, Hung, Hooked, onParent, onLine, lineRecord, Noded, Writable, Wrote}
+use Rattle.nets.proofs.Lines.{line-size}
+use Rattle.nets.proofs.TreeCounts.{measured-none}
 use Rattle.mapper.proofs.Area.{records-none, records-more, records-length}
 use Rattle.facts.proofs.Blocks.{block-before}
 use Rattle.fanout.specs.Walk.{Filled, Walked}
 use Rattle.fanout.proofs.Nets.{nodes-none}
 use Rattle.mapper.proofs.Nodes.{pos}
 use Rattle.mapper.proofs.Hanging.{named-sink}
-use Rattle.mapper.proofs.Lines.{line-size, line-written, line-hooked}
+use Rattle.mapper.proofs.Lines.{line-written, line-hooked}
 use Rattle.mapper.proofs.Threading.{hung-next}
-use Rattle.mapper.proofs.Measuring.{measured-none}
 
 module _ (n : Netlist) (s d top : ℕ) (counts : List ℕ) (r : Ready n s) (f : Filled n d counts top) where
   -- after the walk the row holds the tree's buffers
@@ -104,7 +106,7 @@ module _ (n : Netlist) (s d at : ℕ) (first next : List ℕ) (end : ℕ) (count
   -- of one or two it is a line
   module _ (top atOne : ℕ) (f : ShortChain n d top atOne) where
     size : treeSize n s d ≡ top - 1
-    size = line-size n s d top atOne (w .ready .source) (w .ready .low) (w .driver) f
+    size = line-size n s d top atOne (w .ready .low) f
 
     inside : at + (top - 1) ≤ mappedSize n s
     inside = omega (arith, w .start, size, block-before (treeSize n s) d (n .size) (w .driver))

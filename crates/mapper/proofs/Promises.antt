@@ -35,11 +35,12 @@ use Rattle.mapper.specs.declared.Mapping.{Mapping}
 use Rattle.mapper.specs.Mapped.{blockStart, mappedSize, mapped, Ready}
 use Rattle.mapper.specs.View.{noEnds, ownEnds, blockEnds, between, blockView}
 use Rattle.mapper.specs.Bytes.{recs, bytesOf, onto}
-use Rattle.mapper.specs.Answer.{figures, noTree, treeCheck, treeChecks, tooLarge, tooShort, sourceMaps, mapChecks, answerOf, areaOf, mapAnswer, mapArea}
+use Rattle.mapper.specs.Answer.{figures, tooLarge, tooShort, sourceMaps, mapChecks, answerOf, areaOf, mapAnswer, mapArea}
 use Rattle.mapper.specs.Promises.{Treeless, TooLarge, TooShort, SourceMapFails, MapFails, MapExact, RefusedLeaves, Accepts, AcceptedMaps, BlockWritten, BlockNone}
-use Rattle.mapper.proofs.Answering.{input-source, input-capacity, passed-ready}
+use Rattle.mapper.proofs.Answering.{passed-ready}
 use Rattle.mapper.proofs.Area.{length-recs, recs-append}
-use Rattle.mapper.proofs.Measuring.{measured-none}
+use Rattle.nets.specs.Checks.{noTree, treeCheck, treeChecks}
+use Rattle.nets.proofs.TreeCounts.{input-source, input-capacity, measured-none}
 use Rattle.mapper.proofs.Written.{mapped-read}
 use Rattle.mapper.proofs.Feeds.{buffer-count}
 

@@ -11,9 +11,10 @@ use borrow.Author.Tests.{eq-eqb, ne-eqb}
 use Rattle.facts.proofs.Bools.{and-i, true-false}
 use Rattle.netlist.specs.Kinds.{mappedLimit}
 use Rattle.netlist.specs.Records.{Netlist}
-use Rattle.mapper.specs.Chains.{slotEnd, usedSlot, faninSlot, namesSlot, nextSink, slotDistance, Chained, Hung, Hooked, onParent, lineParent, onLine}
-use Rattle.mapper.proofs.Chains.{next-within, next-none}
-use Rattle.mapper.proofs.Following.{OnChain, chain-first, chain-start, chain-linked, chain-inside, chain-names, chain-near, chain-on, chain-less}
+use Rattle.nets.specs.Chains.{slotEnd, usedSlot, faninSlot, namesSlot, nextSink, slotDistance, Chained}
+use Rattle.mapper.specs.Writing.{Hung, Hooked, onParent, lineParent, onLine}
+use Rattle.nets.proofs.Chains.{next-within, next-none}
+use Rattle.nets.proofs.OneChain.{OnChain, chain-first, chain-start, chain-linked, chain-inside, chain-names, chain-near, chain-on, chain-less}
 
 -- d's sinks below slot p hold what f says; from p on d's chain stands
 pub record Threading (n : Netlist) (d : ℕ) (f : ℕ → ℕ) (before : List ℕ) (p : ℕ) (after : List ℕ) : Type 0 where

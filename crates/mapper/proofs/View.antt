@@ -21,15 +21,16 @@ use Rattle.netlist.specs.Records.{netlist, recordCount, recordAt}
 use Rattle.netlist.specs.Checks.{inputChecks}
 use Rattle.netlist.proofs.Records.{record-past}
 use Rattle.fanout.specs.Nets.{treeSize}
-use Rattle.mapper.specs.declared.trees.Sizing.{Sizing}
-use Rattle.mapper.specs.declared.trees.Sizing.the-variants.{Total, Stops}
+use Rattle.nets.specs.declared.trees.Sizing.{Sizing}
+use Rattle.nets.specs.declared.trees.Sizing.the-variants.{Total, Stops}
 use Rattle.mapper.specs.declared.Ends.{Ends}
 use Rattle.mapper.specs.Mapped.{blockStart, mappedSize}
-use Rattle.mapper.specs.Answer.{treeCheck, treesBelow, treeChecks, tooLarge, sourceMaps}
-use Rattle.mapper.specs.Chains.{sizingOf, Counted, Mappable}
+use Rattle.mapper.specs.Answer.{tooLarge, sourceMaps}
+use Rattle.nets.specs.Checks.{treeCheck, treesBelow, treeChecks}
+use Rattle.nets.specs.Chains.{sizingOf}
+use Rattle.mapper.specs.Writing.{Counted, Mappable}
+use Rattle.nets.proofs.TreeCounts.{input-capacity, total-small, refusing, counting}
 use Rattle.mapper.specs.View.{noEnds, ownEnds, endsOf, blockEnds, between}
-use Rattle.mapper.proofs.Answering.{input-capacity}
-use Rattle.mapper.proofs.Counting.{total-small, refusing, counting}
 
 module _ (bytes : List ℕ) (s d : ℕ) where
   ends-are : (a : Checked) → sourceMaps bytes s ≡ a → endsOf a (netlist bytes) s d ≡ blockEnds bytes s d

@@ -13,7 +13,7 @@ use Rattle.netlist.specs.Records.{netlist, used, fanin}
 use Rattle.fanout.specs.Nets.{fewestInAll}
 use Rattle.mapper.specs.Bytes.{encoded, bytesOf, put, withRecords, onto}
 use Rattle.mapper.specs.Mapped.{mappedSize, sinkParent, rewired, mappedAt, mapped, Ready}
-use Rattle.mapper.specs.Chains.{Hung, relinkedAt}
+use Rattle.mapper.specs.Writing.{Hung, relinkedAt}
 use Rattle.mapper.proofs.Mapped.{at-source}
 use Rattle.mapper.proofs.Nodes.{pos}
 use Rattle.mapper.proofs.Area.{records-all, encoded-cong}

@@ -1,35 +1,20 @@
 -- The mapper's answer (document 01, 'What each call hands back' and the table of refusals): checks 1 to 10, seven numbers, the area.
 use Prim.Native.Nat.{ℕ, _+_, _*_, _/_}
-use mathlib.Core.Bool.{Bool, cond, not}
+use mathlib.Core.Bool.{Bool, cond}
 use mathlib.Core.List.{List, [], _∷_}
 use lib.ListN.{length}
 use lib.Dec.{ltb, eqb}
 use Rattle.facts.specs.declared.Checked.{Checked}
-use Rattle.facts.specs.Checks.{check, _andThen_, outcome, unlessRefused, scan}
+use Rattle.facts.specs.Checks.{check, _andThen_, outcome, unlessRefused}
 use Rattle.netlist.specs.Kinds.{width, mappedLimit}
 use Rattle.netlist.specs.Records.{Netlist, netlist, depth}
 use Rattle.netlist.specs.Counts.{gates}
 use Rattle.netlist.specs.Checks.{inputChecks}
-use Rattle.netlist.specs.Balance.{driverCapacity}
-use Rattle.fanout.specs.Nets.{hasTree, row, fewestInAll}
+use Rattle.fanout.specs.Nets.{fewestInAll}
+use Rattle.nets.specs.Checks.{treeChecks}
 use Rattle.mapper.specs.declared.Mapping.{Mapping}
 use Rattle.mapper.specs.Bytes.{bytesOf, onto}
 use Rattle.mapper.specs.Mapped.{mappedSize, mapped}
-
--- 8: a driver without a tree
-abbrev pub noTree : Netlist → ℕ → ℕ → Bool
-noTree n s d = not (hasTree driverCapacity s (row n d))
-
--- 8 of driver d
-abbrev pub treeCheck : Netlist → ℕ → ℕ → Checked
-treeCheck n s d = check 8 d (noTree n s d)
-
--- 8 of the first m records, and of all
-abbrev pub treesBelow : Netlist → ℕ → ℕ → Checked
-treesBelow n s m = scan (treeCheck n s) 0 m
-
-abbrev pub treeChecks : Netlist → ℕ → Checked
-treeChecks n s = treesBelow n s (n .size)
 
 -- 9: too many records
 abbrev pub tooLarge : Netlist → ℕ → Bool

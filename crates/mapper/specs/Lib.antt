@@ -1,6 +1,6 @@
 pub mod Bytes
 pub mod Mapped
 pub mod Answer
-pub mod Chains
+pub mod Writing
 pub mod View
 pub mod Promises

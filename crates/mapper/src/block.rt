@@ -5,17 +5,17 @@ ghost use Rattle.netlist.specs.Records.{netlist};
 ghost use Rattle.netlist.specs.Checks.{inputChecks};
 ghost use Rattle.mapper.specs.Mapped.{blockStart};
 ghost use Rattle.mapper.specs.View.{noEnds, blockEnds};
-ghost use Rattle.mapper.specs.Chains.{Counted, Mappable};
+ghost use Rattle.mapper.specs.Writing.{Counted, Mappable};
 use crate::Ends;
 use crate::RECORDS;
 use crate::SINKS;
-use crate::sinks;
-use crate::trees;
-use crate::trees::Sizing;
 use facts::Checked;
 use fanout::DISTANCES;
 use netlist::MAPPED_LIMIT;
 use netlist::SLOTS;
+use nets::sinks;
+use nets::trees;
+use nets::trees::Sizing;
 
 // No block.
 fn no_ends() -> Ends

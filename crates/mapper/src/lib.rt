@@ -1,4 +1,4 @@
-// The mapper: checks 8 to 10 and the mapped netlist, written record by record.
+// The mapper: checks 9 and 10 and the mapped netlist, written record by record.
 ghost use mathlib.Core.Path.{_≡_};
 ghost use Prim.Native.Nat.{suc, _*_, _≤_};
 ghost use lib.ListN.{length, replicate};
@@ -8,19 +8,18 @@ ghost use Rattle.netlist.specs.Checks.{inputChecks};
 ghost use Rattle.mapper.specs.Mapped.{mapped};
 ghost use Rattle.mapper.specs.Answer.{share, refusal, figures, mapAnswer, mapArea};
 ghost use Rattle.mapper.specs.View.{blockView};
-ghost use Rattle.mapper.specs.Chains.{Counted};
+ghost use Rattle.mapper.specs.Writing.{Counted};
 use facts::Checked;
 use fanout::DISTANCES;
 use netlist::MAPPED_LIMIT;
 use netlist::SLOTS;
 use netlist::WIDTH;
-use trees::Sizing;
+use nets::sinks;
+use nets::trees;
+use nets::trees::Sizing;
 
 mod block;
-mod numbers;
 mod records;
-mod sinks;
-mod trees;
 mod writing;
 
 // Records and slots of the largest source.

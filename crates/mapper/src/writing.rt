@@ -8,12 +8,13 @@ ghost use Rattle.netlist.specs.Records.{netlist, recordCount};
 ghost use Rattle.fanout.specs.Nets.{treeSize};
 ghost use Rattle.mapper.specs.Bytes.{encoded, put, withRecords, bytesOf, onto};
 ghost use Rattle.mapper.specs.Mapped.{blockStart, mappedSize, mapped, Ready};
-ghost use Rattle.mapper.specs.Chains.{Chained, Stale, behind, levelRecord, lineParent, lineRecord, GrownNet, Based, Hung, Hooked, onParent, onLine, Hangable, Noded, Writable, Wrote};
-use crate::numbers;
+ghost use Rattle.nets.specs.Chains.{Chained};
+ghost use Rattle.mapper.specs.Writing.{Stale, behind, levelRecord, lineParent, lineRecord, GrownNet, Based, Hung, Hooked, onParent, onLine, Hangable, Noded, Writable, Wrote};
 use crate::records;
-use crate::sinks;
-use crate::sinks::Chain;
 use fanout::DISTANCES;
+use nets::numbers;
+use nets::sinks;
+use nets::sinks::Chain;
 
 // The row, all zero again: only distances up to top were touched.
 fn clear_row(top: usize, row: &mut [u32; DISTANCES])

@@ -1,8 +1,6 @@
 -- The three demands, from the theorems of the crates below and of this one.
 use Rattle.netlist.proofs.Refusals.{source-exact, input-exact}
-use Rattle.fanout.proofs.Call as net
 use Rattle.fanout.proofs.Numbers.{numbers-exactly}
-use Rattle.verifier.proofs.Refusals as verifier
 use Rattle.verifier.proofs.Fewest.{on-net-exactly}
 use Rattle.verifier.proofs.Accepted.{accepted-exactly}
 use Rattle.verifier.proofs.Balance.{accepted-balanced}
@@ -16,6 +14,8 @@ use Rattle.promises.specs.Demands.{RefusedKeeps, Demand1, Demand2, Deman
 use Rattle.promises.proofs.Written.{written-legal, written-balanced, written-accepted, written-least, beyond-kept, buffers-one-number, maps-where-accepted}
 use Rattle.promises.proofs.Block.{block-exact, block-short}
 use Rattle.promises.proofs.Numbers.{numbers-exact}
+use Rattle.fanout.proofs.Call as net
+use Rattle.verifier.proofs.Refusals as verifier
 
 pub refused-keeps : RefusedKeeps
 unfolding evaluateArea stepArea runArea runOutputs

@@ -10,6 +10,7 @@ use lib.ListN.{length, drop}
 use lib.Seq.{take-at, drop-at}
 use borrow.Author.Tests.{le-ltb}
 use Rattle.facts.specs.declared.Checked.the-variants.{Passed}
+use Rattle.nets.specs.Checks.{noTree, treeCheck, treeChecks}
 use Rattle.facts.specs.Refusals.{rowOf}
 use Rattle.facts.proofs.Refusals.{Numbered, row-positive, zero-passed}
 use Rattle.facts.proofs.Reflect.{check-passed, then-passed, scan-passed}
@@ -22,7 +23,7 @@ use Rattle.netlist.proofs.Refusals.{input-numbered}
 use Rattle.netlist.proofs.Source.{input-passed}
 use Rattle.mapper.specs.Mapped.{Ready, mappedSize, mapped}
 use Rattle.mapper.specs.Bytes.{bytesOf}
-use Rattle.mapper.specs.Answer.{treeChecks, treeCheck, noTree, tooLarge, sourceMaps, mapChecks, answerOf, mapAnswer, mapArea}
+use Rattle.mapper.specs.Answer.{tooLarge, sourceMaps, mapChecks, answerOf, mapAnswer, mapArea}
 use Rattle.mapper.specs.Promises.{MapFails}
 use Rattle.mapper.proofs.Promises.{maps-ready, map-exact}
 use Rattle.mapper.proofs.Area.{length-recs}

@@ -4,8 +4,6 @@ use mathlib.Core.Path.{_≡_}
 use mathlib.Core.List.{List}
 use Rattle.facts.specs.declared.Checked.the-variants.{Refused}
 use Rattle.netlist.specs.Refusals.{SourceExact, InputExact}
-use Rattle.fanout.specs.Promises as net
-use Rattle.verifier.specs.Refusals as verifier
 use Rattle.verifier.specs.Accepted.{AcceptedExactly}
 use Rattle.verifier.specs.Balance.{AcceptedBalanced}
 use Rattle.verifier.specs.Fewest.{OnNetExactly}
@@ -18,6 +16,8 @@ use Rattle.simulator.specs.Claims.{EvaluatorIsPlain, CallsArePlain, RunIsPlain,
 use Rattle.promises.specs.Written.{WrittenLegal, WrittenBalanced, WrittenAccepted, WrittenLeast, BeyondKept, BuffersOneNumber, MapsWhereAccepted}
 use Rattle.promises.specs.Block.{BlockExact, BlockShort}
 use Rattle.promises.specs.Numbers.{NumbersExact}
+use Rattle.fanout.specs.Promises as net
+use Rattle.verifier.specs.Refusals as verifier
 
 -- a refused evaluator, step or run leaves its areas
 pub record RefusedKeeps : Type 0 where

@@ -1,6 +1,6 @@
 -- `map_source` meets its contract: the arrays are long enough.
-use Rattle.mapper.proofs.Answering.{input-source}
-use Rattle.mapper.proofs.Chains.{records-few, slots-few}
+use Rattle.nets.proofs.TreeCounts.{input-source}
+use Rattle.nets.proofs.Chains.{records-few, slots-few}
 use borrow.Author.Needs.{needs}
 use Rattle.mapper.proofs.map_source.Statement.{statement}
 use Rattle.mapper.proofs.map_source.Tie as tie

@@ -1,6 +1,7 @@
 -- `map_with` meets its contract: the chains, the trees, then 8 or what follows it.
-use Rattle.mapper.proofs.Answering.{input-source, counted-all, refused-tree, kept-tree}
-use Rattle.mapper.proofs.Chains.{end-fits, link-start}
+use Rattle.mapper.proofs.Answering.{counted-all, refused-tree, kept-tree}
+use Rattle.nets.proofs.TreeCounts.{input-source}
+use Rattle.nets.proofs.Chains.{end-fits, link-start}
 use borrow.Author.Needs.{needs}
 use Rattle.mapper.proofs.map_with.Statement.{statement}
 use Rattle.mapper.proofs.map_with.Tie as tie

@@ -1,6 +1,7 @@
 -- `source_ends` meets its contract: the chains, the trees, then 8 or what follows it.
-use Rattle.mapper.proofs.Answering.{input-source, counted-all}
-use Rattle.mapper.proofs.Chains.{records-few, slots-few, end-fits, link-start}
+use Rattle.mapper.proofs.Answering.{counted-all}
+use Rattle.nets.proofs.TreeCounts.{input-source}
+use Rattle.nets.proofs.Chains.{records-few, slots-few, end-fits, link-start}
 use Rattle.mapper.proofs.View.{ends-tree}
 use borrow.Author.Needs.{needs}
 use Rattle.mapper.proofs.block.source_ends.Statement.{statement}

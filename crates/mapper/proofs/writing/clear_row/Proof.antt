@@ -1,6 +1,6 @@
 -- `clear_row` meets its contract: entries below k are zero, and those beyond top.
 use Prim.Native.Nat.{suc, _-_}
-use Rattle.mapper.proofs.Measuring.{Clearing, clear-start, clear-room, clear-more, clear-end}
+use Rattle.mapper.proofs.ClearedRow.{Clearing, clear-start, clear-room, clear-more, clear-end}
 use borrow.Author.Needs.{needs}
 use Rattle.mapper.proofs.writing.clear_row.Statement.{statement}
 use Rattle.mapper.proofs.writing.clear_row.Tie as tie

@@ -2,8 +2,8 @@
 use Prim.Native.Nat.{_-_}
 use mathlib.Core.Path.{_≡_}
 use Rattle.netlist.specs.Records.{netlist, recordAt}
-use Rattle.mapper.specs.Chains.{onLine}
-use Rattle.mapper.proofs.Following.{first-inside, distance-is, chain-above}
+use Rattle.mapper.specs.Writing.{onLine}
+use Rattle.nets.proofs.OneChain.{first-inside, distance-is, chain-above}
 use Rattle.mapper.proofs.Threading.{Threading, thread-start, thread-reach, thread-inside, thread-less, thread-more, thread-end, driver-fits, line-hung}
 use borrow.Author.Needs.{needs}
 use Rattle.mapper.proofs.writing.hang_line.Statement.{statement}

@@ -2,7 +2,7 @@
 use Prim.Native.Nat.{_-_}
 use mathlib.Core.Path.{_≡_}
 use Rattle.netlist.specs.Records.{netlist, recordAt}
-use Rattle.mapper.proofs.Following.{first-inside, distance-is, chain-above, chain-near}
+use Rattle.nets.proofs.OneChain.{first-inside, distance-is, chain-above, chain-near}
 use Rattle.mapper.proofs.Threading.{thread-inside, thread-less, thread-end}
 use Rattle.mapper.proofs.Hanging.{Hanging, hang-start, hang-parent, hang-fits, hang-more, hang-noded}
 use borrow.Author.Needs.{needs}

@@ -1,6 +1,6 @@
 -- `write_level` meets its contract: the first j buffers are written.
 use Prim.Native.Nat.{_-_}
-use Rattle.mapper.specs.Chains.{levelRecord}
+use Rattle.mapper.specs.Writing.{levelRecord}
 use Rattle.mapper.proofs.Joining.{Joining, join-start, join-room, join-end, level-parent, level-more}
 use borrow.Author.Needs.{needs}
 use Rattle.mapper.proofs.writing.write_level.Statement.{statement}

@@ -1,5 +1,5 @@
 -- `write_net` meets its contract: no sink, a line, or a tree.
-use Rattle.mapper.proofs.ShortChains.{no-sink, few-sinks}
+use Rattle.nets.proofs.ShortChains.{no-sink, few-sinks}
 use Rattle.mapper.proofs.Netting.{net-none, line-start, line-room, line-fits, line-levels, line-next, net-line}
 use Rattle.mapper.proofs.Threading.{driver-fits}
 use borrow.Author.Needs.{needs}

@@ -1,0 +1,143 @@
+-- What the mapper's local arrays and its area hold while nets are written.
+use Prim.Native.Nat.{ℕ, zero, suc, _+_, _*_, _≤_, _<_, _/_, _%_}
+use mathlib.Core.Path.{_≡_}
+use mathlib.Core.Bool.{true, false, cond}
+use mathlib.Core.List.{List}
+use lib.ListN.{length, getD, replicate}
+use lib.Dec.{ltb}
+use Rattle.facts.specs.declared.Checked.the-variants.{Passed}
+use Rattle.facts.specs.Lists.{tabulate}
+use Rattle.netlist.specs.declared.Record.{Record}
+use Rattle.netlist.specs.Kinds.{width, slots, topLevel, arity}
+use Rattle.netlist.specs.Records.{Netlist, netlist, slot, recordCount, recordAt}
+use Rattle.nets.specs.Checks.{treeChecks}
+use Rattle.nets.specs.Chains.{slotEnd, usedSlot, faninSlot, namesSlot, slotDistance, Chained}
+use Rattle.netlist.specs.Checks.{inputChecks}
+use Rattle.fanout.specs.Nets.{row, nodesAt, treeSize, fewestInAll}
+use Rattle.mapper.specs.Bytes.{withRecords}
+use Rattle.mapper.specs.Answer.{sourceMaps}
+use Rattle.mapper.specs.Mapped.{buffersOf, blockStart, mappedSize, parent, bufferOf, sinkParent, mapped, Ready}
+
+-- a row to be cleared up to distance top
+pub record Stale (counts : List ℕ) (top : ℕ) : Type 0 where
+  pub size : length counts ≡ suc topLevel
+  pub near : top ≤ topLevel
+  pub beyond : (k : ℕ) → top < k → getD counts k 0 ≡ 0
+
+-- the row of d's net after the walk: the buffers at each distance
+pub record Rowed (n : Netlist) (s d : ℕ) (counts : List ℕ) : Type 0 where
+  pub size : length counts ≡ suc topLevel
+  pub at : (k : ℕ) → 1 ≤ k → k ≤ topLevel → getD counts k 0 ≡ buffersOf n s d k
+
+-- d's net to be written: no node stands beyond top
+pub record GrownNet (n : Netlist) (s d : ℕ) (counts : List ℕ) (top : ℕ) : Type 0 where
+  pub ready : Ready n s
+  pub driver : d < n .size
+  pub rowed : Rowed n s d counts
+  pub near : top ≤ topLevel
+  pub beyond : (k : ℕ) → top < k → nodesAt s (row n d) k ≡ 0
+
+-- what the first node of each distance of d's tree hangs on
+pub record Based (n : Netlist) (s d : ℕ) (base : List ℕ) : Type 0 where
+  pub size : length base ≡ suc topLevel
+  pub at : (k : ℕ) → 1 ≤ k → 0 < nodesAt s (row n d) k → getD base k 0 ≡ parent n s d k 0
+
+-- what slot y hangs on
+abbrev pub onParent : Netlist → ℕ → ℕ → ℕ
+onParent n s y = sinkParent n s (y / slots) (y % slots)
+
+-- the chains of the drivers from d on, and in the same array what each sink of those before hangs on
+pub record Hung (n : Netlist) (s : ℕ) (first next : List ℕ) (d end : ℕ) : Type 0 where
+  pub chained : Chained n first next d end
+  pub at : (y : ℕ) → y < slotEnd n → usedSlot n y ≡ true → faninSlot n y < d → getD next y 0 ≡ onParent n s y
+
+-- the sinks of d hang where f says, and the slots of other drivers hold what they held
+pub record Hooked (n : Netlist) (d : ℕ) (f : ℕ → ℕ) (before after : List ℕ) : Type 0 where
+  pub size : length after ≡ length before
+  pub at : (y : ℕ) → y < slotEnd n → namesSlot n d y ≡ true → getD after y 0 ≡ f y
+  pub others : (y : ℕ) → namesSlot n d y ≡ false → getD after y 0 ≡ getD before y 0
+
+-- what a node at distance k of d's line hangs on: d, or the buffer one level nearer; the line begins at record start
+unfoldable pub lineParent : ℕ → ℕ → ℕ → ℕ
+lineParent d start zero = d
+lineParent d start (suc zero) = d
+lineParent d start (suc (suc k)) = start + k
+
+-- what slot y hangs on, if it is a sink of d and d's tree is a line
+unfoldable pub onLine : Netlist → ℕ → ℕ → ℕ → ℕ
+onLine n d start y = lineParent d start (slotDistance n d y)
+
+-- buffer j of a line above d, whose level is low
+unfoldable pub lineRecord : ℕ → ℕ → ℕ → ℕ → Record
+lineRecord d start low j = bufferOf (low + suc j) (lineParent d start (suc j))
+
+-- d's sinks to be hung
+pub record Hangable (n : Netlist) (s d : ℕ) (first next : List ℕ) (end : ℕ) (counts base : List ℕ) : Type 0 where
+  pub ready : Ready n s
+  pub driver : d < n .size
+  pub rowed : Rowed n s d counts
+  pub based : Based n s d base
+  pub hung : Hung n s first next d end
+
+-- the row of d's net once its sinks are hung: the nodes at each distance
+pub record Noded (n : Netlist) (s d : ℕ) (counts : List ℕ) : Type 0 where
+  pub size : length counts ≡ suc topLevel
+  pub at : (k : ℕ) → 1 ≤ k → k ≤ topLevel → getD counts k 0 ≡ nodesAt s (row n d) k
+
+-- how far behind the parent of the first node of distance k that of node q stands: at distance 1 all hang on the driver
+unfoldable pub behind : ℕ → ℕ → ℕ → ℕ
+behind s zero q = 0
+behind s (suc zero) q = 0
+behind s (suc (suc k)) q = q / s
+
+-- buffer j of distance k at its level, where the first one hangs on base
+unfoldable pub levelRecord : ℕ → ℕ → ℕ → ℕ → ℕ → Record
+levelRecord s k level base j = bufferOf level (base + behind s k j)
+
+-- the arrays and the area before the net of d is written at record at
+pub record Writable (n : Netlist) (s d at : ℕ) (first next : List ℕ) (end : ℕ) (counts base area : List ℕ) : Type 0 where
+  pub ready : Ready n s
+  pub driver : d < n .size
+  pub start : at ≡ blockStart n s d
+  pub clear : counts ≡ replicate (suc topLevel) 0
+  pub room : length base ≡ suc topLevel
+  pub hung : Hung n s first next d end
+  pub long : width * mappedSize n s ≤ length area
+
+-- and after it
+pub record Wrote (n : Netlist) (s d at : ℕ) (first next : List ℕ) (end : ℕ) (counts base area₀ area : List ℕ) (after : ℕ) : Type 0 where
+  pub start : after ≡ blockStart n s (d + 1)
+  pub clear : counts ≡ replicate (suc topLevel) 0
+  pub room : length base ≡ suc topLevel
+  pub hung : Hung n s first next (d + 1) end
+  pub bytes : area ≡ withRecords (mapped n s) at (treeSize n s d) area₀
+
+-- record r of index i, its used slots as the array of parents has them
+abbrev pub relinked : Record → List ℕ → ℕ → Record
+relinked r parents i =
+    record {
+      kind = r .kind;
+      inversion = r .inversion;
+      level = r .level;
+      slots = tabulate (λ j. cond (ltb j (arity (r .kind))) (getD parents (slots * i + j) 0) (slot r j)) slots;
+    }
+
+-- record i of the source so
+unfoldable pub relinkedAt : List ℕ → List ℕ → ℕ → Record
+relinkedAt bytes parents i = relinked (recordAt bytes i) parents i
+
+-- a source that passes 1 to 8, its chains, and the buffers of all trees
+pub record Counted (bytes : List ℕ) (s size : ℕ) (first next : List ℕ) (end total : ℕ) : Type 0 where
+  pub input : inputChecks s bytes ≡ Passed
+  pub trees : treeChecks (netlist bytes) s ≡ Passed
+  pub chained : Chained (netlist bytes) first next 0 end
+  pub records : size ≡ recordCount bytes
+  pub buffers : total ≡ fewestInAll (netlist bytes) s
+
+-- a source whose trees are counted and that is not too large; capacity and trees follow from `maps`
+pub record Mappable (bytes : List ℕ) (s size : ℕ) (first next : List ℕ) (end : ℕ) : Type 0 where
+  pub maps : sourceMaps bytes s ≡ Passed
+  pub capacity : (2 ≤ s) × (s ≤ 4)
+  pub trees : treeChecks (netlist bytes) s ≡ Passed
+  pub chained : Chained (netlist bytes) first next 0 end
+  pub records : size ≡ recordCount bytes

@@ -1,0 +1,6 @@
+pub mod Chains
+pub mod OneChain
+pub mod ChainRow
+pub mod ShortChains
+pub mod Lines
+pub mod TreeCounts
