@@ -26,7 +26,7 @@ use Rattle.nets.specs.Checks.{treeCheck, treeChecks, noTree}
 use Rattle.nets.specs.declared.trees.Sizing.{Sizing}
 use Rattle.nets.specs.declared.trees.Sizing.the-variants.{Total, Stops}
 use Rattle.nets.specs.Chains.{Chained, sizingOf}
-use Rattle.mapper.specs.Writing.{Hung, Counted}
+use Rattle.mapper.specs.Writing.{Counted, ParentsSet}
 use Rattle.nets.proofs.TreeCounts.{total-small, refusing, counting, input-source, input-capacity}
 
 -- the share, where the whole is 0 and where it is not
@@ -64,8 +64,8 @@ module _ (n : Netlist) (N bs g : ℕ) (size : N ≡ n .size) (few : N ≤ source
   accepted D part f h = cc
 
 -- no sink hangs yet
-pub hung-start : (n : Netlist) (s : ℕ) (first next : List ℕ) (end : ℕ) → Chained n first next 0 end → Hung n s first next 0 end
-hung-start n s first next end h = record { chained = h; at = λ y a b c. absurd (omega arith) }
+pub parents-none : (n : Netlist) (s : ℕ) (first next : List ℕ) (end : ℕ) → Chained n first next 0 end → ParentsSet n s first next 0 end
+parents-none n s first next end h = record { chained = h; at = λ y a b c. absurd (omega arith) }
 
 -- the answer and the area that the checks leave
 module _ (bytes : List ℕ) (s : ℕ) (area : List ℕ) where

@@ -26,19 +26,19 @@ both false true f g = g refl
 both false false f g = refl
 
 -- the nodes of d's tree at distance k that hang on x
-abbrev pub hung : Netlist → ℕ → ℕ → ℕ → ℕ → ℕ → Bool
-hung n s x d k q = eqb (parent n s d k q) x
+abbrev pub hangsOn : Netlist → ℕ → ℕ → ℕ → ℕ → ℕ → Bool
+hangsOn n s x d k q = eqb (parent n s d k q) x
 
 module _ (n : Netlist) (s : ℕ) (r : Ready n s) (x : ℕ) where
   -- the slots of one buffer
   buffer-names : (d k j : ℕ) → d < n .size → k ≤ topLevel → j < buffersOf n s d k →
-      count (names (mapped n s) x (place n s d k j)) slots ≡ bit (hung n s x d k j)
+      count (names (mapped n s) x (place n s d k j)) slots ≡ bit (hangsOn n s x d k j)
   unfolding count sum bufferRecord
   buffer-names d k j ld l b = rw (at-place n s (pos n s r) d k j ld l b) (omega arith)
 
   -- the slots of all buffers
   buffers-name : sum (λ y. count (names (mapped n s) x (n .size + y)) slots) (sum (treeSize n s) (n .size))
-      ≡ sum (λ d. sum (λ k. count (hung n s x d k) (buffersOf n s d k)) (suc topLevel)) (n .size)
+      ≡ sum (λ d. sum (λ k. count (hangsOn n s x d k) (buffersOf n s d k)) (suc topLevel)) (n .size)
   unfolding count
   buffers-name =
       sum-blocks g (treeSize n s) (n .size)
@@ -74,11 +74,11 @@ module _ (n : Netlist) (s : ℕ) (r : Ready n s) (x : ℕ) where
   ofNet d i j = goes i j && eqb (fanin n i j) d
 
   -- those of d's net at distance k
-  source-hung : (d k i j : ℕ) → i < n .size →
+  source-hangs : (d k i j : ℕ) → i < n .size →
       (ofNet d i j && eqb (distance n i j) k)
-      ≡ (sinkAt n d k i j && hung n s x d k (buffersOf n s d k + rank (sinkAt n d k) i j))
+      ≡ (sinkAt n d k i j && hangsOn n s x d k (buffersOf n s d k + rank (sinkAt n d k) i j))
   unfolding sinkNumber
-  source-hung d k i j l =
+  source-hangs d k i j l =
       both _ _
       (λ e.
       let g : goes i j ≡ true = and-l (goes i j) _ (and-l (ofNet d i j) _ e) in
@@ -101,7 +101,7 @@ module _ (n : Netlist) (s : ℕ) (r : Ready n s) (x : ℕ) where
 
   -- the slots of the source's records
   sources-name : count₂ (names (mapped n s) x) slots (n .size)
-      ≡ sum (λ d. sum (λ k. count (λ y. hung n s x d k (buffersOf n s d k + y)) (sinks n d k)) (suc topLevel)) (n .size)
+      ≡ sum (λ d. sum (λ k. count (λ y. hangsOn n s x d k (buffersOf n s d k + y)) (sinks n d k)) (suc topLevel)) (n .size)
   unfolding sinks
   sources-name =
       count₂-cong _ goes slots (n .size) (λ i j l b. source-goes i j l)
@@ -110,12 +110,12 @@ module _ (n : Netlist) (s : ℕ) (r : Ready n s) (x : ℕ) where
       ∙ sum-cong _ _ (n .size) (λ d ld.
       fibres (ofNet d) (distance n) slots (n .size) (suc topLevel) (λ i j l b e. omega (arith, r .source .levels i l))
       ∙ sum-cong _ _ (suc topLevel) (λ k lk.
-      count₂-cong _ _ slots (n .size) (λ i j l b. source-hung d k i j l)
-      ∙ count₂-rank (sinkAt n d k) (λ y. hung n s x d k (buffersOf n s d k + y)) (n .size)))
+      count₂-cong _ _ slots (n .size) (λ i j l b. source-hangs d k i j l)
+      ∙ count₂-rank (sinkAt n d k) (λ y. hangsOn n s x d k (buffersOf n s d k + y)) (n .size)))
 
   -- a record feeds the nodes that hang on it, buffers and sinks of each net at each distance
   pub feeds-nodes : feeds (mapped n s) x
-      ≡ sum (λ d. sum (λ k. count (hung n s x d k) (buffersOf n s d k + sinks n d k)) (suc topLevel)) (n .size)
+      ≡ sum (λ d. sum (λ k. count (hangsOn n s x d k) (buffersOf n s d k + sinks n d k)) (suc topLevel)) (n .size)
   unfolding feeds count₂
   feeds-nodes =
       sum-append (λ i. count (names (mapped n s) x i) slots) (n .size) (sum (treeSize n s) (n .size))
@@ -124,7 +124,7 @@ module _ (n : Netlist) (s : ℕ) (r : Ready n s) (x : ℕ) where
       ∙ sum-cong _ _ (n .size) (λ d ld.
       sym (sum-add _ _ (suc topLevel))
       ∙ sum-cong _ _ (suc topLevel) (λ k lk.
-      omega (arith, count-append (hung n s x d k) (buffersOf n s d k) (sinks n d k))))
+      omega (arith, count-append (hangsOn n s x d k) (buffersOf n s d k) (sinks n d k))))
 
 -- how many slots a record may feed
 module _ (n : Netlist) (s : ℕ) (r : Ready n s) where
@@ -154,7 +154,7 @@ module _ (n : Netlist) (s : ℕ) (r : Ready n s) where
   -- where all nodes that hang on x are of one net and distance, x feeds at most those
   feeds-single : (x d₀ k₀ : ℕ) → d₀ < n .size →
       ((d k q : ℕ) → IsNode n s r d k q → parent n s d k q ≡ x → (d ≡ d₀) × (k ≡ k₀)) →
-      feeds (mapped n s) x ≤ count (hung n s x d₀ k₀) (buffersOf n s d₀ k₀ + sinks n d₀ k₀)
+      feeds (mapped n s) x ≤ count (hangsOn n s x d₀ k₀) (buffersOf n s d₀ k₀ + sinks n d₀ k₀)
   feeds-single x d₀ k₀ ld₀ only =
       omega (
         arith,
@@ -163,23 +163,23 @@ module _ (n : Netlist) (s : ℕ) (r : Ready n s) where
             (λ d ld ne.
             sum-none _ (suc topLevel)
             (λ k lk.
-            count-none (hung n s x d k) _
+            count-none (hangsOn n s x d k) _
             (λ q b e. ne (only d k q (counted-node d k q ld (omega arith) b) (eqb-true _ x e) .0)))),
         sum-single-le (at d₀) k₀ (suc topLevel)
             (λ k lk ne.
-            count-none (hung n s x d₀ k) _
+            count-none (hangsOn n s x d₀ k) _
             (λ q b e. ne (only d₀ k q (counted-node d₀ k q ld₀ (omega arith) b) (eqb-true _ x e) .1))),
       )
     where
       at : ℕ → ℕ → ℕ
-      at d k = count (hung n s x d k) (buffersOf n s d k + sinks n d k)
+      at d k = count (hangsOn n s x d k) (buffersOf n s d k + sinks n d k)
 
   pub driver-feeds : (x : ℕ) → x < n .size → feeds (mapped n s) x ≤ driverCapacity
   driver-feeds x l =
       omega (
         arith,
         feeds-single x x 1 l (λ d k q h e. on-driver x d k q l h e),
-        count-le (hung n s x x 1) (buffersOf n s x 1 + sinks n x 1),
+        count-le (hangsOn n s x x 1) (buffersOf n s x 1 + sinks n x 1),
         nodes-split n s r x 0 (omega arith),
         leb-true (nodesAt s (row n x) 1) driverCapacity (r .trees x l),
       )
@@ -206,7 +206,7 @@ module _ (n : Netlist) (s : ℕ) (r : Ready n s) where
       omega (
         arith,
         feeds-single (place n s d (suc k) j) d (suc (suc k)) ld (λ d′ k′ q h e. on-buffer d (suc k) j d′ k′ q ld l b h e),
-        count-mono (hung n s (place n s d (suc k) j) d (suc (suc k))) (λ q. eqb (q / s) j) (buffersOf n s d (suc (suc k)) + sinks n d (suc (suc k)))
+        count-mono (hangsOn n s (place n s d (suc k) j) d (suc (suc k))) (λ q. eqb (q / s) j) (buffersOf n s d (suc (suc k)) + sinks n d (suc (suc k)))
             (λ q m e. eq-eqb (q / s) j (omega (arith, eqb-true _ (place n s d (suc k) j) e))),
         count-div s j (buffersOf n s d (suc (suc k)) + sinks n d (suc (suc k))) (pos n s r),
       )

@@ -15,11 +15,11 @@ use Rattle.mapper.specs.Bytes.{encoded, put, withRecords}
 use Rattle.mapper.specs.Mapped.{buffersOf, blockStart, place, parent, bufferOf, bufferRecord, mappedAt, mapped, Ready}
 use Rattle.nets.proofs.Lines.{line-at, line-below, line-size}
 use Rattle.nets.specs.Chains.{slotDistance, ShortChain}
-use Rattle.mapper.specs.Writing.{lineParent, lineRecord, Hooked, onParent, onLine}
+use Rattle.mapper.specs.Writing.{lineParent, lineRecord, ParentsWritten, onParent, onLine}
 use Rattle.mapper.proofs.Area.{encoded-cong}
 use Rattle.mapper.proofs.Mapped.{at-place}
 use Rattle.mapper.proofs.Nodes.{pos, IsNode, hangs, buffer-node}
-use Rattle.mapper.proofs.Hanging.{sink-node, sink-parent, flatNumbered}
+use Rattle.mapper.proofs.SinkParents.{sink-node, sink-parent, flatNumbered}
 
 -- d's line as it is written
 module _ (n : Netlist) (s d top atOne : ℕ) (r : Ready n s) (ld : d < n .size) (h : ShortChain n d top atOne) where
@@ -65,9 +65,9 @@ module _ (n : Netlist) (s d top atOne : ℕ) (r : Ready n s) (ld : d < n .size) 
       (encoded-cong _ _ (top - 1) line-record
       ∙ ap (encoded (λ j. mappedAt n s (blockStart n s d + j))) (sym (line-size n s d top atOne (r .low) h)))
 
-  pub line-hooked : (before after : List ℕ) → Hooked n d (onLine n d (blockStart n s d)) before after → Hooked n d (onParent n s) before after
+  pub line-parents : (before after : List ℕ) → ParentsWritten n d (onLine n d (blockStart n s d)) before after → ParentsWritten n d (onParent n s) before after
   unfolding onLine
-  line-hooked before after k =
+  line-parents before after k =
       record {
         size = k .size;
         at = λ y l c.

@@ -149,18 +149,18 @@ module _ (bytes : List ℕ) (s : ℕ) where
           tree = t .tree;
           legal = t .legal;
           size = t .inAll;
-          least = least-in-all driverCapacity s (netOf (netlist bytes) d) (row (netlist bytes) d) positive rowed;
+          least = least-in-all driverCapacity s (netOf (netlist bytes) d) (row (netlist bytes) d) positive counts;
         }
       where
         positive : 0 < s
         positive = omega (arith, ready .low)
 
-        rowed : RowOf (netOf (netlist bytes) d) (row (netlist bytes) d)
-        rowed = row-of-net (netlist bytes) d (ready .source)
+        counts : RowOf (netOf (netlist bytes) d) (row (netlist bytes) d)
+        counts = row-of-net (netlist bytes) d (ready .source)
 
         t : Attained driverCapacity s (netOf (netlist bytes) d) (row (netlist bytes) d)
         t =
-            fewest-attained driverCapacity s (netOf (netlist bytes) d) (row (netlist bytes) d) positive rowed
+            fewest-attained driverCapacity s (netOf (netlist bytes) d) (row (netlist bytes) d) positive counts
             (ready .trees d (driver-inside bytes d b))
 
     net-none : (d : ℕ) → isDriver (recordAt bytes d .kind) ≡ false → treeSize (netlist bytes) s d ≡ 0

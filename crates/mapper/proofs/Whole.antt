@@ -13,7 +13,7 @@ use Rattle.netlist.specs.Records.{netlist, used, fanin}
 use Rattle.fanout.specs.Nets.{fewestInAll}
 use Rattle.mapper.specs.Bytes.{encoded, bytesOf, put, withRecords, onto}
 use Rattle.mapper.specs.Mapped.{mappedSize, sinkParent, rewired, mappedAt, mapped, Ready}
-use Rattle.mapper.specs.Writing.{Hung, relinkedAt}
+use Rattle.mapper.specs.Writing.{ParentsSet, relinkedAt}
 use Rattle.mapper.proofs.Mapped.{at-source}
 use Rattle.mapper.proofs.Nodes.{pos}
 use Rattle.mapper.proofs.Area.{records-all, encoded-cong}
@@ -27,7 +27,7 @@ abbrev withSlots : Record → List ℕ → Record
 withSlots r slots = record { kind = r .kind; inversion = r .inversion; level = r .level; slots = slots }
 
 module _ (bytes : List ℕ) (s : ℕ) (first parents : List ℕ) (end : ℕ) (r : Ready (netlist bytes) s)
-    (h : Hung (netlist bytes) s first parents (netlist bytes .size) end) where
+    (h : ParentsSet (netlist bytes) s first parents (netlist bytes .size) end) where
   -- a slot as written is the slot of the mapped netlist
   new-slot : (i j : ℕ) → i < netlist bytes .size → j < slots →
       cond (used (netlist bytes) i j) (getD parents (slots * i + j) 0) (fanin (netlist bytes) i j)

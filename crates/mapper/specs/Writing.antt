@@ -25,20 +25,20 @@ pub record Stale (counts : List ℕ) (top : ℕ) : Type 0 where
   pub beyond : (k : ℕ) → top < k → getD counts k 0 ≡ 0
 
 -- the row of d's net after the walk: the buffers at each distance
-pub record Rowed (n : Netlist) (s d : ℕ) (counts : List ℕ) : Type 0 where
+pub record BufferCounts (n : Netlist) (s d : ℕ) (counts : List ℕ) : Type 0 where
   pub size : length counts ≡ suc topLevel
   pub at : (k : ℕ) → 1 ≤ k → k ≤ topLevel → getD counts k 0 ≡ buffersOf n s d k
 
 -- d's net to be written: no node stands beyond top
-pub record GrownNet (n : Netlist) (s d : ℕ) (counts : List ℕ) (top : ℕ) : Type 0 where
+pub record CountedNet (n : Netlist) (s d : ℕ) (counts : List ℕ) (top : ℕ) : Type 0 where
   pub ready : Ready n s
   pub driver : d < n .size
-  pub rowed : Rowed n s d counts
+  pub buffers : BufferCounts n s d counts
   pub near : top ≤ topLevel
   pub beyond : (k : ℕ) → top < k → nodesAt s (row n d) k ≡ 0
 
 -- what the first node of each distance of d's tree hangs on
-pub record Based (n : Netlist) (s d : ℕ) (base : List ℕ) : Type 0 where
+pub record FirstParents (n : Netlist) (s d : ℕ) (base : List ℕ) : Type 0 where
   pub size : length base ≡ suc topLevel
   pub at : (k : ℕ) → 1 ≤ k → 0 < nodesAt s (row n d) k → getD base k 0 ≡ parent n s d k 0
 
@@ -47,12 +47,12 @@ abbrev pub onParent : Netlist → ℕ → ℕ → ℕ
 onParent n s y = sinkParent n s (y / slots) (y % slots)
 
 -- the chains of the drivers from d on, and in the same array what each sink of those before hangs on
-pub record Hung (n : Netlist) (s : ℕ) (first next : List ℕ) (d end : ℕ) : Type 0 where
+pub record ParentsSet (n : Netlist) (s : ℕ) (first next : List ℕ) (d end : ℕ) : Type 0 where
   pub chained : Chained n first next d end
   pub at : (y : ℕ) → y < slotEnd n → usedSlot n y ≡ true → faninSlot n y < d → getD next y 0 ≡ onParent n s y
 
 -- the sinks of d hang where f says, and the slots of other drivers hold what they held
-pub record Hooked (n : Netlist) (d : ℕ) (f : ℕ → ℕ) (before after : List ℕ) : Type 0 where
+pub record ParentsWritten (n : Netlist) (d : ℕ) (f : ℕ → ℕ) (before after : List ℕ) : Type 0 where
   pub size : length after ≡ length before
   pub at : (y : ℕ) → y < slotEnd n → namesSlot n d y ≡ true → getD after y 0 ≡ f y
   pub others : (y : ℕ) → namesSlot n d y ≡ false → getD after y 0 ≡ getD before y 0
@@ -71,16 +71,16 @@ onLine n d start y = lineParent d start (slotDistance n d y)
 unfoldable pub lineRecord : ℕ → ℕ → ℕ → ℕ → Record
 lineRecord d start low j = bufferOf (low + suc j) (lineParent d start (suc j))
 
--- d's sinks to be hung
-pub record Hangable (n : Netlist) (s d : ℕ) (first next : List ℕ) (end : ℕ) (counts base : List ℕ) : Type 0 where
+-- what stands before d's sinks get their parents
+pub record ParentsDue (n : Netlist) (s d : ℕ) (first next : List ℕ) (end : ℕ) (counts base : List ℕ) : Type 0 where
   pub ready : Ready n s
   pub driver : d < n .size
-  pub rowed : Rowed n s d counts
-  pub based : Based n s d base
-  pub hung : Hung n s first next d end
+  pub buffers : BufferCounts n s d counts
+  pub firstParents : FirstParents n s d base
+  pub parents : ParentsSet n s first next d end
 
--- the row of d's net once its sinks are hung: the nodes at each distance
-pub record Noded (n : Netlist) (s d : ℕ) (counts : List ℕ) : Type 0 where
+-- the row of d's net once its sinks have their parents: the nodes at each distance
+pub record NodeCounts (n : Netlist) (s d : ℕ) (counts : List ℕ) : Type 0 where
   pub size : length counts ≡ suc topLevel
   pub at : (k : ℕ) → 1 ≤ k → k ≤ topLevel → getD counts k 0 ≡ nodesAt s (row n d) k
 
@@ -101,7 +101,7 @@ pub record Writable (n : Netlist) (s d at : ℕ) (first next : List ℕ) (end : 
   pub start : at ≡ blockStart n s d
   pub clear : counts ≡ replicate (suc topLevel) 0
   pub room : length base ≡ suc topLevel
-  pub hung : Hung n s first next d end
+  pub parents : ParentsSet n s first next d end
   pub long : width * mappedSize n s ≤ length area
 
 -- and after it
@@ -109,7 +109,7 @@ pub record Wrote (n : Netlist) (s d at : ℕ) (first next : List ℕ) (end : ℕ
   pub start : after ≡ blockStart n s (d + 1)
   pub clear : counts ≡ replicate (suc topLevel) 0
   pub room : length base ≡ suc topLevel
-  pub hung : Hung n s first next (d + 1) end
+  pub parents : ParentsSet n s first next (d + 1) end
   pub bytes : area ≡ withRecords (mapped n s) at (treeSize n s d) area₀
 
 -- record r of index i, its used slots as the array of parents has them

@@ -9,7 +9,7 @@ ghost use Rattle.fanout.specs.Nets.{treeSize};
 ghost use Rattle.mapper.specs.Bytes.{encoded, put, withRecords, bytesOf, onto};
 ghost use Rattle.mapper.specs.Mapped.{blockStart, mappedSize, mapped, Ready};
 ghost use Rattle.nets.specs.Chains.{Chained};
-ghost use Rattle.mapper.specs.Writing.{Stale, behind, levelRecord, lineParent, lineRecord, GrownNet, Based, Hung, Hooked, onParent, onLine, Hangable, Noded, Writable, Wrote};
+ghost use Rattle.mapper.specs.Writing.{Stale, behind, levelRecord, lineParent, lineRecord, CountedNet, FirstParents, ParentsSet, ParentsWritten, onParent, onLine, ParentsDue, NodeCounts, Writable, Wrote};
 use crate::records;
 use fanout::DISTANCES;
 use nets::numbers;
@@ -67,12 +67,12 @@ fn write_buffers(
     base: &mut [u16; DISTANCES],
     area: &mut [u8],
 ) -> usize
-    requires { ⌜ GrownNet (netlist (now source)) s d (now row) top ⌝ }
+    requires { ⌜ CountedNet (netlist (now source)) s d (now row) top ⌝ }
     requires { ⌜ start ≡ blockStart (netlist (now source)) s d ⌝ }
     requires { ⌜ length (now base) ≡ suc topLevel ⌝ }
     requires { ⌜ width * mappedSize (netlist (now source)) s ≤ length (now area) ⌝ }
     ensures { λ r. ⌜ r ≡ blockStart (netlist (now (source .entry))) s (d + 1) ⌝ }
-    ensures { λ _. ⌜ Based (netlist (now (source .entry))) s d (now (base .exit)) ⌝ }
+    ensures { λ _. ⌜ FirstParents (netlist (now (source .entry))) s d (now (base .exit)) ⌝ }
     ensures { λ _. ⌜ now (area .exit) ≡ withRecords (mapped (netlist (now (source .entry))) s) start (treeSize (netlist (now (source .entry))) s d) (now (area .entry)) ⌝ }
 {
     let low = netlist::level_at(source, d);
@@ -91,7 +91,7 @@ fn write_buffers(
 }
 
 // The sinks of d, along its chain: each hangs behind the buffers and the earlier sinks of its distance, and its parent takes the place of its next sink.
-fn hang_sinks(
+fn set_parents(
     source: &[u8],
     s: u32,
     end: usize,
@@ -101,9 +101,9 @@ fn hang_sinks(
     base: &[u16; DISTANCES],
     row: &mut [u32; DISTANCES],
 )
-    requires { ⌜ Hangable (netlist (now source)) s d (now first) (now next) end (now row) (now base) ⌝ }
-    ensures { λ _. ⌜ Hooked (netlist (now (source .entry))) d (onParent (netlist (now (source .entry))) s) (now (next .entry)) (now (next .exit)) ⌝ }
-    ensures { λ _. ⌜ Noded (netlist (now (source .entry))) s d (now (row .exit)) ⌝ }
+    requires { ⌜ ParentsDue (netlist (now source)) s d (now first) (now next) end (now row) (now base) ⌝ }
+    ensures { λ _. ⌜ ParentsWritten (netlist (now (source .entry))) d (onParent (netlist (now (source .entry))) s) (now (next .entry)) (now (next .exit)) ⌝ }
+    ensures { λ _. ⌜ NodeCounts (netlist (now (source .entry))) s d (now (row .exit)) ⌝ }
 {
     let low = netlist::level_at(source, d);
     let mut p = numbers::index(first[d]);
@@ -118,7 +118,7 @@ fn hang_sinks(
 }
 
 // The row of d's net, walked: the buffers at each distance; the largest distance is handed back.
-fn grow(
+fn count_buffers(
     source: &[u8],
     s: u32,
     end: usize,
@@ -131,7 +131,7 @@ fn grow(
     requires { ⌜ Chained (netlist (now source)) (now first) (now next) d end ⌝ }
     requires { ⌜ d < netlist (now source) .size ⌝ }
     requires { ⌜ now row ≡ replicate (suc topLevel) 0 ⌝ }
-    ensures { λ r. ⌜ GrownNet (netlist (now (source .entry))) s d (now (row .exit)) r ⌝ }
+    ensures { λ r. ⌜ CountedNet (netlist (now (source .entry))) s d (now (row .exit)) r ⌝ }
 {
     let reach = sinks::fill_row(source, end, first, next, d, row);
     fanout::walk(s, reach, true, row);
@@ -154,9 +154,9 @@ fn write_tree(
     requires { ⌜ Writable (netlist (now source)) s d start (now first) (now next) end (now row) (now base) (now area) ⌝ }
     ensures { λ r. ⌜ Wrote (netlist (now (source .entry))) s d start (now (first .entry)) (now (next .exit)) end (now (row .exit)) (now (base .exit)) (now (area .entry)) (now (area .exit)) r ⌝ }
 {
-    let top = grow(source, s, end, first, next, d, row);
+    let top = count_buffers(source, s, end, first, next, d, row);
     let after = write_buffers(source, s, d, start, top, row, base, area);
-    hang_sinks(source, s, end, first, next, d, base, row);
+    set_parents(source, s, end, first, next, d, base, row);
     clear_row(top, row);
     after
 }
@@ -190,12 +190,19 @@ fn write_line(area: &mut [u8], d: usize, start: usize, low: u16, n: usize)
     }
 }
 
-// The sinks of d, each hung on its line one level nearer, at distance 1 on d itself: its parent takes the place of its next sink.
-fn hang_line(source: &[u8], end: usize, first: &[u16], next: &mut [u16], d: usize, start: usize)
+// The parents of the sinks of d, on its line one level nearer, at distance 1 d itself: each takes the place of the next sink.
+fn set_line_parents(
+    source: &[u8],
+    end: usize,
+    first: &[u16],
+    next: &mut [u16],
+    d: usize,
+    start: usize,
+)
     requires { ⌜ Chained (netlist (now source)) (now first) (now next) d end ⌝ }
     requires { ⌜ d < netlist (now source) .size ⌝ }
     requires { ⌜ start ≤ mappedLimit ⌝ }
-    ensures { λ _. ⌜ Hooked (netlist (now (source .entry))) d (onLine (netlist (now (source .entry))) d start) (now (next .entry)) (now (next .exit)) ⌝ }
+    ensures { λ _. ⌜ ParentsWritten (netlist (now (source .entry))) d (onLine (netlist (now (source .entry))) d start) (now (next .entry)) (now (next .exit)) ⌝ }
 {
     let low = netlist::level_at(source, d);
     let mut p = numbers::index(first[d]);
@@ -227,7 +234,7 @@ fn write_net(
         Chain::Empty => start,
         Chain::Short(top, _) => {
             let n = top - 1;
-            hang_line(source, end, first, next, d, start);
+            set_line_parents(source, end, first, next, d, start);
             write_line(area, d, start, netlist::level_at(source, d), n);
             start + n
         }
@@ -248,10 +255,10 @@ fn write_nets(
 )
     requires { ⌜ Ready (netlist (now source)) s ⌝ }
     requires { ⌜ n ≡ recordCount (now source) ⌝ }
-    requires { ⌜ Hung (netlist (now source)) s (now first) (now next) 0 end ⌝ }
+    requires { ⌜ ParentsSet (netlist (now source)) s (now first) (now next) 0 end ⌝ }
     requires { ⌜ now row ≡ replicate (suc topLevel) 0 ⌝ }
     requires { ⌜ width * mappedSize (netlist (now source)) s ≤ length (now area) ⌝ }
-    ensures { λ _. ⌜ Hung (netlist (now (source .entry))) s (now (first .entry)) (now (next .exit)) (netlist (now (source .entry)) .size) end ⌝ }
+    ensures { λ _. ⌜ ParentsSet (netlist (now (source .entry))) s (now (first .entry)) (now (next .exit)) (netlist (now (source .entry)) .size) end ⌝ }
     ensures { λ _. ⌜ now (area .exit) ≡ withRecords (mapped (netlist (now (source .entry))) s) (netlist (now (source .entry)) .size) (sum (treeSize (netlist (now (source .entry))) s) (netlist (now (source .entry)) .size)) (now (area .entry)) ⌝ }
 {
     let mut base = [0u16; DISTANCES];

@@ -1,5 +1,5 @@
 -- `write_relinked` meets its contract: the record as it is, then its used slots anew.
-use Rattle.mapper.proofs.Joining.{relinked-none, relinked-one, relinked-two, relinked-three}
+use Rattle.mapper.proofs.WriteRecords.{relinked-none, relinked-one, relinked-two, relinked-three}
 use borrow.Author.Needs.{needs}
 use Rattle.mapper.proofs.records.write_relinked.Statement.{statement}
 use Rattle.mapper.proofs.records.write_relinked.Tie as tie

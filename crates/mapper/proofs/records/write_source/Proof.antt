@@ -2,19 +2,19 @@
 use Prim.Native.Nat.{_-_}
 use Rattle.netlist.specs.Records.{recordCount}
 use Rattle.mapper.specs.Writing.{relinkedAt}
-use Rattle.mapper.proofs.Joining.{Joining, join-start, source-room, source-more, source-end}
+use Rattle.mapper.proofs.WriteRecords.{RecordsSoFar, written-start, source-room, source-more, source-end}
 use borrow.Author.Needs.{needs}
 use Rattle.mapper.proofs.records.write_source.Statement.{statement}
 use Rattle.mapper.proofs.records.write_source.Tie as tie
 
 abbrev Inv-loop : tie.InvT-loop
-Inv-loop source parents area₀ i₀ area i = Joining area₀ 0 (relinkedAt source parents) (recordCount source) area i
+Inv-loop source parents area₀ i₀ area i = RecordsSoFar area₀ 0 (relinkedAt source parents) (recordCount source) area i
 
 abbrev μ-loop : tie.MeasureT-loop
 μ-loop source parents area₀ i₀ area i = recordCount source - i
 
 loop-holds : tie.Need-loop-holds Inv-loop μ-loop
-loop-holds c = search join-start
+loop-holds c = search written-start
 
 record-count-requires : tie.Need-record-count-requires Inv-loop μ-loop
 record-count-requires c κs = search needs

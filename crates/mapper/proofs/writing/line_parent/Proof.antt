@@ -1,5 +1,5 @@
 -- `line_parent` meets its contract: at distance 1 the driver itself, else the buffer before.
-use Rattle.mapper.proofs.Joining.{line-near, line-far}
+use Rattle.mapper.proofs.WriteRecords.{line-near, line-far}
 use borrow.Author.Needs.{needs}
 use Rattle.mapper.proofs.writing.line_parent.Statement.{statement}
 use Rattle.mapper.proofs.writing.line_parent.Tie as tie

@@ -1,6 +1,6 @@
 -- `parent_of` meets its contract: at distance 1 the first parent itself, else q / s behind it.
 use borrow.Author.Needs.{needs}
-use Rattle.mapper.proofs.Joining.{behind-near, behind-far, behind-fits, back-fits}
+use Rattle.mapper.proofs.WriteRecords.{behind-near, behind-far, behind-fits, back-fits}
 use Rattle.mapper.proofs.writing.parent_of.Statement.{statement}
 use Rattle.mapper.proofs.writing.parent_of.Tie as tie
 

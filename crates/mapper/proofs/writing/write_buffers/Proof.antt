@@ -2,13 +2,13 @@
 use Prim.Native.Nat.{suc, _-_}
 use mathlib.Core.Path.{_≡_}
 use Rattle.netlist.specs.Records.{netlist, recordAt}
-use Rattle.mapper.proofs.Planting.{Planting, plant-driver, plant-start, plant-room, plant-parents, plant-fits, plant-next, plant-level, plant-more, plant-end, plant-based, plant-bytes}
+use Rattle.mapper.proofs.WriteTree.{LevelsWritten, tree-driver, tree-start, tree-room, tree-parents, tree-fits, tree-next, tree-level, tree-more, tree-end, tree-first-parents, tree-bytes}
 use borrow.Author.Needs.{needs}
 use Rattle.mapper.proofs.writing.write_buffers.Statement.{statement}
 use Rattle.mapper.proofs.writing.write_buffers.Tie as tie
 
 abbrev Inv-loop : tie.InvT-loop
-Inv-loop source s d start top row base₀ area₀ low at₀ from₀ k₀ base area at from k = (low ≡ recordAt source d .level) × Planting (netlist source) s d start top area₀ base area at from k
+Inv-loop source s d start top row base₀ area₀ low at₀ from₀ k₀ base area at from k = (low ≡ recordAt source d .level) × LevelsWritten (netlist source) s d start top area₀ base area at from k
 
 abbrev μ-loop : tie.MeasureT-loop
 μ-loop source s d start top row base₀ area₀ low at₀ from₀ k₀ base area at from k = suc top - k
@@ -17,10 +17,10 @@ level-at-requires : tie.Need-level-at-requires Inv-loop μ-loop
 level-at-requires c κs = search needs
 
 cast-from : tie.Need-cast-from Inv-loop μ-loop
-cast-from c = search plant-driver
+cast-from c = search tree-driver
 
 loop-holds : tie.Need-loop-holds Inv-loop μ-loop
-loop-holds c = (search needs, search plant-start)
+loop-holds c = (search needs, search tree-start)
 
 mul-n : tie.Need-mul-n Inv-loop μ-loop
 mul-n c = search needs
@@ -38,19 +38,19 @@ cast-write-level : tie.Need-cast-write-level Inv-loop μ-loop
 cast-write-level c = search needs
 
 add-write-level : tie.Need-add-write-level Inv-loop μ-loop
-add-write-level c = search plant-level
+add-write-level c = search tree-level
 
 write-level-requires : tie.Need-write-level-requires Inv-loop μ-loop
-write-level-requires c κs = (search needs, (search plant-room, search plant-parents))
+write-level-requires c κs = (search needs, (search tree-room, search tree-parents))
 
 cast-from-2 : tie.Need-cast-from-2 Inv-loop μ-loop
-cast-from-2 c = search plant-fits
+cast-from-2 c = search tree-fits
 
 amount-requires : tie.Need-amount-requires Inv-loop μ-loop
 amount-requires c κs = search needs
 
 add-at : tie.Need-add-at Inv-loop μ-loop
-add-at c = search plant-next
+add-at c = search tree-next
 
 add-k : tie.Need-add-k Inv-loop μ-loop
 add-k c = search needs
@@ -59,13 +59,13 @@ loop-less : tie.Need-loop-less Inv-loop μ-loop
 loop-less c = search needs
 
 loop-again : tie.Need-loop-again Inv-loop μ-loop
-loop-again c = (search needs, search plant-more)
+loop-again c = (search needs, search tree-more)
 
 same-length : tie.Need-same-length Inv-loop μ-loop
 same-length c = search needs
 
 returns : tie.Need-returns Inv-loop μ-loop
-returns c = (search plant-end, (search plant-based, search plant-bytes))
+returns c = (search tree-end, (search tree-first-parents, search tree-bytes))
 
 pub write-buffers-spec : {M : Type 1} → statement M
 write-buffers-spec =

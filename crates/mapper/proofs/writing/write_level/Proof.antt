@@ -1,19 +1,19 @@
 -- `write_level` meets its contract: the first j buffers are written.
 use Prim.Native.Nat.{_-_}
 use Rattle.mapper.specs.Writing.{levelRecord}
-use Rattle.mapper.proofs.Joining.{Joining, join-start, join-room, join-end, level-parent, level-more}
+use Rattle.mapper.proofs.WriteRecords.{RecordsSoFar, written-start, written-room, written-end, level-parent, level-more}
 use borrow.Author.Needs.{needs}
 use Rattle.mapper.proofs.writing.write_level.Statement.{statement}
 use Rattle.mapper.proofs.writing.write_level.Tie as tie
 
 abbrev Inv-loop : tie.InvT-loop
-Inv-loop area₀ s k at level base n j₀ area j = Joining area₀ at (levelRecord s k level base) n area j
+Inv-loop area₀ s k at level base n j₀ area j = RecordsSoFar area₀ at (levelRecord s k level base) n area j
 
 abbrev μ-loop : tie.MeasureT-loop
 μ-loop area₀ s k at level base n j₀ area j = n - j
 
 loop-holds : tie.Need-loop-holds Inv-loop μ-loop
-loop-holds c = search join-start
+loop-holds c = search written-start
 
 cast-write-record : tie.Need-cast-write-record Inv-loop μ-loop
 cast-write-record c = search needs
@@ -28,7 +28,7 @@ buffer-of-requires : tie.Need-buffer-of-requires Inv-loop μ-loop
 buffer-of-requires c κs = search needs
 
 write-record-requires : tie.Need-write-record-requires Inv-loop μ-loop
-write-record-requires c κs = search (needs, join-room)
+write-record-requires c κs = search (needs, written-room)
 
 add-j : tie.Need-add-j Inv-loop μ-loop
 add-j c = search needs
@@ -46,7 +46,7 @@ same-length : tie.Need-same-length Inv-loop μ-loop
 same-length c = search needs
 
 returns : tie.Need-returns Inv-loop μ-loop
-returns c = search join-end
+returns c = search written-end
 
 pub write-level-spec : {M : Type 1} → statement M
 write-level-spec =

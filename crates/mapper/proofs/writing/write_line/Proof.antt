@@ -1,19 +1,19 @@
 -- `write_line` meets its contract: the first j buffers are written.
 use Prim.Native.Nat.{_-_}
 use Rattle.mapper.specs.Writing.{lineRecord}
-use Rattle.mapper.proofs.Joining.{Joining, join-start, join-room, join-end, line-more}
+use Rattle.mapper.proofs.WriteRecords.{RecordsSoFar, written-start, written-room, written-end, line-more}
 use borrow.Author.Needs.{needs}
 use Rattle.mapper.proofs.writing.write_line.Statement.{statement}
 use Rattle.mapper.proofs.writing.write_line.Tie as tie
 
 abbrev Inv-loop : tie.InvT-loop
-Inv-loop area₀ d start low n j₀ area j = Joining area₀ start (lineRecord d start low) n area j
+Inv-loop area₀ d start low n j₀ area j = RecordsSoFar area₀ start (lineRecord d start low) n area j
 
 abbrev μ-loop : tie.MeasureT-loop
 μ-loop area₀ d start low n j₀ area j = n - j
 
 loop-holds : tie.Need-loop-holds Inv-loop μ-loop
-loop-holds c = search join-start
+loop-holds c = search written-start
 
 add-k : tie.Need-add-k Inv-loop μ-loop
 add-k c = search needs
@@ -34,7 +34,7 @@ buffer-of-requires : tie.Need-buffer-of-requires Inv-loop μ-loop
 buffer-of-requires c κs = search needs
 
 write-record-requires : tie.Need-write-record-requires Inv-loop μ-loop
-write-record-requires c κs = search (needs, join-room)
+write-record-requires c κs = search (needs, written-room)
 
 loop-less : tie.Need-loop-less Inv-loop μ-loop
 loop-less c = search needs
@@ -46,7 +46,7 @@ same-length : tie.Need-same-length Inv-loop μ-loop
 same-length c = search needs
 
 returns : tie.Need-returns Inv-loop μ-loop
-returns c = search join-end
+returns c = search written-end
 
 pub write-line-spec : {M : Type 1} → statement M
 write-line-spec =

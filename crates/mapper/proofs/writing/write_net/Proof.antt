@@ -1,7 +1,7 @@
 -- `write_net` meets its contract: no sink, a line, or a tree.
 use Rattle.nets.proofs.ShortChains.{no-sink, few-sinks}
-use Rattle.mapper.proofs.Netting.{net-none, line-start, line-room, line-fits, line-levels, line-next, net-line}
-use Rattle.mapper.proofs.Threading.{driver-fits}
+use Rattle.mapper.proofs.WriteNets.{net-none, line-start, line-room, line-fits, line-levels, line-next, net-line}
+use Rattle.mapper.proofs.ChainParents.{driver-fits}
 use borrow.Author.Needs.{needs}
 use Rattle.mapper.proofs.writing.write_net.Statement.{statement}
 use Rattle.mapper.proofs.writing.write_net.Tie as tie
@@ -20,8 +20,8 @@ sub-n c =
     let b = c .before in
     few-sinks _ _ _ _ _ (b .before .before .chain-of .ensures) (b .chain .given .1) .above
 
-hang-line-requires : tie.Need-hang-line-requires
-hang-line-requires c κs = (search needs, (search needs, search line-start))
+set-line-parents-requires : tie.Need-set-line-parents-requires
+set-line-parents-requires c κs = (search needs, (search needs, search line-start))
 
 level-at-requires : tie.Need-level-at-requires
 level-at-requires c κs = search needs
@@ -79,7 +79,7 @@ write-net-spec =
     enum-told
     enum-known-chain
     sub-n
-    hang-line-requires
+    set-line-parents-requires
     level-at-requires
     write-line-requires
     add-result

@@ -3,13 +3,13 @@ use Prim.Native.Nat.{_-_}
 use mathlib.Core.Path.{_≡_}
 use lib.ListN.{length}
 use Rattle.netlist.specs.Records.{netlist}
-use Rattle.mapper.proofs.Netting.{Netting, nets-start, nets-writable, nets-more, nets-hung, nets-bytes}
+use Rattle.mapper.proofs.WriteNets.{NetsWritten, nets-start, nets-writable, nets-more, nets-parents, nets-bytes}
 use borrow.Author.Needs.{needs}
 use Rattle.mapper.proofs.writing.write_nets.Statement.{statement}
 use Rattle.mapper.proofs.writing.write_nets.Tie as tie
 
 abbrev Inv-loop : tie.InvT-loop
-Inv-loop source s n end first next₀ row₀ area₀ base₀ at₀ d₀ next row area base at d = Netting (netlist source) s first end area₀ d at next row base area × (length next ≡ length next₀)
+Inv-loop source s n end first next₀ row₀ area₀ base₀ at₀ d₀ next row area base at d = NetsWritten (netlist source) s first end area₀ d at next row base area × (length next ≡ length next₀)
 
 abbrev μ-loop : tie.MeasureT-loop
 μ-loop source s n end first next₀ row₀ area₀ base₀ at₀ d₀ next row area base at d = n - d
@@ -38,7 +38,7 @@ same-length-2 c = search needs
 returns : tie.Need-returns Inv-loop μ-loop
 returns c =
     let pre = c .before .before .before .before .before .before .pre in
-    (search nets-hung, nets-bytes _ _ _ _ _ (pre .0) (pre .1 .1 .1 .1) _ _ _ _ _ _ _ (c .before .loop .inv .0) (pre .1 .0) (c .loop-test .left))
+    (search nets-parents, nets-bytes _ _ _ _ _ (pre .0) (pre .1 .1 .1 .1) _ _ _ _ _ _ _ (c .before .loop .inv .0) (pre .1 .0) (c .loop-test .left))
 
 pub write-nets-spec : {M : Type 1} → statement M
 write-nets-spec =

@@ -12,12 +12,12 @@ use Rattle.facts.proofs.Bools.{and-i, true-false}
 use Rattle.netlist.specs.Kinds.{mappedLimit}
 use Rattle.netlist.specs.Records.{Netlist}
 use Rattle.nets.specs.Chains.{slotEnd, usedSlot, faninSlot, namesSlot, nextSink, slotDistance, Chained}
-use Rattle.mapper.specs.Writing.{Hung, Hooked, onParent, lineParent, onLine}
+use Rattle.mapper.specs.Writing.{ParentsSet, ParentsWritten, onParent, lineParent, onLine}
 use Rattle.nets.proofs.Chains.{next-within, next-none}
 use Rattle.nets.proofs.OneChain.{OnChain, chain-first, chain-start, chain-linked, chain-inside, chain-names, chain-near, chain-on, chain-less}
 
 -- d's sinks below slot p hold what f says; from p on d's chain stands
-pub record Threading (n : Netlist) (d : ℕ) (f : ℕ → ℕ) (before : List ℕ) (p : ℕ) (after : List ℕ) : Type 0 where
+pub record ParentsSoFar (n : Netlist) (d : ℕ) (f : ℕ → ℕ) (before : List ℕ) (p : ℕ) (after : List ℕ) : Type 0 where
   pub chain : OnChain n d p
   pub size : length after ≡ length before
   pub below : (y : ℕ) → y < p → y < slotEnd n → namesSlot n d y ≡ true → getD after y 0 ≡ f y
@@ -25,8 +25,8 @@ pub record Threading (n : Netlist) (d : ℕ) (f : ℕ → ℕ) (before : List �
   pub others : (y : ℕ) → namesSlot n d y ≡ false → getD after y 0 ≡ getD before y 0
 
 module _ (n : Netlist) (first before : List ℕ) (end d : ℕ) (h : Chained n first before d end) (f : ℕ → ℕ) where
-  pub thread-start : (p : ℕ) → d < n .size → p ≡ getD first d 0 → Threading n d f before p before
-  thread-start p l e =
+  pub parents-start : (p : ℕ) → d < n .size → p ≡ getD first d 0 → ParentsSoFar n d f before p before
+  parents-start p l e =
       record {
         chain = chain-start n first before end d h p l e;
         size = refl;
@@ -35,10 +35,10 @@ module _ (n : Netlist) (first before : List ℕ) (end d : ℕ) (h : Chained n fi
         others = λ y c. refl;
       }
 
-  module _ (p : ℕ) (after : List ℕ) (t : Threading n d f before p after) where
+  module _ (p : ℕ) (after : List ℕ) (t : ParentsSoFar n d f before p after) where
     module _ (l : p < end) where
-      pub thread-inside : p < length after
-      thread-inside = omega (arith, t .size, h .nextLong, h .stop)
+      pub parents-inside : p < length after
+      parents-inside = omega (arith, t .size, h .nextLong, h .stop)
 
       inside : p < slotEnd n
       inside = chain-inside n first before end d h p (t .chain) l
@@ -47,23 +47,23 @@ module _ (n : Netlist) (first before : List ℕ) (end d : ℕ) (h : Chained n fi
       names = chain-names n first before end d h p (t .chain) l
 
       -- a parent on a line fits its slot
-      pub thread-reach : (start k : ℕ) → start ≤ mappedLimit → k ≡ slotDistance n d p → start + k < 65536
-      thread-reach start k a e = omega (arith, chain-near n first before end d h p (t .chain) l k e)
+      pub parents-reach : (start k : ℕ) → start ≤ mappedLimit → k ≡ slotDistance n d p → start + k < 65536
+      parents-reach start k a e = omega (arith, chain-near n first before end d h p (t .chain) l k e)
 
       module _ (q : ℕ) (e : q ≡ getD after p 0) where
-        pub thread-next : q ≡ nextSink n d (suc p)
-        thread-next = e ∙ t .above p (omega arith) inside names
+        pub parents-next : q ≡ nextSink n d (suc p)
+        parents-next = e ∙ t .above p (omega arith) inside names
 
-        pub thread-less : end - q < end - p
-        thread-less = chain-less n first before end d h p (t .chain) l q thread-next
+        pub parents-less : end - q < end - p
+        parents-less = chain-less n first before end d h p (t .chain) l q parents-next
 
         further : p < q
-        further = omega (arith, thread-next, next-within n d (suc p) inside)
+        further = omega (arith, parents-next, next-within n d (suc p) inside)
 
-        pub thread-more : (v : ℕ) → v ≡ f p → Threading n d f before q (set after p v)
-        thread-more v g =
+        pub parents-more : (v : ℕ) → v ≡ f p → ParentsSoFar n d f before q (set after p v)
+        parents-more v g =
             record {
-              chain = chain-on n first before end d h p (t .chain) l q thread-next;
+              chain = chain-on n first before end d h p (t .chain) l q parents-next;
               size = length-set after p v ∙ t .size;
               below = λ y a b c. at y a b c (ℕ-discrete y p);
               above = λ y a b c.
@@ -75,16 +75,16 @@ module _ (n : Netlist) (first before : List ℕ) (end d : ℕ) (h : Chained n fi
           where
             at : (y : ℕ) → y < q → y < slotEnd n → namesSlot n d y ≡ true → Dec (y ≡ p) → getD (set after p v) y 0 ≡ f y
             at y a b c (yes x) =
-                rw x (getD-set-same after p v 0 thread-inside ∙ g)
+                rw x (getD-set-same after p v 0 parents-inside ∙ g)
             at y a b c (no x) =
                 getD-set-other after p y v 0 x
                 ∙ elim (decLt y p) [
                   | yes m ↦ t .below y m b c
-                  | no m ↦ absurd (next-none n d (suc p) y (omega arith) (omega (arith, thread-next)) c)
+                  | no m ↦ absurd (next-none n d (suc p) y (omega arith) (omega (arith, parents-next)) c)
                 ]
 
-    pub thread-end : end ≤ p → Hooked n d f before after
-    thread-end l =
+    pub parents-end : end ≤ p → ParentsWritten n d f before after
+    parents-end l =
         record {
           size = t .size;
           at = λ y a c. t .below y (omega (arith, t .chain .within, h .stop)) a c;
@@ -94,14 +94,14 @@ module _ (n : Netlist) (first before : List ℕ) (end d : ℕ) (h : Chained n fi
 pub driver-fits : (n : Netlist) (first next : List ℕ) (d end : ℕ) → Chained n first next d end → d < n .size → d < 65536
 driver-fits n first next d end h l = omega (arith, h .source .few)
 
-pub line-hung : (n : Netlist) (d start p k v : ℕ) → k ≡ slotDistance n d p → v ≡ lineParent d start k → v ≡ onLine n d start p
+pub line-parent-is : (n : Netlist) (d start p k v : ℕ) → k ≡ slotDistance n d p → v ≡ lineParent d start k → v ≡ onLine n d start p
 unfolding onLine
-line-hung n d start p k v e f = f ∙ ap (lineParent d start) e
+line-parent-is n d start p k v e f = f ∙ ap (lineParent d start) e
 
 -- once d's sinks hang on their parents, those of all drivers up to d do
-pub hung-next : (n : Netlist) (s d : ℕ) (first before after : List ℕ) (end : ℕ) →
-    Hung n s first before d end → Hooked n d (onParent n s) before after → Hung n s first after (d + 1) end
-hung-next n s d first before after end h k =
+pub parents-next-driver : (n : Netlist) (s d : ℕ) (first before after : List ℕ) (end : ℕ) →
+    ParentsSet n s first before d end → ParentsWritten n d (onParent n s) before after → ParentsSet n s first after (d + 1) end
+parents-next-driver n s d first before after end h k =
     record {
       chained =
           record {

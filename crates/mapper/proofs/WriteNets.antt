@@ -18,7 +18,7 @@ use Rattle.fanout.specs.declared.TreeTotals.{TreeTotals}
 use Rattle.mapper.specs.Bytes.{encoded, put, withRecords}
 use Rattle.mapper.specs.Mapped.{buffersOf, blockStart, mappedSize, mapped, Ready}
 use Rattle.nets.specs.Chains.{slotEnd, namesSlot, slotDistance, ShortChain}
-use Rattle.mapper.specs.Writing.{Stale, GrownNet, Hung, Hooked, onParent, onLine, lineRecord, Noded, Writable, Wrote}
+use Rattle.mapper.specs.Writing.{Stale, CountedNet, ParentsSet, ParentsWritten, onParent, onLine, lineRecord, NodeCounts, Writable, Wrote}
 use Rattle.nets.proofs.Lines.{line-size}
 use Rattle.nets.proofs.TreeCounts.{measured-none}
 use Rattle.mapper.proofs.Area.{records-none, records-more, records-length}
@@ -26,26 +26,26 @@ use Rattle.facts.proofs.Blocks.{block-before}
 use Rattle.fanout.specs.Walk.{Filled, Walked}
 use Rattle.fanout.proofs.Nets.{nodes-none}
 use Rattle.mapper.proofs.Nodes.{pos}
-use Rattle.mapper.proofs.Hanging.{named-sink}
-use Rattle.mapper.proofs.Lines.{line-written, line-hooked}
-use Rattle.mapper.proofs.Threading.{hung-next}
+use Rattle.mapper.proofs.SinkParents.{named-sink}
+use Rattle.mapper.proofs.Lines.{line-written, line-parents}
+use Rattle.mapper.proofs.ChainParents.{parents-next-driver}
 
 module _ (n : Netlist) (s d top : ℕ) (counts : List ℕ) (r : Ready n s) (f : Filled n d counts top) where
   -- after the walk the row holds the tree's buffers
-  rowed : (after : List ℕ) (t : TreeTotals) (w : Walked s counts true after t) → d < n .size →
+  buffer-counts : (after : List ℕ) (t : TreeTotals) (w : Walked s counts true after t) → d < n .size →
       (k : ℕ) → 1 ≤ k → k ≤ topLevel → getD after k 0 ≡ buffersOf n s d k
   unfolding buffersOf
-  rowed after t w ld zero a b = absurd (omega arith)
-  rowed after t w ld (suc k) a b =
+  buffer-counts after t w ld zero a b = absurd (omega arith)
+  buffer-counts after t w ld (suc k) a b =
       w .at (suc k) a
       ∙ ap (λ (r : List ℕ). buffersAt s r (suc k)) (f .counted)
 
-  pub net-grown : (after : List ℕ) (t : TreeTotals) → Walked s counts true after t → d < n .size → GrownNet n s d after top
-  net-grown after t w ld =
+  pub net-counted : (after : List ℕ) (t : TreeTotals) → Walked s counts true after t → d < n .size → CountedNet n s d after top
+  net-counted after t w ld =
       record {
         ready = r;
         driver = ld;
-        rowed = record { size = w .size; at = rowed after t w ld };
+        buffers = record { size = w .size; at = buffer-counts after t w ld };
         near = f .near;
         beyond = λ k l.
             nodes-none s (drop k (row n d)) (pos n s r)
@@ -55,8 +55,8 @@ module _ (n : Netlist) (s d top : ℕ) (counts : List ℕ) (r : Ready n s) (f : 
             ∙ f .beyond (k + x) (omega arith));
       }
 
-module _ (n : Netlist) (s d top : ℕ) (counts : List ℕ) (g : GrownNet n s d counts top) where
-  pub net-stale : (left : List ℕ) → Noded n s d left → Stale left top
+module _ (n : Netlist) (s d top : ℕ) (counts : List ℕ) (g : CountedNet n s d counts top) where
+  pub net-stale : (left : List ℕ) → NodeCounts n s d left → Stale left top
   net-stale left e =
       record {
         size = e .size;
@@ -76,14 +76,14 @@ module _ (n : Netlist) (s d at : ℕ) (first next : List ℕ) (end : ℕ) (count
   next-start = omega (arith, w .start, sum-last (treeSize n s) d)
 
   pub wrote : (after : ℕ) (next′ counts′ base′ area′ : List ℕ) → after ≡ blockStart n s (d + 1) → counts′ ≡ replicate (suc topLevel) 0 →
-      length base′ ≡ suc topLevel → Hooked n d (onParent n s) next next′ → area′ ≡ withRecords (mapped n s) at (treeSize n s d) area →
+      length base′ ≡ suc topLevel → ParentsWritten n d (onParent n s) next next′ → area′ ≡ withRecords (mapped n s) at (treeSize n s d) area →
       Wrote n s d at first next′ end counts′ base′ area area′ after
   wrote after next′ counts′ base′ area′ e c b k a =
       record {
         start = e;
         clear = c;
         room = b;
-        hung = hung-next n s d first next next′ end (w .hung) k;
+        parents = parents-next-driver n s d first next next′ end (w .parents) k;
         bytes = a;
       }
 
@@ -123,29 +123,29 @@ module _ (n : Netlist) (s d at : ℕ) (first next : List ℕ) (end : ℕ) (count
     pub line-next : Fits w64 (at + (top - 1))
     line-next = omega (arith, line-fits)
 
-    pub net-line : (low : ℕ) (next′ area′ : List ℕ) → low ≡ n .at d .level → Hooked n d (onLine n d at) next next′ →
+    pub net-line : (low : ℕ) (next′ area′ : List ℕ) → low ≡ n .at d .level → ParentsWritten n d (onLine n d at) next next′ →
         area′ ≡ put area (width * at) (encoded (lineRecord d at low) (top - 1)) →
         Wrote n s d at first next′ end counts base area area′ (at + (top - 1))
     net-line low next′ area′ e k a =
         wrote (at + (top - 1)) next′ counts base area′
         (omega (arith, size, next-start))
         (w .clear) (w .room)
-        (line-hooked n s d top atOne (w .ready) (w .driver) f next next′ (subst (λ (x : ℕ). Hooked n d (onLine n d x) next next′) (w .start) k))
+        (line-parents n s d top atOne (w .ready) (w .driver) f next next′ (subst (λ (x : ℕ). ParentsWritten n d (onLine n d x) next next′) (w .start) k))
         (a ∙ rw (e, w .start) (line-written n s d top atOne (w .ready) (w .driver) f area))
 
 -- the nets of the drivers below d are written
-pub record Netting (n : Netlist) (s : ℕ) (first : List ℕ) (end : ℕ) (area₀ : List ℕ) (d at : ℕ) (next counts base area : List ℕ) : Type 0 where
+pub record NetsWritten (n : Netlist) (s : ℕ) (first : List ℕ) (end : ℕ) (area₀ : List ℕ) (d at : ℕ) (next counts base area : List ℕ) : Type 0 where
   pub within : d ≤ n .size
   pub start : at ≡ blockStart n s d
   pub clear : counts ≡ replicate (suc topLevel) 0
   pub room : length base ≡ suc topLevel
-  pub hung : Hung n s first next d end
+  pub parents : ParentsSet n s first next d end
   pub long : length area ≡ length area₀
   pub bytes : area ≡ withRecords (mapped n s) (n .size) (sum (treeSize n s) d) area₀
 
 module _ (n : Netlist) (s : ℕ) (first : List ℕ) (end : ℕ) (area₀ : List ℕ) (r : Ready n s) (fits : width * mappedSize n s ≤ length area₀) where
   pub nets-start : (N : ℕ) (next counts base : List ℕ) → N ≡ n .size → counts ≡ replicate (suc topLevel) 0 → length base ≡ suc topLevel →
-      Hung n s first next 0 end → Netting n s first end area₀ 0 N next counts base area₀
+      ParentsSet n s first next 0 end → NetsWritten n s first end area₀ 0 N next counts base area₀
   unfolding sum
   nets-start N next counts base e c b h =
       record {
@@ -153,12 +153,12 @@ module _ (n : Netlist) (s : ℕ) (first : List ℕ) (end : ℕ) (area₀ : List 
         start = omega arith;
         clear = c;
         room = b;
-        hung = h;
+        parents = h;
         long = refl;
         bytes = sym (records-none (mapped n s) (n .size) 0 area₀);
       }
 
-  module _ (d at N : ℕ) (next counts base area : List ℕ) (h : Netting n s first end area₀ d at next counts base area) (size : N ≡ n .size) where
+  module _ (d at N : ℕ) (next counts base area : List ℕ) (h : NetsWritten n s first end area₀ d at next counts base area) (size : N ≡ n .size) where
     pub nets-writable : d < N → Writable n s d at first next end counts base area
     nets-writable l =
         record {
@@ -167,19 +167,19 @@ module _ (n : Netlist) (s : ℕ) (first : List ℕ) (end : ℕ) (area₀ : List 
           start = h .start;
           clear = h .clear;
           room = h .room;
-          hung = h .hung;
+          parents = h .parents;
           long = omega (arith, h .long);
         }
 
     pub nets-more : (after : ℕ) (next′ counts′ base′ area′ : List ℕ) → d < N →
-        Wrote n s d at first next′ end counts′ base′ area area′ after → Netting n s first end area₀ (d + 1) after next′ counts′ base′ area′
+        Wrote n s d at first next′ end counts′ base′ area area′ after → NetsWritten n s first end area₀ (d + 1) after next′ counts′ base′ area′
     nets-more after next′ counts′ base′ area′ l w =
         record {
           within = omega arith;
           start = w .start;
           clear = w .clear;
           room = w .room;
-          hung = w .hung;
+          parents = w .parents;
           long = ap length (w .bytes) ∙ records-length (mapped n s) at (treeSize n s d) area (omega (arith, inside, h .long)) ∙ h .long;
           bytes =
               w .bytes
@@ -191,8 +191,8 @@ module _ (n : Netlist) (s : ℕ) (first : List ℕ) (end : ℕ) (area₀ : List 
         inside : at + treeSize n s d ≤ mappedSize n s
         inside = omega (arith, h .start, block-before (treeSize n s) d (n .size) (omega arith))
 
-    pub nets-hung : N ≤ d → Hung n s first next (n .size) end
-    nets-hung l = let e : d ≡ n .size = omega (arith, h .within) in subst (λ (x : ℕ). Hung n s first next x end) e (h .hung)
+    pub nets-parents : N ≤ d → ParentsSet n s first next (n .size) end
+    nets-parents l = let e : d ≡ n .size = omega (arith, h .within) in subst (λ (x : ℕ). ParentsSet n s first next x end) e (h .parents)
 
     pub nets-bytes : N ≤ d → area ≡ withRecords (mapped n s) (n .size) (sum (treeSize n s) (n .size)) area₀
     nets-bytes l =

@@ -17,13 +17,13 @@ use Rattle.fanout.specs.Nets.{sinks, sinkAt, nodesAt, row, treeSize}
 use Rattle.fanout.proofs.Rows.{added-at}
 use Rattle.mapper.specs.Mapped.{buffersOf, parent, rank, sinkNumber, sinkParent, Ready}
 use Rattle.nets.specs.Chains.{slotEnd, usedSlot, faninSlot, namesSlot, nextSink, slotDistance, sinksBelow}
-use Rattle.mapper.specs.Writing.{behind, onParent, Hangable, Noded}
+use Rattle.mapper.specs.Writing.{behind, onParent, ParentsDue, NodeCounts}
 use Rattle.nets.proofs.OneChain.{sinks-all, sinks-below, sinks-rise, sinks-more, named-above, chain-none, chain-all, chain-inside, chain-names, chain-apart, chain-near, chain-count}
 use Rattle.facts.proofs.Blocks.{block-before}
 use Rattle.mapper.proofs.Mapped.{tree-sum}
 use Rattle.mapper.proofs.Nodes.{pos, IsNode, nodes-split, source-node, parent-inside}
-use Rattle.mapper.proofs.Planting.{parent-from}
-use Rattle.mapper.proofs.Threading.{Threading, thread-start, thread-next, thread-more}
+use Rattle.mapper.proofs.WriteTree.{parent-from}
+use Rattle.mapper.proofs.ChainParents.{ParentsSoFar, parents-start, parents-next, parents-more}
 
 -- a rank by slot number
 rank-flat : (f : ℕ → ℕ → Bool) (p : ℕ) → rank f (p / slots) (p % slots) ≡ count (λ z. f (z / slots) (z % slots)) p
@@ -92,35 +92,35 @@ module _ (n : Netlist) (s : ℕ) (r : Ready n s) (d p : ℕ) (l : p < slotEnd n)
       ap (λ (d : ℕ). parent n s d (slotDistance n d p) (numbered n s p d)) driven ∙ ap (parent n s d (slotDistance n d p)) number-flat
 
 -- d's sinks below slot p hang on their parents, and are counted behind the buffers of their distances
-pub record Hanging (n : Netlist) (s d : ℕ) (before : List ℕ) (p : ℕ) (next counts : List ℕ) : Type 0 where
-  pub threading : Threading n d (onParent n s) before p next
+pub record SinksSoFar (n : Netlist) (s d : ℕ) (before : List ℕ) (p : ℕ) (next counts : List ℕ) : Type 0 where
+  pub soFar : ParentsSoFar n d (onParent n s) before p next
   pub size : length counts ≡ suc topLevel
   pub counted : (k : ℕ) → 1 ≤ k → k ≤ topLevel → getD counts k 0 ≡ buffersOf n s d k + sinksBelow n d k p
 
 module _ (n : Netlist) (s d : ℕ) (first before : List ℕ) (end : ℕ) (counts₀ base : List ℕ)
-    (h : Hangable n s d first before end counts₀ base) where
-  pub hang-start : (p : ℕ) → p ≡ getD first d 0 → Hanging n s d before p before counts₀
-  hang-start p e =
+    (h : ParentsDue n s d first before end counts₀ base) where
+  pub sinks-start : (p : ℕ) → p ≡ getD first d 0 → SinksSoFar n s d before p before counts₀
+  sinks-start p e =
       record {
-        threading = thread-start n first before end d (h .hung .chained) (onParent n s) p (h .driver) e;
-        size = h .rowed .size;
-        counted = λ k a b. omega (arith, h .rowed .at k a b, chain-none n first before end d (h .hung .chained) p (h .driver) e k);
+        soFar = parents-start n first before end d (h .parents .chained) (onParent n s) p (h .driver) e;
+        size = h .buffers .size;
+        counted = λ k a b. omega (arith, h .buffers .at k a b, chain-none n first before end d (h .parents .chained) p (h .driver) e k);
       }
 
-  module _ (p : ℕ) (next counts : List ℕ) (f : Hanging n s d before p next counts) where
+  module _ (p : ℕ) (next counts : List ℕ) (f : SinksSoFar n s d before p next counts) where
     module _ (l : p < end) (k : ℕ) (ek : k ≡ slotDistance n d p) where
       inside : p < slotEnd n
-      inside = chain-inside n first before end d (h .hung .chained) p (f .threading .chain) l
+      inside = chain-inside n first before end d (h .parents .chained) p (f .soFar .chain) l
 
       names : namesSlot n d p ≡ true
-      names = chain-names n first before end d (h .hung .chained) p (f .threading .chain) l
+      names = chain-names n first before end d (h .parents .chained) p (f .soFar .chain) l
 
       near : k < suc topLevel
-      near = chain-near n first before end d (h .hung .chained) p (f .threading .chain) l k ek
+      near = chain-near n first before end d (h .parents .chained) p (f .soFar .chain) l k ek
 
       number-is : getD counts k 0 ≡ buffersOf n s d k + sinksBelow n d k p
       number-is =
-          f .counted k (chain-apart n first before end d (h .hung .chained) p (f .threading .chain) l k ek) (omega (arith, near))
+          f .counted k (chain-apart n first before end d (h .parents .chained) p (f .soFar .chain) l k ek) (omega (arith, near))
 
       node : IsNode n s (h .ready) d k (getD counts k 0)
       node = rw (number-is, ek) (sink-node n s (h .ready) d p inside names)
@@ -128,7 +128,7 @@ module _ (n : Netlist) (s d : ℕ) (first before : List ℕ) (end : ℕ) (counts
       on-base : parent n s d k (getD counts k 0) ≡ getD base k 0 + behind s k (getD counts k 0)
       on-base =
           parent-from n s d k (getD counts k 0)
-          ∙ ap (λ (x : ℕ). x + behind s k (getD counts k 0)) (sym (h .based .at k (node .above) (omega (arith, node .number))))
+          ∙ ap (λ (x : ℕ). x + behind s k (getD counts k 0)) (sym (h .firstParents .at k (node .above) (omega (arith, node .number))))
 
       hangs-on : onParent n s p ≡ getD base k 0 + behind s k (getD counts k 0)
       hangs-on = sink-parent n s (h .ready) d p inside names ∙ by-level ∙ on-base
@@ -136,11 +136,11 @@ module _ (n : Netlist) (s d : ℕ) (first before : List ℕ) (end : ℕ) (counts
           by-level : parent n s d (slotDistance n d p) (flatNumbered n s p d) ≡ parent n s d k (getD counts k 0)
           by-level = rw (number-is, ek) refl
 
-      pub hang-parent : getD base k 0 + behind s k (getD counts k 0) < 65536
-      hang-parent = omega (arith, on-base, parent-inside n s (h .ready) d k (getD counts k 0) node, h .ready .fits)
+      pub sinks-parent : getD base k 0 + behind s k (getD counts k 0) < 65536
+      sinks-parent = omega (arith, on-base, parent-inside n s (h .ready) d k (getD counts k 0) node, h .ready .fits)
 
-      pub hang-fits : Fits w32 (getD counts k 0 + 1)
-      hang-fits =
+      pub sinks-fit : Fits w32 (getD counts k 0 + 1)
+      sinks-fit =
           omega (
             arith,
             number-is,
@@ -153,27 +153,27 @@ module _ (n : Netlist) (s d : ℕ) (first before : List ℕ) (end : ℕ) (counts
             h .ready .fits,
           )
 
-      pub hang-more : (q t : ℕ) → q ≡ getD next p 0 → t ≡ getD base k 0 + behind s k (getD counts k 0) →
-          Hanging n s d before q (set next p t) (set counts k (getD counts k 0 + 1))
-      hang-more q t e g =
+      pub sinks-next : (q t : ℕ) → q ≡ getD next p 0 → t ≡ getD base k 0 + behind s k (getD counts k 0) →
+          SinksSoFar n s d before q (set next p t) (set counts k (getD counts k 0 + 1))
+      sinks-next q t e g =
           record {
-            threading =
-                thread-more n first before end d (h .hung .chained) (onParent n s) p next (f .threading) l q e t (g ∙ sym hangs-on);
+            soFar =
+                parents-more n first before end d (h .parents .chained) (onParent n s) p next (f .soFar) l q e t (g ∙ sym hangs-on);
             size = length-set counts k _ ∙ f .size;
             counted = λ x a b.
                 omega (
                   arith,
                   added-at counts k x (omega (arith, f .size, near)),
                   f .counted x a b,
-                  chain-count n first before end d (h .hung .chained) p (f .threading .chain) l q next-is k x ek,
+                  chain-count n first before end d (h .parents .chained) p (f .soFar .chain) l q next-is k x ek,
                 );
           }
         where
           next-is : q ≡ nextSink n d (suc p)
-          next-is = thread-next n first before end d (h .hung .chained) (onParent n s) p next (f .threading) l q e
+          next-is = parents-next n first before end d (h .parents .chained) (onParent n s) p next (f .soFar) l q e
 
-    pub hang-noded : end ≤ p → Noded n s d counts
-    hang-noded l = record { size = f .size; at = all }
+    pub sinks-end : end ≤ p → NodeCounts n s d counts
+    sinks-end l = record { size = f .size; at = all }
       where
         all : (k : ℕ) → 1 ≤ k → k ≤ topLevel → getD counts k 0 ≡ nodesAt s (row n d) k
         all zero a b = absurd (omega arith)
@@ -181,6 +181,6 @@ module _ (n : Netlist) (s d : ℕ) (first before : List ℕ) (end : ℕ) (counts
             omega (
               arith,
               f .counted (suc k) a b,
-              chain-all n first before end d (h .hung .chained) p (f .threading .chain) l (suc k),
+              chain-all n first before end d (h .parents .chained) p (f .soFar .chain) l (suc k),
               nodes-split n s (h .ready) d k b,
             )

@@ -18,7 +18,7 @@ use Rattle.fanout.specs.Nets.{up, treeSize}
 use Rattle.fanout.proofs.Nets.{up-zero}
 use Rattle.mapper.specs.Bytes.{encoded, recs, put, withRecords}
 use Rattle.mapper.specs.Mapped.{buffersOf, blockStart, mappedSize, place, parent, bufferOf, bufferRecord, mappedAt, mapped, Ready}
-use Rattle.mapper.specs.Writing.{behind, levelRecord, GrownNet, Based}
+use Rattle.mapper.specs.Writing.{behind, levelRecord, CountedNet, FirstParents}
 use Rattle.facts.proofs.Blocks.{block-before}
 use Rattle.mapper.proofs.Mapped.{tree-sum, at-place}
 use Rattle.mapper.proofs.Nodes.{pos}
@@ -60,40 +60,40 @@ module _ (n : Netlist) (s d : ℕ) (ld : d < n .size) where
   parent-before (suc (suc k)) l = omega (arith, zero-div s, sum-more (buffersOf n s d) (suc k) (suc (suc k)) (omega arith))
 
 -- distances below k are written
-pub record Planting (n : Netlist) (s d start top : ℕ) (area₀ base area : List ℕ) (at from k : ℕ) : Type 0 where
+pub record LevelsWritten (n : Netlist) (s d start top : ℕ) (area₀ base area : List ℕ) (at from k : ℕ) : Type 0 where
   pub above : 1 ≤ k
   pub within : k ≤ suc top
   pub here : at ≡ start + sum (buffersOf n s d) k
-  pub hung : from ≡ parent n s d k 0
+  pub parents : from ≡ parent n s d k 0
   pub size : length base ≡ suc topLevel
-  pub based : (x : ℕ) → 1 ≤ x → x < k → getD base x 0 ≡ parent n s d x 0
+  pub firstParents : (x : ℕ) → 1 ≤ x → x < k → getD base x 0 ≡ parent n s d x 0
   pub long : length area ≡ length area₀
   pub bytes : area ≡ withRecords (mapped n s) start (sum (buffersOf n s d) k) area₀
 
-module _ (n : Netlist) (s d start top : ℕ) (counts area₀ : List ℕ) (h : GrownNet n s d counts top) (e : start ≡ blockStart n s d)
+module _ (n : Netlist) (s d start top : ℕ) (counts area₀ : List ℕ) (h : CountedNet n s d counts top) (e : start ≡ blockStart n s d)
     (room : width * mappedSize n s ≤ length area₀) where
   at-one : sum (buffersOf n s d) 1 ≡ 0
   unfolding sum buffersOf
   at-one = refl
 
-  pub plant-start : (base : List ℕ) → length base ≡ suc topLevel → Planting n s d start top area₀ base area₀ start d 1
+  pub tree-start : (base : List ℕ) → length base ≡ suc topLevel → LevelsWritten n s d start top area₀ base area₀ start d 1
   unfolding parent
-  plant-start base b =
+  tree-start base b =
       record {
         above = omega arith;
         within = omega arith;
         here = omega (arith, at-one);
-        hung = refl;
+        parents = refl;
         size = b;
-        based = λ x l m. absurd (omega arith);
+        firstParents = λ x l m. absurd (omega arith);
         long = refl;
         bytes = sym (ap (λ (c : ℕ). withRecords (mapped n s) start c area₀) at-one ∙ records-none (mapped n s) start 0 area₀);
       }
 
-  pub plant-driver : Fits w16 d
-  plant-driver = omega (arith, h .driver, h .ready .source .few)
+  pub tree-driver : Fits w16 d
+  tree-driver = omega (arith, h .driver, h .ready .source .few)
 
-  module _ (base area : List ℕ) (at from k : ℕ) (p : Planting n s d start top area₀ base area at from k) where
+  module _ (base area : List ℕ) (at from k : ℕ) (p : LevelsWritten n s d start top area₀ base area at from k) where
     -- what is written of the tree stays within M
     up-to : (k : ℕ) → k ≤ suc topLevel → start + sum (buffersOf n s d) k ≤ mappedSize n s
     up-to k l =
@@ -106,44 +106,44 @@ module _ (n : Netlist) (s d start top : ℕ) (counts area₀ : List ℕ) (h : Gr
 
     module _ (l : k ≤ top) where
       counted : getD counts k 0 ≡ buffersOf n s d k
-      counted = h .rowed .at k (p .above) (omega (arith, h .near))
+      counted = h .buffers .at k (p .above) (omega (arith, h .near))
 
       ends : at + getD counts k 0 ≤ mappedSize n s
       ends = omega (arith, p .here, counted, sum-last (buffersOf n s d) k, up-to (k + 1) (omega (arith, h .near)))
 
-      pub plant-room : width * (at + getD counts k 0) ≤ length area
-      plant-room = omega (arith, ends, p .long)
+      pub tree-room : width * (at + getD counts k 0) ≤ length area
+      tree-room = omega (arith, ends, p .long)
 
       from-before : from ≤ at
-      from-before = omega (arith, p .hung, parent-before n s d (h .driver) k (p .above), p .here)
+      from-before = omega (arith, p .parents, parent-before n s d (h .driver) k (p .above), p .here)
 
-      pub plant-parents : from + getD counts k 0 < 65536
-      plant-parents = omega (arith, ends, from-before, h .ready .fits)
+      pub tree-parents : from + getD counts k 0 < 65536
+      tree-parents = omega (arith, ends, from-before, h .ready .fits)
 
-      pub plant-fits : Fits w16 at
-      plant-fits = omega (arith, ends, h .ready .fits)
+      pub tree-fits : Fits w16 at
+      tree-fits = omega (arith, ends, h .ready .fits)
 
-      pub plant-next : (c : ℕ) → c ≡ getD counts k 0 → Fits w64 (at + c)
-      plant-next c m = omega (arith, ends, h .ready .fits)
+      pub tree-next : (c : ℕ) → c ≡ getD counts k 0 → Fits w64 (at + c)
+      tree-next c m = omega (arith, ends, h .ready .fits)
 
-      pub plant-level : (low : ℕ) → low ≡ n .at d .level → Fits w16 (low + k)
-      plant-level low f = omega (arith, h .near, h .ready .source .levels d (h .driver))
+      pub tree-level : (low : ℕ) → low ≡ n .at d .level → Fits w16 (low + k)
+      tree-level low f = omega (arith, h .near, h .ready .source .levels d (h .driver))
 
-      pub plant-more : (low c : ℕ) (after : List ℕ) → low ≡ n .at d .level → c ≡ getD counts k 0 →
+      pub tree-more : (low c : ℕ) (after : List ℕ) → low ≡ n .at d .level → c ≡ getD counts k 0 →
           after ≡ put area (width * at) (encoded (levelRecord s k (low + k) from) (getD counts k 0)) →
-          Planting n s d start top area₀ (set base k from) after (at + c) at (k + 1)
-      plant-more low c after f m g =
+          LevelsWritten n s d start top area₀ (set base k from) after (at + c) at (k + 1)
+      tree-more low c after f m g =
           record {
             above = omega arith;
             within = omega arith;
             here = omega (arith, p .here, counted, sum-last (buffersOf n s d) k);
-            hung = rw (add-one k) (at-place-k ∙ sym (parent-next n s d (h .driver) k (p .above)));
+            parents = rw (add-one k) (at-place-k ∙ sym (parent-next n s d (h .driver) k (p .above)));
             size = length-set base k from ∙ p .size;
-            based = λ x a b. at-distance x a b (ℕ-discrete x k);
+            firstParents = λ x a b. at-distance x a b (ℕ-discrete x k);
             long =
                 ap length g
                 ∙ ap (λ (l : List ℕ). length (put area (width * at) l)) level-bytes
-                ∙ records-length (mapped n s) at (getD counts k 0) area plant-room ∙ p .long;
+                ∙ records-length (mapped n s) at (getD counts k 0) area tree-room ∙ p .long;
             bytes =
                 g
                 ∙ ap (put area (width * at)) level-bytes
@@ -160,11 +160,11 @@ module _ (n : Netlist) (s d start top : ℕ) (counts area₀ : List ℕ) (h : Gr
 
           level-bytes : encoded (levelRecord s k (low + k) from) (getD counts k 0) ≡ recs (mapped n s) at (getD counts k 0)
           level-bytes =
-              rw (f, p .hung, counted, at-place-k) (level-records n s (h .ready) d k (h .driver) (omega (arith, h .near)))
+              rw (f, p .parents, counted, at-place-k) (level-records n s (h .ready) d k (h .driver) (omega (arith, h .near)))
 
           at-distance : (x : ℕ) → 1 ≤ x → x < k + 1 → Dec (x ≡ k) → getD (set base k from) x 0 ≡ parent n s d x 0
-          at-distance x a b (yes q) = rw q (getD-set-same base k from 0 (omega (arith, p .size, h .near)) ∙ p .hung)
-          at-distance x a b (no q) = getD-set-other base k x from 0 q ∙ p .based x a (omega arith)
+          at-distance x a b (yes q) = rw q (getD-set-same base k from 0 (omega (arith, p .size, h .near)) ∙ p .parents)
+          at-distance x a b (no q) = getD-set-other base k x from 0 q ∙ p .firstParents x a (omega arith)
 
     no-buffers : (k : ℕ) → top < k → buffersOf n s d k ≡ 0
     unfolding buffersOf
@@ -184,19 +184,19 @@ module _ (n : Netlist) (s d start top : ℕ) (counts area₀ : List ℕ) (h : Gr
         rest : k + (suc topLevel - k) ≡ suc topLevel
         rest = omega (arith, p .within, h .near)
 
-    pub plant-end : top < k → at ≡ blockStart n s (d + 1)
-    plant-end l = omega (arith, p .here, whole l, sum-last (treeSize n s) d)
+    pub tree-end : top < k → at ≡ blockStart n s (d + 1)
+    tree-end l = omega (arith, p .here, whole l, sum-last (treeSize n s) d)
 
-    pub plant-based : top < k → Based n s d base
-    plant-based l =
+    pub tree-first-parents : top < k → FirstParents n s d base
+    tree-first-parents l =
         record {
           size = p .size;
           at = λ x a b.
               elim (decLt x k) [
-                | yes m ↦ p .based x a m
+                | yes m ↦ p .firstParents x a m
                 | no m ↦ absurd (omega (arith, h .beyond x (omega arith)))
               ];
         }
 
-    pub plant-bytes : top < k → area ≡ withRecords (mapped n s) start (treeSize n s d) area₀
-    plant-bytes l = p .bytes ∙ ap (λ (c : ℕ). withRecords (mapped n s) start c area₀) (whole l)
+    pub tree-bytes : top < k → area ≡ withRecords (mapped n s) start (treeSize n s d) area₀
+    tree-bytes l = p .bytes ∙ ap (λ (c : ℕ). withRecords (mapped n s) start c area₀) (whole l)

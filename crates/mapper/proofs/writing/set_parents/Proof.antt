@@ -1,16 +1,16 @@
--- `hang_sinks` meets its contract: the sinks of d below slot p hang on their parents.
+-- `set_parents` meets its contract: the sinks of d below slot p hang on their parents.
 use Prim.Native.Nat.{_-_}
 use mathlib.Core.Path.{_≡_}
 use Rattle.netlist.specs.Records.{netlist, recordAt}
 use Rattle.nets.proofs.OneChain.{first-inside, distance-is, chain-above, chain-near}
-use Rattle.mapper.proofs.Threading.{thread-inside, thread-less, thread-end}
-use Rattle.mapper.proofs.Hanging.{Hanging, hang-start, hang-parent, hang-fits, hang-more, hang-noded}
+use Rattle.mapper.proofs.ChainParents.{parents-inside, parents-less, parents-end}
+use Rattle.mapper.proofs.SinkParents.{SinksSoFar, sinks-start, sinks-parent, sinks-fit, sinks-next, sinks-end}
 use borrow.Author.Needs.{needs}
-use Rattle.mapper.proofs.writing.hang_sinks.Statement.{statement}
-use Rattle.mapper.proofs.writing.hang_sinks.Tie as tie
+use Rattle.mapper.proofs.writing.set_parents.Statement.{statement}
+use Rattle.mapper.proofs.writing.set_parents.Tie as tie
 
 abbrev Inv-loop : tie.InvT-loop
-Inv-loop source s end first next₀ d base row₀ low p₀ next row p = (low ≡ recordAt source d .level) × Hanging (netlist source) s d next₀ p next row
+Inv-loop source s end first next₀ d base row₀ low p₀ next row p = (low ≡ recordAt source d .level) × SinksSoFar (netlist source) s d next₀ p next row
 
 abbrev μ-loop : tie.MeasureT-loop
 μ-loop source s end first next₀ d base row₀ low p₀ next row p = end - p
@@ -28,13 +28,13 @@ index-requires : tie.Need-index-requires Inv-loop μ-loop
 index-requires c κs = search needs
 
 loop-holds : tie.Need-loop-holds Inv-loop μ-loop
-loop-holds c = (search needs, search hang-start)
+loop-holds c = (search needs, search sinks-start)
 
 mul-index-2 : tie.Need-mul-index-2 Inv-loop μ-loop
 mul-index-2 c = search needs
 
 slice-read-index : tie.Need-slice-read-index Inv-loop μ-loop
-slice-read-index c = search thread-inside
+slice-read-index c = search parents-inside
 
 index-requires-2 : tie.Need-index-requires-2 Inv-loop μ-loop
 index-requires-2 c κs = search needs
@@ -49,7 +49,7 @@ element-copy-out-q : tie.Need-element-copy-out-q Inv-loop μ-loop
 element-copy-out-q c = search (chain-near, distance-is)
 
 add-row : tie.Need-add-row Inv-loop μ-loop
-add-row c = search (hang-fits, distance-is)
+add-row c = search (sinks-fit, distance-is)
 
 mul-row : tie.Need-mul-row Inv-loop μ-loop
 mul-row c = search needs
@@ -64,28 +64,28 @@ element-copy-out-parent-of : tie.Need-element-copy-out-parent-of Inv-loop μ-loo
 element-copy-out-parent-of c = search (chain-near, distance-is)
 
 parent-of-requires : tie.Need-parent-of-requires Inv-loop μ-loop
-parent-of-requires c κs = (search needs, search (hang-parent, distance-is))
+parent-of-requires c κs = (search needs, search (sinks-parent, distance-is))
 
 mul-next : tie.Need-mul-next Inv-loop μ-loop
 mul-next c = search needs
 
 slice-write-next : tie.Need-slice-write-next Inv-loop μ-loop
-slice-write-next c = search thread-inside
+slice-write-next c = search parents-inside
 
 loop-less : tie.Need-loop-less Inv-loop μ-loop
-loop-less c = search thread-less
+loop-less c = search parents-less
 
 loop-again : tie.Need-loop-again Inv-loop μ-loop
-loop-again c = (search needs, search (hang-more, distance-is))
+loop-again c = (search needs, search (sinks-next, distance-is))
 
 same-length : tie.Need-same-length Inv-loop μ-loop
 same-length c = search needs
 
 returns : tie.Need-returns Inv-loop μ-loop
-returns c = (search thread-end, search hang-noded)
+returns c = (search parents-end, search sinks-end)
 
-pub hang-sinks-spec : {M : Type 1} → statement M
-hang-sinks-spec =
+pub set-parents-spec : {M : Type 1} → statement M
+set-parents-spec =
     tie.close
     (tie.spec
     Inv-loop

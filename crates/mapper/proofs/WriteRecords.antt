@@ -19,15 +19,15 @@ use Rattle.mapper.proofs.Bytes.{length-joined, length-encode}
 use Rattle.mapper.proofs.Area.{length-put, put-behind, put-within}
 
 -- records f 0 to f (j - 1) are written from record at on
-pub record Joining (area₀ : List ℕ) (at : ℕ) (f : ℕ → Record) (n : ℕ) (area : List ℕ) (j : ℕ) : Type 0 where
+pub record RecordsSoFar (area₀ : List ℕ) (at : ℕ) (f : ℕ → Record) (n : ℕ) (area : List ℕ) (j : ℕ) : Type 0 where
   pub within : j ≤ n
   pub long : length area ≡ length area₀
   pub bytes : area ≡ put area₀ (width * at) (encoded f j)
 
 module _ (area₀ : List ℕ) (at : ℕ) (f : ℕ → Record) (n : ℕ) where
-  pub join-start : Joining area₀ at f n area₀ 0
+  pub written-start : RecordsSoFar area₀ at f n area₀ 0
   unfolding encoded joined
-  join-start =
+  written-start =
       record {
         within = omega arith;
         long = refl;
@@ -35,19 +35,19 @@ module _ (area₀ : List ℕ) (at : ℕ) (f : ℕ → Record) (n : ℕ) where
             sym (ap (λ (k : ℕ). take (width * at) area₀ ++ drop k area₀) (add-zero (width * at)) ∙ take-append-drop (width * at) area₀);
       }
 
-  module _ (area : List ℕ) (j : ℕ) (h : Joining area₀ at f n area j) where
-    pub join-room : width * (at + n) ≤ length area₀ → j < n → width * (at + j) + width ≤ length area
-    join-room room l = omega (arith, h .long)
+  module _ (area : List ℕ) (j : ℕ) (h : RecordsSoFar area₀ at f n area j) where
+    pub written-room : width * (at + n) ≤ length area₀ → j < n → width * (at + j) + width ≤ length area
+    written-room room l = omega (arith, h .long)
 
-    pub join-end : n ≤ j → area ≡ put area₀ (width * at) (encoded f n)
-    join-end l =
+    pub written-end : n ≤ j → area ≡ put area₀ (width * at) (encoded f n)
+    written-end l =
         let e : j ≡ n = omega (arith, h .within) in
         h .bytes ∙ ap (λ (k : ℕ). put area₀ (width * at) (encoded f k)) e
 
-    pub join-more : (r : Record) (after : List ℕ) → width * (at + n) ≤ length area₀ → j < n → r ≡ f j →
-        after ≡ put area (width * (at + j)) (encode r) → Joining area₀ at f n after (j + 1)
+    pub written-more : (r : Record) (after : List ℕ) → width * (at + n) ≤ length area₀ → j < n → r ≡ f j →
+        after ≡ put area (width * (at + j)) (encode r) → RecordsSoFar area₀ at f n after (j + 1)
     unfolding encoded joined
-    join-more r after room l e g =
+    written-more r after room l e g =
         record {
           within = omega arith;
           long =
@@ -97,13 +97,13 @@ level-parent base s zero n j l b = omega arith
 level-parent base s (suc zero) n j l b = omega arith
 level-parent base s (suc (suc k)) n j l b = omega (arith, div-le-self j s)
 
-module _ (area₀ : List ℕ) (s k at level base n : ℕ) (area : List ℕ) (j : ℕ) (h : Joining area₀ at (levelRecord s k level base) n area j) where
+module _ (area₀ : List ℕ) (s k at level base n : ℕ) (area : List ℕ) (j : ℕ) (h : RecordsSoFar area₀ at (levelRecord s k level base) n area j) where
   pub level-more : (fanin : ℕ) (r : Record) (after : List ℕ) → width * (at + n) ≤ length area₀ → j < n → fanin ≡ base + behind s k j →
       r ≡ bufferOf level fanin → after ≡ put area (width * (at + j)) (encode r) →
-      Joining area₀ at (levelRecord s k level base) n after (j + 1)
+      RecordsSoFar area₀ at (levelRecord s k level base) n after (j + 1)
   unfolding levelRecord
   level-more fanin r after room l e f g =
-      join-more area₀ at (levelRecord s k level base) n area j h r after room l (f ∙ ap (bufferOf level) e) g
+      written-more area₀ at (levelRecord s k level base) n area j h r after room l (f ∙ ap (bufferOf level) e) g
 
 -- what a node at distance k of a line hangs on, by distance
 pub line-near : (d start k : ℕ) → k < 2 → d ≡ lineParent d start k
@@ -119,13 +119,13 @@ line-far d start (suc zero) l = absurd (omega arith)
 line-far d start (suc (suc k)) l = omega arith
 
 -- buffer j of a line
-pub line-more : (area₀ : List ℕ) (d start low n : ℕ) (area : List ℕ) (j : ℕ) → Joining area₀ start (lineRecord d start low) n area j →
+pub line-more : (area₀ : List ℕ) (d start low n : ℕ) (area : List ℕ) (j : ℕ) → RecordsSoFar area₀ start (lineRecord d start low) n area j →
     (fanin : ℕ) (r : Record) (after : List ℕ) → width * (start + n) ≤ length area₀ → j < n → fanin ≡ lineParent d start (j + 1) →
     r ≡ bufferOf (low + (j + 1)) fanin → after ≡ put area (width * (start + j)) (encode r) →
-    Joining area₀ start (lineRecord d start low) n after (j + 1)
+    RecordsSoFar area₀ start (lineRecord d start low) n after (j + 1)
 unfolding lineRecord
 line-more area₀ d start low n area j h fanin r after room l e f g =
-    join-more area₀ start (lineRecord d start low) n area j h r after room l
+    written-more area₀ start (lineRecord d start low) n area j h r after room l
     (f ∙ ap₂ bufferOf (ap (λ (k : ℕ). low + k) (add-one j)) (e ∙ ap (lineParent d start) (add-one j))) g
 
 -- a record whose first slots are written anew
@@ -199,17 +199,17 @@ module _ (r : Record) (parents : List ℕ) (i : ℕ) where
               done 3 three (renewed-more two three 2 after-two (omega arith) e₃) (omega (arith, arity-slots (r .kind)))
 
 -- record i of the source: read, then written with its used slots anew
-module _ (bytes parents area₀ : List ℕ) (n : ℕ) (area : List ℕ) (i : ℕ) (h : Joining area₀ 0 (relinkedAt bytes parents) n area i) where
+module _ (bytes parents area₀ : List ℕ) (n : ℕ) (area : List ℕ) (i : ℕ) (h : RecordsSoFar area₀ 0 (relinkedAt bytes parents) n area i) where
   pub source-room : width * n ≤ length area₀ → i < n → width * i + width ≤ length area
   source-room room l = omega (arith, h .long)
 
   pub source-more : (r : Record) (after : List ℕ) → width * n ≤ length area₀ → i < n → r ≡ recordAt bytes i →
-      after ≡ put area (width * i) (encode (relinked r parents i)) → Joining area₀ 0 (relinkedAt bytes parents) n after (i + 1)
+      after ≡ put area (width * i) (encode (relinked r parents i)) → RecordsSoFar area₀ 0 (relinkedAt bytes parents) n after (i + 1)
   unfolding relinkedAt
   source-more r after room l e g =
-      join-more area₀ 0 (relinkedAt bytes parents) n area i h (relinked r parents i) after (omega arith) l
+      written-more area₀ 0 (relinkedAt bytes parents) n area i h (relinked r parents i) after (omega arith) l
       (ap (λ (r : Record). relinked r parents i) e)
       (g ∙ ap (λ (k : ℕ). put area (width * k) (encode (relinked r parents i))) (sym (zero-add i)))
 
   pub source-end : (N : ℕ) → N ≡ n → N ≤ i → area ≡ put area₀ 0 (encoded (relinkedAt bytes parents) n)
-  source-end N e l = join-end area₀ 0 (relinkedAt bytes parents) n area i h (omega arith)
+  source-end N e l = written-end area₀ 0 (relinkedAt bytes parents) n area i h (omega arith)

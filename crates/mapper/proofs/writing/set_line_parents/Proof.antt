@@ -1,16 +1,16 @@
--- `hang_line` meets its contract: the sinks of d below slot p hang on the line.
+-- `set_line_parents` meets its contract: the sinks of d below slot p hang on the line.
 use Prim.Native.Nat.{_-_}
 use mathlib.Core.Path.{_≡_}
 use Rattle.netlist.specs.Records.{netlist, recordAt}
 use Rattle.mapper.specs.Writing.{onLine}
 use Rattle.nets.proofs.OneChain.{first-inside, distance-is, chain-above}
-use Rattle.mapper.proofs.Threading.{Threading, thread-start, thread-reach, thread-inside, thread-less, thread-more, thread-end, driver-fits, line-hung}
+use Rattle.mapper.proofs.ChainParents.{ParentsSoFar, parents-start, parents-reach, parents-inside, parents-less, parents-more, parents-end, driver-fits, line-parent-is}
 use borrow.Author.Needs.{needs}
-use Rattle.mapper.proofs.writing.hang_line.Statement.{statement}
-use Rattle.mapper.proofs.writing.hang_line.Tie as tie
+use Rattle.mapper.proofs.writing.set_line_parents.Statement.{statement}
+use Rattle.mapper.proofs.writing.set_line_parents.Tie as tie
 
 abbrev Inv-loop : tie.InvT-loop
-Inv-loop source end first next₀ d start low p₀ next p = (low ≡ recordAt source d .level) × Threading (netlist source) d (onLine (netlist source) d start) next₀ p next
+Inv-loop source end first next₀ d start low p₀ next p = (low ≡ recordAt source d .level) × ParentsSoFar (netlist source) d (onLine (netlist source) d start) next₀ p next
 
 abbrev μ-loop : tie.MeasureT-loop
 μ-loop source end first next₀ d start low p₀ next p = end - p
@@ -28,13 +28,13 @@ index-requires : tie.Need-index-requires Inv-loop μ-loop
 index-requires c κs = search needs
 
 loop-holds : tie.Need-loop-holds Inv-loop μ-loop
-loop-holds c = (search needs, search thread-start)
+loop-holds c = (search needs, search parents-start)
 
 mul-index-2 : tie.Need-mul-index-2 Inv-loop μ-loop
 mul-index-2 c = search needs
 
 slice-read-index : tie.Need-slice-read-index Inv-loop μ-loop
-slice-read-index c = search thread-inside
+slice-read-index c = search parents-inside
 
 index-requires-2 : tie.Need-index-requires-2 Inv-loop μ-loop
 index-requires-2 c κs = search needs
@@ -43,28 +43,28 @@ distance-requires : tie.Need-distance-requires Inv-loop μ-loop
 distance-requires c κs = search chain-above
 
 line-parent-requires : tie.Need-line-parent-requires Inv-loop μ-loop
-line-parent-requires c κs = search (driver-fits, thread-reach, distance-is)
+line-parent-requires c κs = search (driver-fits, parents-reach, distance-is)
 
 mul-next : tie.Need-mul-next Inv-loop μ-loop
 mul-next c = search needs
 
 slice-write-next : tie.Need-slice-write-next Inv-loop μ-loop
-slice-write-next c = search thread-inside
+slice-write-next c = search parents-inside
 
 loop-less : tie.Need-loop-less Inv-loop μ-loop
-loop-less c = search thread-less
+loop-less c = search parents-less
 
 loop-again : tie.Need-loop-again Inv-loop μ-loop
-loop-again c = (search needs, search (thread-more, line-hung, distance-is))
+loop-again c = (search needs, search (parents-more, line-parent-is, distance-is))
 
 same-length : tie.Need-same-length Inv-loop μ-loop
 same-length c = search needs
 
 returns : tie.Need-returns Inv-loop μ-loop
-returns c = search thread-end
+returns c = search parents-end
 
-pub hang-line-spec : {M : Type 1} → statement M
-hang-line-spec =
+pub set-line-parents-spec : {M : Type 1} → statement M
+set-line-parents-spec =
     tie.close
     (tie.spec
     Inv-loop
