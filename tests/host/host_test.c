@@ -360,7 +360,7 @@ static size_t number_of(unsigned kind, struct bytes records)
     return found;
 }
 
-/* Document 01's worked case and what the mapper writes for it with capacity 2. */
+/* The worked case (specification 8.2) and what the mapper writes for it with capacity 2. */
 static uint8_t worked_source[5 * RECORD], worked_mapped[8 * RECORD];
 static struct bytes worked, worked_out;
 
@@ -407,7 +407,7 @@ static void refused_steps(struct bytes source, uint32_t capacity, struct bytes m
     }
 }
 
-/* ---- the worked cases of document 01 ---- */
+/* ---- the worked cases (specification 8) ---- */
 
 static int is_worked_answer(void)
 {

@@ -1,5 +1,5 @@
 /* load LIBRARY PLUGIN FILE: opens two shared objects at run time. LIBRARY, which holds the whole
- * archive, must have the six calls and map FILE, document 01's worked case. PLUGIN, a host linked
+ * archive, must have the six calls and map FILE, the worked case. PLUGIN, a host linked
  * with the archive, must export none of them; its `main` is then run on FILE.
  */
 

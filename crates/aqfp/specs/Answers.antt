@@ -1,4 +1,4 @@
--- Document 01: an answer's numbers in an area of their own, four bytes each, low byte first, in the order given.
+-- Specification 3.2: an answer's numbers in an area of their own, four bytes each, low byte first, in the order given.
 use Prim.Native.Nat.{ℕ, _+_, _*_}
 use mathlib.Core.Path.{_≡_}
 use mathlib.Core.List.{List, [], _∷_, _++_}

@@ -97,7 +97,7 @@ pub extern "C" fn aqfp_count(
     }
 }
 
-// The verifier (document 01's judge): number, place, buffers.
+// The verifier (specification 4.3): number, place, buffers.
 #[no_mangle]
 pub extern "C" fn aqfp_verify(
     source: &[u8],

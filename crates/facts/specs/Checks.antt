@@ -1,4 +1,4 @@
--- Checks in order: the answer of a call is its first failing check (document 01, the table of refusals).
+-- Checks in order: the answer of a call is its first failing check (specification 3.3).
 use Prim.Native.Nat.{ℕ, zero, suc}
 use mathlib.Core.Bool.{Bool, true, false}
 use mathlib.Core.List.{List, [], _∷_}
@@ -30,7 +30,7 @@ unfoldable pub scan : (ℕ → Checked) → ℕ → ℕ → Checked
 scan f i zero = Passed
 scan f i (suc n) = f i andThen scan f (suc i) n
 
--- document 01's numbers of an answer: number and place
+-- the numbers of an answer (specification 3.1): number and place
 unfoldable pub checkedNumbers : Checked → List ℕ
 checkedNumbers Passed = 0 ∷ 0 ∷ []
 checkedNumbers (Refused number place) = number ∷ place ∷ []

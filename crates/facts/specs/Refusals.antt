@@ -1,4 +1,4 @@
--- Document 01's table of refusals as an order, and what it is for an answer to be the first failing check.
+-- The table of checks (specification 3.3) as an order, and what it is for an answer to be the first failing check.
 use Prim.Native.Nat.{ℕ, _<_}
 use mathlib.Core.Path.{_≡_}
 use mathlib.Core.Logic.{_⊎_, _↔_}

@@ -1,4 +1,4 @@
--- The tree of document 01, in which node q of a distance hangs on buffer q / s one level nearer: it is legal where few nodes are
+-- The tree of specification 2.5, in which node q of a distance hangs on buffer q / s one level nearer: it is legal where few nodes are
 -- left at distance 1, and has exactly the counted buffers. Buffers are numbered through their distances, one block for each.
 use Prim.Native.Nat.{ℕ, zero, suc, _+_, _-_, _≤_, _<_, _/_}
 use mathlib.Core.Path.{_≡_, refl, sym, _∙_, ap, subst, subst⁻¹}

@@ -1,4 +1,4 @@
--- Document 01, the count of one net: its answer, and the answer's numbers.
+-- Specification 4.2, the count of one net: its answer, and the answer's numbers.
 use Prim.Native.Nat.{ℕ}
 use mathlib.Core.Bool.{cond, not}
 use mathlib.Core.List.{List, [], _∷_}

@@ -1,4 +1,4 @@
--- Document 01, 'Nets and trees': what we compute of one net. A row has one count for each distance, from 0 on.
+-- Specification 2.1, 2.4: what we compute of one net. A row has one count for each distance, from 0 on.
 use Prim.Native.Nat.{ℕ, suc, _+_, _-_, _/_}
 use mathlib.Core.Bool.{Bool, _&&_}
 use mathlib.Core.List.{List, [], _∷_}

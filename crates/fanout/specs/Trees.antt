@@ -1,4 +1,4 @@
--- Document 01, 'Nets and trees', and document 000: what a legal tree of one net is. Nothing of the mapper's own tree is in it.
+-- Specification 2.1, 2.4 (Lee, Riener, De Micheli): what a legal tree of one net is. Nothing of the mapper's own tree is in it.
 use Prim.Native.Nat.{ℕ, zero, suc, _+_, _*_, _-_, _/_, _%_, _≤_, _<_}
 use mathlib.Core.Path.{_≡_}
 use mathlib.Core.Bool.{Bool, true, _&&_}

@@ -1,4 +1,4 @@
--- Document 01, 'Nets worked through': P1 to P12, as s, distances and answer.
+-- Specification 8.1: P1 to P12, as s, distances and answer.
 use Prim.Native.Nat.{ℕ, suc}
 use mathlib.Core.List.{List, [], _∷_}
 use lib.ListN.{replicate}

@@ -1,4 +1,4 @@
--- The mapper's answer (document 01, 'What each call hands back' and the table of refusals): checks 1 to 10, seven numbers, the area.
+-- The mapper's answer (specification 4.1, 2.6, 3.3): checks 1 to 10, seven numbers, the area.
 use Prim.Native.Nat.{ℕ, _+_, _*_, _/_}
 use mathlib.Core.Bool.{Bool, cond}
 use mathlib.Core.List.{List, [], _∷_}
@@ -82,7 +82,7 @@ mapAnswer bytes s area = answerOf (mapChecks bytes s area) (netlist bytes) s
 unfoldable pub mapArea : List ℕ → ℕ → List ℕ → List ℕ
 mapArea bytes s area = areaOf (mapChecks bytes s area) (netlist bytes) s area
 
--- document 01's numbers of an answer, in its order
+-- the numbers of an answer, in the order of specification 4.1
 unfoldable pub mappingNumbers : Mapping → List ℕ
 mappingNumbers a =
     a .number ∷ a .place ∷ a .size ∷ a .buffers ∷ a .depth ∷ a .junctions ∷ a .share ∷ []

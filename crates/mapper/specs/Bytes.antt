@@ -1,4 +1,4 @@
--- Document 01, 'Records', the other way round: the bytes of a record and of a netlist; and an area in which they are put.
+-- Specification 1.1, the other way round: the bytes of a record and of a netlist; and an area in which they are put.
 use Prim.Native.Nat.{ℕ, zero, suc, _+_, _*_, _/_, _%_, _<_}
 use mathlib.Core.Path.{_≡_}
 use mathlib.Core.List.{List, [], _∷_, _++_}

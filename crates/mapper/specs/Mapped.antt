@@ -1,4 +1,4 @@
--- Document 01, 'Nets and trees', 'Order written': the mapped netlist of a source, by index.
+-- Specification 2.4, 2.5: the mapped netlist of a source, by index.
 use Prim.Native.Nat.{ℕ, zero, suc, _+_, _-_, _≤_, _<_, _/_}
 use mathlib.Core.Path.{_≡_}
 use mathlib.Core.Bool.{Bool, true, cond}

@@ -1,4 +1,4 @@
--- The block view (document 01, 'Views'): the block of one driver's buffers as a part of the lent mapped netlist.
+-- The block view (specification 4.8): the block of one driver's buffers as a part of the lent mapped netlist.
 use Prim.Native.Nat.{ℕ, suc, _*_, _-_}
 use mathlib.Core.Bool.{cond}
 use mathlib.Core.List.{List, []}

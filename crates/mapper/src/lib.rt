@@ -37,7 +37,7 @@ const GATE_PRICE: u32 = 6;
 
 const BUFFER_PRICE: u32 = 2;
 
-// The mapper's seven numbers (document 01, 'What each call hands back').
+// The mapper's seven numbers (specification 4.1).
 pub struct Mapping {
     pub number: u32,
     pub place: u32,

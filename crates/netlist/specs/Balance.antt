@@ -1,4 +1,4 @@
--- Document 000, section 3, with one branch for inputs and gates: what it is for a netlist to be balanced and branched.
+-- Specification 2.2, 2.3 (Lee, Riener, De Micheli, section 3): what it is for a netlist to be balanced and branched.
 use Prim.Native.Nat.{ℕ, suc, _≤_, _<_}
 use mathlib.Core.Path.{_≡_}
 use mathlib.Core.Bool.{true, cond}

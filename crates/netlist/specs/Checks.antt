@@ -1,4 +1,4 @@
--- Checks 1 to 7 (document 01, the table of refusals), each a condition with a name, and their order.
+-- Checks 1 to 7 (specification 3.3), each a condition with a name, and their order.
 use Prim.Native.Nat.{ℕ, _%_, _^_}
 use mathlib.Core.Bool.{Bool, cond, not, _&&_, _||_}
 use mathlib.Core.List.{List}

@@ -1,4 +1,4 @@
--- A netlist's records by kind (document 01, 'Records'): how many inputs, gates, outputs and buffers it has.
+-- A netlist's records by kind (specification 1.2): how many inputs, gates, outputs and buffers it has.
 use Prim.Native.Nat.{ℕ}
 use mathlib.Core.Bool.{Bool}
 use lib.Dec.{eqb}

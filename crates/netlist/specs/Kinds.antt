@@ -1,4 +1,4 @@
--- Document 01, 'Records': the numbers of the format, the kinds, and which slots a kind uses.
+-- Specification 1: the numbers of the format, the kinds, and which slots a kind uses.
 use Prim.Native.Nat.{ℕ}
 use mathlib.Core.Bool.{Bool, cond, _&&_}
 use mathlib.Core.List.{List, [], _∷_}

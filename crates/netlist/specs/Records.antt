@@ -1,4 +1,4 @@
--- Document 01, 'Records': a record from its ten bytes, and a netlist by index from a byte list.
+-- Specification 1.1: a record from its ten bytes, and a netlist by index from a byte list.
 use Prim.Native.Nat.{ℕ, _+_, _*_, _/_}
 use mathlib.Core.Bool.{Bool, cond, _&&_}
 use mathlib.Core.List.{List}

@@ -1,4 +1,4 @@
--- The conditions of checks 1 to 7 as facts (document 01, the table of refusals), and the theorem that the answers are exact.
+-- The conditions of checks 1 to 7 as facts (specification 3.3), and the theorem that the answers are exact.
 use Prim.Native.Nat.{ℕ, _/_, _%_, _^_, _<_, _≤_}
 use mathlib.Core.Path.{_≡_}
 use mathlib.Core.Logic.{_⊎_, _≢_}

@@ -1,4 +1,4 @@
--- What a source is, as facts: what passing checks 2 to 7 means (document 01, 'Records' and the table of refusals).
+-- What a source is, as facts: what passing checks 2 to 7 means (specification 1, 3.3).
 use Prim.Native.Nat.{ℕ, _≤_, _<_, _%_, _^_}
 use mathlib.Core.Path.{_≡_}
 use mathlib.Core.Logic.{_≢_}

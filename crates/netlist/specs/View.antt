@@ -1,4 +1,4 @@
--- Document 01, 'Views': record k comes from the source below N and from the mapped netlist above.
+-- Specification 4.7: record k comes from the source below N and from the mapped netlist above.
 use Prim.Native.Nat.{ℕ}
 use mathlib.Core.Bool.{cond}
 use mathlib.Core.List.{List, []}

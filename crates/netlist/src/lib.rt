@@ -45,7 +45,7 @@ pub const BUFFER: u8 = 5;
 
 pub const ABSENT: u8 = 255;
 
-// One record (document 01, 'Records').
+// One record (specification 1.1).
 pub struct Record {
     pub kind: u8,
     pub inversion: u8,

@@ -1,4 +1,4 @@
--- Check 8 (document 01, the table of refusals): each driver, rising, has a tree.
+-- Check 8 (specification 3.3): each driver, rising, has a tree.
 use Prim.Native.Nat.{ℕ}
 use mathlib.Core.Bool.{Bool, not}
 use Rattle.facts.specs.declared.Checked.{Checked}

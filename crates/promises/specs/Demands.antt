@@ -31,7 +31,7 @@ pub record RefusedKeeps : Type 0 where
       runAnswer source s mapped r rows area outs ≡ Refused number place → runOutputs source s mapped r rows area outs ≡ outs
 
 -- demand 1: each call answers a number exactly where its condition is the first that holds, accepts exactly if none does, with the
--- numbers that document 01 says, and a refused call leaves every lent area
+-- numbers that specification 4 says, and a refused call leaves every lent area
 pub record Demand1 : Type 0 where
   pub source : SourceExact
   pub input : InputExact

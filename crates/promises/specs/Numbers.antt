@@ -1,4 +1,4 @@
--- Document 01's numbers of each answer: refused exactly where a check is the first that fails, accepted exactly if none does, and
+-- The numbers of each answer (specification 4): refused exactly where a check is the first that fails, accepted exactly if none does, and
 -- what each number of an accepted answer is, as facts of what was handed in and written.
 use Prim.Native.Nat.{ℕ, suc, _+_, _*_, _≤_, _<_}
 use mathlib.Core.Path.{_≡_}

@@ -27,7 +27,7 @@ written source s area = take (width * mapAnswer source s area .size) (mapArea so
 abbrev pub WrittenLegal : Type 0
 WrittenLegal = (source : List ℕ) (s : ℕ) (area : List ℕ) → Maps source s area → Accepted source s (written source s area)
 
--- demand 2, in document 000's words: path-balanced and properly branched
+-- demand 2, in the words of Lee, Riener and De Micheli: path-balanced and properly branched
 abbrev pub WrittenBalanced : Type 0
 WrittenBalanced =
     (source : List ℕ) (s : ℕ) (area : List ℕ) → Maps source s area →

@@ -19,7 +19,7 @@ use Rattle.simulator.specs.Run.{runChecks, runAnswer}
 use Rattle.simulator.specs.PrivateRun.{IsRow, IsRun}
 
 module _ (source : List ℕ) (s : ℕ) (mapped : List ℕ) where
-  -- a step is accepted exactly where the judge accepts, the row is one and the state area has 2 × M bytes
+  -- a step is accepted exactly where the verifier accepts, the row is one and the state area has 2 × M bytes
   pub step-passed : (row area : List ℕ) → (stepAnswer source s mapped row area ≡ Passed) ↔ ((verifyChecks source s mapped ≡ Passed) × IsRow (netlist source) row × (length area ≡ 2 * recordCount mapped))
   unfolding stepAnswer stepChecks bitChecks
   step-passed row area =
@@ -28,7 +28,7 @@ module _ (source : List ℕ) (s : ℕ) (mapped : List ℕ) where
         λ f. (f .0, (((omega arith, f .1 .long ∙ sym (one-mul (inputs (netlist source)))), f .2), f .1 .bits)),
       )
 
-  -- a run exactly where the judge accepts and the areas are a run's
+  -- a run exactly where the verifier accepts and the areas are a run's
   pub run-passed : (count : ℕ) (rows area outs : List ℕ) → (runAnswer source s mapped count rows area outs ≡ Passed) ↔ ((verifyChecks source s mapped ≡ Passed) × IsRun (netlist source) (netlist mapped) count rows area outs)
   unfolding runAnswer runChecks bitChecks
   run-passed count rows area outs =

@@ -1,4 +1,4 @@
--- Document 01, the plain evaluator: what it answers and what its area holds afterwards.
+-- Specification 4.4, the plain evaluator: what it answers and what its area holds afterwards.
 use Prim.Native.Nat.{ℕ}
 use mathlib.Core.Bool.{Bool, not, _||_}
 use mathlib.Core.List.{List}

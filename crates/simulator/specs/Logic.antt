@@ -1,4 +1,4 @@
--- Document 01, 'What demand 3 compares': plain logic, and the function of a record that plain logic, step and run share.
+-- Specification 5.1: plain logic, and the function of a record that plain logic, step and run share.
 use Prim.Native.Nat.{ℕ, zero, suc, _/_, _%_, _^_}
 use mathlib.Core.Bool.{Bool, cond, not}
 use mathlib.Core.List.{List, [], _∷_, _++_}

@@ -1,4 +1,4 @@
--- The conditions of checks 18 and 19 as facts (document 01, the table of refusals), and the theorems that the answers are exact.
+-- The conditions of checks 18 and 19 as facts (specification 3.3), and the theorems that the answers are exact.
 use Prim.Native.Nat.{ℕ, _*_, _<_}
 use mathlib.Core.Logic.{_⊎_, _≢_}
 use mathlib.Core.List.{List}

@@ -1,4 +1,4 @@
--- Document 01, the phase run: the step over and over from zeros, what the call answers and what its areas hold afterwards.
+-- Specification 4.5, the phase run: the step over and over from zeros, what the call answers and what its areas hold afterwards.
 use Prim.Native.Nat.{ℕ, zero, suc, _+_, _*_}
 use mathlib.Core.Bool.{Bool, cond, not}
 use mathlib.Core.List.{List, [], _++_}
@@ -44,7 +44,7 @@ unfoldable pub runChecks : Netlist → Netlist → ℕ → List ℕ → List ℕ
 runChecks n m count rows area outs =
     check 18 0 (badRows n m count rows area) andThen check 18 0 (badOutputs n count outs) andThen bitChecks rows
 
--- the judge's checks, then 18 and 19: the run's answer
+-- the verifier's checks, then 18 and 19: the run's answer
 unfoldable pub runAnswer : List ℕ → ℕ → List ℕ → ℕ → List ℕ → List ℕ → List ℕ → Checked
 runAnswer source s mapped count rows area outs =
     verifyChecks source s mapped andThen runChecks (netlist source) (netlist mapped) count rows area outs

@@ -1,4 +1,4 @@
--- Document 01, one step: the state area after it, what the call answers and what its area holds afterwards.
+-- Specification 4.6, one step: the state area after it, what the call answers and what its area holds afterwards.
 use Prim.Native.Nat.{ℕ, _*_}
 use mathlib.Core.Bool.{Bool, not, _||_}
 use mathlib.Core.List.{List, _++_}
@@ -43,7 +43,7 @@ badRows n m count rows area =
 unfoldable pub stepChecks : Netlist → Netlist → List ℕ → List ℕ → Checked
 stepChecks n m row area = check 18 0 (badRows n m 1 row area) andThen bitChecks row
 
--- the judge's checks, then 18 and 19: the step's answer
+-- the verifier's checks, then 18 and 19: the step's answer
 unfoldable pub stepAnswer : List ℕ → ℕ → List ℕ → List ℕ → List ℕ → Checked
 stepAnswer source s mapped row area =
     verifyChecks source s mapped andThen stepChecks (netlist source) (netlist mapped) row area

@@ -1,4 +1,4 @@
--- Document 01, 'What demand 3 compares': rows, and a list of one-step calls on one state area.
+-- Specification 6.3: rows, and a list of one-step calls on one state area.
 use Prim.Native.Nat.{ℕ}
 use mathlib.Core.Bool.{cond}
 use mathlib.Core.List.{List, [], _∷_}

@@ -86,7 +86,7 @@ fn check_row(source: &[u8], mapped: &[u8], row: &[u8], state: &[u8]) -> Checked
     check_bits(row)
 }
 
-// The judge's checks, then 18 and 19.
+// The verifier's checks, then 18 and 19.
 pub(crate) fn check_step(
     source: &[u8],
     capacity: u32,
@@ -132,7 +132,7 @@ fn check_rows(
     check_bits(rows)
 }
 
-// The judge's checks, then 18 and 19.
+// The verifier's checks, then 18 and 19.
 pub(crate) fn check_run(
     source: &[u8],
     capacity: u32,

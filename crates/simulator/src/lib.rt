@@ -50,7 +50,7 @@ pub fn step(source: &[u8], capacity: u32, mapped: &[u8], row: &[u8], state: &mut
     }
 }
 
-// The phase run: the judge's checks, then 18 and 19; accepted, the step over and over from zeros.
+// The phase run: the verifier's checks, then 18 and 19; accepted, the step over and over from zeros.
 pub fn run(
     source: &[u8],
     capacity: u32,

@@ -1,5 +1,5 @@
 -- The refusals of checks 11 to 17 are exact: each test is its condition, and the checks stand in the table's order. The trace of
--- check 16 is that of document 01 because 14 and 15 have passed.
+-- check 16 is that of specification 3.3 because 14 and 15 have passed.
 use Prim.Native.Nat.{ℕ, suc, _%_, _<_, _≤_}
 use native.Mathlib.Omega.{arith}
 use mathlib.Core.Path.{_≡_, sym, _∙_}

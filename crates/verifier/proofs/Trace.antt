@@ -1,4 +1,4 @@
--- The trace by levels is the trace of document 01: in a balanced netlist `driver m x` is the one place where x, traced back, ends.
+-- The trace by levels is the trace of specification 2.3: in a balanced netlist `driver m x` is the one place where x, traced back, ends.
 -- By induction on the level, which falls by one at each buffer.
 use Prim.Native.Nat.{ℕ, zero, suc, _≤_, _<_}
 use mathlib.Core.Path.{_≡_, refl, sym, _∙_}

@@ -1,4 +1,4 @@
--- Demand 2: the verifier accepts exactly the legal mapped netlists within document 01's sizes, and answers their number of buffers.
+-- Demand 2: the verifier accepts exactly the legal mapped netlists (specification 2.3, 1.3), and answers their number of buffers.
 use Prim.Native.Nat.{ℕ, _≤_, _%_}
 use mathlib.Core.Path.{_≡_}
 use mathlib.Core.Logic.{_↔_}
@@ -12,7 +12,7 @@ use Rattle.verifier.specs.declared.Verified.the-variants.{Buffers}
 use Rattle.verifier.specs.Legal.{Legal}
 use Rattle.verifier.specs.Checks.{verifyAnswer}
 
--- the mapped bytes are a legal netlist of the source bytes, within document 01's sizes
+-- the mapped bytes are a legal netlist of the source bytes, within the limits of specification 1.3
 pub record Accepted (source : List ℕ) (s : ℕ) (mapped : List ℕ) : Type 0 where
   pub capacity : (2 ≤ s) × (s ≤ 4)
   pub isSource : Source source

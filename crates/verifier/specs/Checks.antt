@@ -1,4 +1,4 @@
--- Checks 11 to 17 (document 01, the table of refusals), each a condition with a name, their order, and the verifier's answer.
+-- Checks 11 to 17 (specification 3.3), each a condition with a name, their order, and the verifier's answer.
 use Prim.Native.Nat.{ℕ, suc}
 use mathlib.Core.Bool.{Bool, not, _&&_, _||_}
 use mathlib.Core.List.{List, [], _∷_}
@@ -101,7 +101,7 @@ verifyChecks source s mapped = inputChecks s source andThen mappedChecks (netlis
 abbrev pub verifyAnswer : List ℕ → ℕ → List ℕ → Verified
 verifyAnswer source s mapped = outcome (verifyChecks source s mapped) (Buffers (bufferCount (netlist mapped))) Refused
 
--- document 01's numbers of an answer: number, place, buffers
+-- the numbers of an answer (specification 4.3): number, place, buffers
 unfoldable pub verifiedNumbers : Verified → List ℕ
 verifiedNumbers (Buffers buffers) = 0 ∷ 0 ∷ buffers ∷ []
 verifiedNumbers (Refused number place) = number ∷ place ∷ 0 ∷ []

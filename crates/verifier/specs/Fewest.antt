@@ -32,7 +32,7 @@ buffersOn m d = count (onNet m d) (m .size)
 unfoldable pub buffersOnAt : Netlist → ℕ → ℕ → ℕ
 buffersOnAt m d level = count (onNetAt m d level) (m .size)
 
--- in a legal mapped netlist that is the trace of document 01
+-- in a legal mapped netlist that is the trace of specification 2.3
 abbrev pub OnNetExactly : Type 0
 OnNetExactly =
     (n : Netlist) (s : ℕ) (m : Netlist) → Legal n s m → (d x : ℕ) → x < m .size →

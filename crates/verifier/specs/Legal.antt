@@ -1,4 +1,4 @@
--- Document 01, 'Legal' (document 000, section 3): what a legal mapped netlist m of a source n is, for splitters of capacity s.
+-- Specification 2.3 (Lee, Riener, De Micheli, section 3): what a legal mapped netlist m of a source n is, for splitters of capacity s.
 use Prim.Native.Nat.{ℕ, _≤_, _<_}
 use mathlib.Core.Path.{_≡_}
 use mathlib.Core.Logic.{_≢_}

@@ -1,4 +1,4 @@
--- The conditions of checks 11 to 17 as facts (document 01, the table of refusals), and the theorem that the refusals are exact.
+-- The conditions of checks 11 to 17 as facts (specification 3.3), and the theorem that the refusals are exact.
 use Prim.Native.Nat.{ℕ, suc, _<_, _≤_}
 use mathlib.Core.Path.{_≡_}
 use mathlib.Core.Logic.{_⊎_, _↔_, _≢_}

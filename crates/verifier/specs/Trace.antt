@@ -1,4 +1,4 @@
--- The trace as a computation: back through buffers, a level a step (document 01, 'Legal').
+-- The trace as a computation: back through buffers, a level a step (specification 2.3).
 use Prim.Native.Nat.{ℕ, zero, suc}
 use mathlib.Core.Bool.{cond}
 use lib.Dec.{eqb}

@@ -1,4 +1,4 @@
-// Document 01's judge: whether a mapped netlist is legal for a source and a capacity (checks 11 to 17).
+// The verifier (specification 4.3): whether a mapped netlist is legal for a source and a capacity (checks 11 to 17).
 ghost use mathlib.Core.Path.{_≡_};
 ghost use Prim.Native.Nat.{_<_};
 ghost use Rattle.netlist.specs.Records.{netlist};

@@ -1,4 +1,4 @@
-//! The six calls as a C host sees them: the numbers of the answer in document 01's order.
+//! The six calls as a C host sees them: the numbers of the answer in the order of specification 4.
 
 use crate::net::{self, Count};
 use crate::refusal::Refusal;

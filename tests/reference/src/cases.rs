@@ -222,7 +222,7 @@ pub fn any_call(random: &mut Random, subject: &Subject, name: Name) -> Call {
     }
 }
 
-/// Subjects at the limits of document 01's sizes.
+/// Subjects at the limits of specification 1.3.
 pub fn limit(random: &mut Random) -> Subject {
     let s = random.between(2, 4);
     let records = match random.below(12) {

@@ -3,7 +3,7 @@
 use crate::simulator::Run;
 use crate::{calls, fast};
 
-/// One implementation of the calls. An answer's numbers stand in document 01's order.
+/// One implementation of the calls. An answer's numbers stand in the order of specification 4.
 pub struct Engine {
     pub map: fn(&[u8], u32, &mut [u8]) -> [u32; 7],
     pub count: fn(&[u8], u32, u32) -> [u32; 3],

@@ -1,8 +1,8 @@
-//! An independent implementation of document 01, written from the paper.
+//! An independent implementation of docs/SPECIFICATION.md; it shares no code with the engine.
 //!
-//! `calls` is the plain one: it decodes the areas into records and follows the paper sentence by
-//! sentence. `fast` gives the same answers in linear time over plain slices, for the benchmark.
-//! `generator`, `damage` and `shapes` make netlists, `cases` makes calls on them by seed.
+//! `calls` is the plain one: it decodes the areas into records and follows the specification
+//! sentence by sentence. `fast` gives the same answers in linear time over plain slices, for the
+//! benchmark. `generator`, `damage` and `shapes` make netlists, `cases` makes calls on them by seed.
 
 pub mod calls;
 pub mod cases;

@@ -1,4 +1,4 @@
-//! The mapper: checks 1 to 10 and the mapped netlist in document 01's order.
+//! The mapper: checks 1 to 10 and the mapped netlist in the order of specification 2.5.
 
 use crate::net::{buffers_by_distance, distances, fewest, sinks, Sink};
 use crate::record::*;

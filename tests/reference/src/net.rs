@@ -1,4 +1,4 @@
-//! Document 01, "Nets and trees": the net of one driver and its fewest buffers.
+//! Specification 2.1, 2.4: the net of one driver and its fewest buffers.
 
 use crate::record::*;
 use crate::refusal::{refuse, Refusal};

@@ -1,4 +1,4 @@
-//! Document 01, "Records": the layout of one record and the limits of both netlists.
+//! Specification 1: the layout of one record and the limits of both netlists.
 
 pub const WIDTH: usize = 10;
 pub const SLOTS: usize = 3;

@@ -1,4 +1,4 @@
-//! A refusal: its number and its place in document 01's table.
+//! A refusal: its number and its place (specification 3.3).
 
 #[derive(Clone, Copy, PartialEq, Eq, Debug)]
 pub struct Refusal {

@@ -8,7 +8,7 @@ use crate::random::Random;
 use crate::record::*;
 use crate::source::depth;
 
-/// Document 01's worked case.
+/// The worked case (specification 8.2).
 pub fn worked() -> Vec<Record> {
     vec![
         Record::new(INPUT, 0, 0, &[]),

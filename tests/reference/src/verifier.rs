@@ -1,4 +1,4 @@
-//! The verifier, document 01's judge: checks 1 to 7, then 11 to 17.
+//! The verifier (specification 4.3): checks 1 to 7, then 11 to 17.
 
 use crate::net::DRIVER_FEEDS;
 use crate::record::*;

@@ -1,4 +1,4 @@
-//! The cases that document 01 works through.
+//! The worked cases (specification 8).
 
 use reference::calls::{count, evaluate, map, run, step, verify, NO_TREE};
 use reference::net::{fewest, fewest_by_formula};

@@ -190,7 +190,7 @@ fn bare(name: Name, source: &[Record], capacity: u32) -> Call {
     }
 }
 
-/// Sources at the limits of document 01, sound and refused.
+/// Sources at the limits of specification 1.3, sound and refused.
 fn worked_reader() -> Vec<Case> {
     let input = Record::new(INPUT, 0, 0, &[]);
     let gate = |level: u16| Record::new(AND, 0, level, &[0, 0]);
@@ -280,7 +280,7 @@ fn map_on(source: &[Record], capacity: u32, len: usize) -> Call {
     Call { areas: vec![vec![FILL; len]], ..bare(Name::Map, source, capacity) }
 }
 
-/// Document 01's case, chains, wide fanouts, and too many records.
+/// The worked case (specification 8.2), chains, wide fanouts, and too many records.
 fn worked_mapper() -> Vec<Case> {
     let worked = shapes::worked();
     let mut calls: Vec<Call> =
@@ -310,7 +310,7 @@ fn mapped(source: &[Record], s: u32) -> Vec<Record> {
     mapping(&encode(source), s).expect("a sound source").records
 }
 
-/// Document 01's case changed in each of its bytes, and under every capacity.
+/// The worked case (specification 8.2) changed in each of its bytes, and under every capacity.
 fn worked_verifier() -> Vec<Case> {
     let source = shapes::worked();
     let legal = encode(&mapped(&source, 2));
@@ -387,7 +387,7 @@ fn run_on(source: &[Record], s: u32, rows: &[Vec<u8>]) -> Call {
     }
 }
 
-/// Document 01's case, no rows, most rows, no outputs, no records.
+/// The worked case (specification 8.2), no rows, most rows, no outputs, no records.
 fn worked_run() -> Vec<Case> {
     let worked = shapes::worked();
     let mut random = Random::new(SEED);

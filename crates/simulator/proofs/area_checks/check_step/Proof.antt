@@ -1,4 +1,4 @@
--- `check_step` meets its contract: the judge first, the areas where it accepted.
+-- `check_step` meets its contract: the verifier first, the areas where it accepted.
 use Rattle.simulator.proofs.Checks.{judged-few, step-judged, step-checked}
 use borrow.Author.Needs.{needs}
 use Rattle.simulator.proofs.area_checks.check_step.Statement.{statement}
