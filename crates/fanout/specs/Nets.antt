@@ -54,7 +54,7 @@ hasTree c s r = leb (nodesAt s r 1) c
 abbrev pub fewest : ℕ → List ℕ → ℕ
 fewest s r = buffers s (drop 1 r)
 
--- the fewest buffers of d's net, and of all nets; an output drives nothing, so its row is empty
+-- the fewest buffers of d's net, and of all nets; no slot of a source names an output, so an output adds none
 abbrev pub treeSize : Netlist → ℕ → ℕ → ℕ
 treeSize m s d = fewest s (row m d)
 
