@@ -21,7 +21,7 @@ use Rattle.netlist.specs.declared.Record.{Record}
 use Rattle.netlist.proofs.Records.{record-past}
 use Rattle.netlist.proofs.Source.{input-passed, is-output}
 use Rattle.netlist.proofs.Refusals.{input-rows, input-first}
-use Rattle.netlist.specs.Source.{Input}
+use Rattle.netlist.specs.PrivateInput.{Input}
 use Rattle.netlist.specs.Balance.{driverCapacity}
 use Rattle.fanout.specs.declared.Count.{Count}
 use Rattle.fanout.specs.declared.Count.the-variants.{Fewest, NoTree, Refused}

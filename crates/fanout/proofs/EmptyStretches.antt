@@ -14,7 +14,7 @@ use lib.Pow.{pow-pos, shl-exact, ones-split, ones-lt, high, field, mod-mod-pow}
 use Rattle.facts.proofs.Sums.{bit-other}
 use Rattle.netlist.specs.Kinds.{topLevel}
 use Rattle.fanout.specs.Nets.{added}
-use Rattle.fanout.specs.Stretches.{stretch, bitAt, InStretches, NextByStretch, NextSinks}
+use Rattle.fanout.specs.PrivateStretches.{stretch, bitAt, InStretches, NextByStretch, NextSinks}
 use Rattle.fanout.proofs.Rows.{added-at}
 
 -- 1 shifted by n, as the code has it

@@ -13,7 +13,7 @@ use Rattle.facts.proofs.Bools.{and-i, and-l}
 use Rattle.facts.specs.Sums.{bit, sum, count, count₂}
 use Rattle.facts.proofs.Sums.{count-suc, count-false, count-le, count-stop, count₂-le}
 use Rattle.netlist.proofs.Checks.{arity-slots}
-use Rattle.fanout.specs.Walk.{Filled}
+use Rattle.fanout.specs.PrivateWalk.{Filled}
 use Rattle.fanout.proofs.Nets.{row-length, row-at}
 use Rattle.fanout.proofs.Lists.{getD-replicated}
 use Rattle.fanout.proofs.Rows.{added-at, level-test, sink-above}
@@ -22,7 +22,7 @@ use Rattle.netlist.specs.Kinds.{slots, topLevel, arity}
 use Rattle.netlist.specs.Records.{Netlist, slot, used, fanin, names}
 use Rattle.netlist.specs.Source.{IsSource}
 use Rattle.fanout.specs.Nets.{sinkAt, sinks, added}
-use Rattle.fanout.specs.Filling.{sinksSoFar, RowSoFar, RowAtRecord, Empty, SinkRoom, Slot, farther, rowWith, farWith}
+use Rattle.fanout.specs.PrivateFilling.{sinksSoFar, RowSoFar, RowAtRecord, Empty, SinkRoom, Slot, farther, rowWith, farWith}
 
 -- one slot, whose content is t
 module _ (d below : ℕ) (r : Record) (j t : ℕ) (p : t ≡ slot r j) where

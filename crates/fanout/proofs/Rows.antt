@@ -17,10 +17,9 @@ use Rattle.netlist.specs.Kinds.{slots, topLevel, arity, isDriver}
 use Rattle.netlist.specs.Records.{Netlist, names, used, fanin}
 use Rattle.netlist.specs.Source.{IsSource}
 use Rattle.netlist.proofs.Source.{is-output}
-use Rattle.fanout.specs.Nets.{sinkAt, sinks, row, added}
+use Rattle.fanout.specs.Nets.{sinkLimit, sinkAt, sinks, row, added}
 use Rattle.fanout.specs.Trees.{RowOf, netOf, netAt, sinksAt}
 use Rattle.fanout.specs.Worked.{addedAll, rowAt}
-use Rattle.fanout.specs.Walk.{sinkLimit}
 use Rattle.fanout.proofs.Lists.{getD-replicated}
 use Rattle.fanout.proofs.Nets.{row-length, row-at}
 

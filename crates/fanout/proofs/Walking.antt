@@ -14,15 +14,16 @@ use lib.Seq.{getD-set-same, getD-set-other, getD-drop}
 use borrow.Author.Tests.{le-leb, lt-leb}
 use Rattle.netlist.specs.Kinds.{topLevel}
 use Rattle.netlist.specs.Records.{Netlist, netlist}
-use Rattle.netlist.specs.Source.{IsSource, Input}
+use Rattle.netlist.specs.Source.{IsSource}
+use Rattle.netlist.specs.PrivateInput.{Input}
 use Rattle.netlist.specs.Balance.{driverCapacity}
 use Rattle.fanout.specs.declared.TreeTotals.{TreeTotals}
 use Rattle.fanout.specs.declared.Count.the-variants.{Fewest, NoTree}
-use Rattle.fanout.specs.Nets.{row, up, nodes, buffers, nodesAt, buffersAt, fewest}
+use Rattle.fanout.specs.Nets.{sinkLimit, row, up, nodes, buffers, nodesAt, buffersAt, fewest}
 use Rattle.fanout.specs.Answer.{treeCount}
 use Rattle.fanout.specs.declared.Reach.{Reach}
-use Rattle.fanout.specs.Stretches.{InStretches, NextSinks, NextDistance}
-use Rattle.fanout.specs.Walk.{sinkLimit, nodeLimit, Filled, Walkable, Walked}
+use Rattle.fanout.specs.PrivateStretches.{InStretches, NextSinks, NextDistance}
+use Rattle.fanout.specs.PrivateWalk.{nodeLimit, Filled, Walkable, Walked}
 use Rattle.fanout.proofs.Lists.{zeros}
 use Rattle.fanout.proofs.Nets.{up-le, up-zero, up-one, nodes-at, nodes-none, buffers-from, buffers-none, row-length}
 use Rattle.fanout.proofs.EmptyStretches.{stretches-all}

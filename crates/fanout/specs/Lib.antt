@@ -1,8 +1,8 @@
 pub mod Nets
 pub mod Trees
 pub mod Answer
-pub mod Stretches
-pub mod Filling
-pub mod Walk
+pub mod PrivateStretches
+pub mod PrivateFilling
+pub mod PrivateWalk
 pub mod Worked
 pub mod Promises

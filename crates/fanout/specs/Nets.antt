@@ -1,12 +1,12 @@
 -- Specification 2.1, 2.4: what we compute of one net. A row has one count for each distance, from 0 on.
-use Prim.Native.Nat.{ℕ, suc, _+_, _-_, _/_}
+use Prim.Native.Nat.{ℕ, suc, _+_, _-_, _*_, _/_}
 use mathlib.Core.Bool.{Bool, _&&_}
 use mathlib.Core.List.{List, [], _∷_}
 use lib.ListN.{getD, set, drop}
 use lib.Dec.{leb, eqb}
 use Rattle.facts.specs.Sums.{count₂, sum}
 use Rattle.facts.specs.Lists.{tabulate}
-use Rattle.netlist.specs.Kinds.{slots, topLevel}
+use Rattle.netlist.specs.Kinds.{slots, topLevel, sourceLimit}
 use Rattle.netlist.specs.Records.{Netlist, names}
 
 -- slot j of record i is a sink of driver d, and stands x levels above it
@@ -16,6 +16,10 @@ sinkAt m d x i j = names m d i j && eqb (m .at i .level) (m .at d .level + x)
 -- how many sinks of d stand x levels above it
 unfoldable pub sinks : Netlist → ℕ → ℕ → ℕ
 sinks m d x = count₂ (sinkAt m d x) slots (m .size)
+
+-- the most sinks of a net
+abbrev pub sinkLimit : ℕ
+sinkLimit = slots * sourceLimit
 
 -- the row of level counts of d's net: 4,096 entries
 unfoldable pub row : Netlist → ℕ → List ℕ

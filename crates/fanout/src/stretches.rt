@@ -3,7 +3,7 @@ ghost use mathlib.Core.Path.{_≡_};
 ghost use Prim.Native.Nat.{suc, _/_, _%_, _^_, _<_, _≤_};
 ghost use lib.Bits.{bitOr};
 ghost use Rattle.netlist.specs.Kinds.{topLevel};
-ghost use Rattle.fanout.specs.Stretches.{stretch, InStretches, NextByStretch, NextSinks};
+ghost use Rattle.fanout.specs.PrivateStretches.{stretch, InStretches, NextByStretch, NextSinks};
 use crate::DISTANCES;
 
 // Distances of a stretch.

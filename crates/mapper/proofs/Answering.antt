@@ -20,13 +20,13 @@ use Rattle.netlist.specs.Counts.{gates}
 use Rattle.fanout.specs.Nets.{fewestInAll}
 use Rattle.mapper.specs.declared.Mapping.{Mapping}
 use Rattle.mapper.specs.Bytes.{bytesOf, onto}
-use Rattle.mapper.specs.Mapped.{mappedSize, mapped, Ready}
+use Rattle.mapper.specs.Mapped.{mappedSize, mapped}
+use Rattle.mapper.specs.PrivateWriting.{Ready, Counted, ParentsSet}
 use Rattle.mapper.specs.Answer.{gatePrice, bufferPrice, share, junctions, figures, answerOf, areaOf, refusal, tooLarge, tooShort, sourceMaps, mapChecks, mapAnswer, mapArea}
 use Rattle.nets.specs.Checks.{treeCheck, treeChecks, noTree}
 use Rattle.nets.specs.declared.trees.Sizing.{Sizing}
 use Rattle.nets.specs.declared.trees.Sizing.the-variants.{Total, Stops}
-use Rattle.nets.specs.Chains.{Chained, sizingOf}
-use Rattle.mapper.specs.Writing.{Counted, ParentsSet}
+use Rattle.nets.specs.PrivateChains.{Chained, sizingOf}
 use Rattle.nets.proofs.TreeCounts.{total-small, refusing, counting, input-source, input-capacity}
 
 -- the share, where the whole is 0 and where it is not

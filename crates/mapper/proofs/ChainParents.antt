@@ -11,8 +11,8 @@ use borrow.Author.Tests.{eq-eqb, ne-eqb}
 use Rattle.facts.proofs.Bools.{and-i, true-false}
 use Rattle.netlist.specs.Kinds.{mappedLimit}
 use Rattle.netlist.specs.Records.{Netlist}
-use Rattle.nets.specs.Chains.{slotEnd, usedSlot, faninSlot, namesSlot, nextSink, slotDistance, Chained}
-use Rattle.mapper.specs.Writing.{ParentsSet, ParentsWritten, onParent, lineParent, onLine}
+use Rattle.nets.specs.PrivateChains.{slotEnd, usedSlot, faninSlot, namesSlot, nextSink, slotDistance, Chained}
+use Rattle.mapper.specs.PrivateWriting.{ParentsSet, ParentsWritten, onParent, lineParent, onLine}
 use Rattle.nets.proofs.Chains.{next-within, next-none}
 use Rattle.nets.proofs.OneChain.{OnChain, chain-first, chain-start, chain-linked, chain-inside, chain-names, chain-near, chain-on, chain-less}
 

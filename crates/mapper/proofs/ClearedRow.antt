@@ -8,7 +8,7 @@ use lib.ListN.{length, getD, set, replicate, length-set}
 use lib.Seq.{getD-set-same, getD-set-other}
 use Rattle.netlist.specs.Kinds.{topLevel}
 use Rattle.fanout.proofs.Lists.{zeros}
-use Rattle.mapper.specs.Writing.{Stale}
+use Rattle.mapper.specs.PrivateWriting.{Stale}
 
 -- entries below k are zero, and those beyond top
 pub record Clearing (counts : List ℕ) (top k : ℕ) : Type 0 where

@@ -14,7 +14,8 @@ use Rattle.netlist.specs.Records.{Netlist, used, fanin, names, feeds}
 use Rattle.netlist.specs.Balance.{driverCapacity}
 use Rattle.netlist.proofs.Source.{no-buffer}
 use Rattle.fanout.specs.Nets.{sinks, sinkAt, nodesAt, treeSize, row}
-use Rattle.mapper.specs.Mapped.{buffersOf, mappedSize, place, parent, bufferRecord, rank, distance, sinkNumber, sinkParent, mappedAt, mapped, Ready}
+use Rattle.mapper.specs.Mapped.{buffersOf, mappedSize, place, parent, bufferRecord, rank, distance, sinkNumber, sinkParent, mappedAt, mapped}
+use Rattle.mapper.specs.PrivateWriting.{Ready}
 use Rattle.mapper.proofs.Blocks.{sum-blocks, count₂-rank}
 use Rattle.mapper.proofs.Mapped.{tree-sum, at-place, place-driver, place-distance}
 use Rattle.mapper.proofs.Nodes.{IsNode, nodes-split, hangs, IsSink, sink-facts, is-sink, pos, kind-kept, slot-used, source-sink, buffer-kind}

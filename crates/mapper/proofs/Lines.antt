@@ -12,10 +12,10 @@ use Rattle.netlist.specs.Kinds.{width, topLevel}
 use Rattle.netlist.specs.Records.{Netlist}
 use Rattle.fanout.specs.Nets.{treeSize}
 use Rattle.mapper.specs.Bytes.{encoded, put, withRecords}
-use Rattle.mapper.specs.Mapped.{buffersOf, blockStart, place, parent, bufferOf, bufferRecord, mappedAt, mapped, Ready}
+use Rattle.mapper.specs.Mapped.{buffersOf, blockStart, place, parent, bufferOf, bufferRecord, mappedAt, mapped}
+use Rattle.mapper.specs.PrivateWriting.{Ready, lineParent, lineRecord, ParentsWritten, onParent, onLine}
 use Rattle.nets.proofs.Lines.{line-at, line-below, line-size}
-use Rattle.nets.specs.Chains.{slotDistance, ShortChain}
-use Rattle.mapper.specs.Writing.{lineParent, lineRecord, ParentsWritten, onParent, onLine}
+use Rattle.nets.specs.PrivateChains.{slotDistance, ShortChain}
 use Rattle.mapper.proofs.Area.{encoded-cong}
 use Rattle.mapper.proofs.Mapped.{at-place}
 use Rattle.mapper.proofs.Nodes.{pos, IsNode, hangs, buffer-node}

@@ -18,7 +18,8 @@ use Rattle.netlist.specs.Records.{Netlist, slot, used, fanin, names}
 use Rattle.netlist.proofs.Checks.{arity-slots}
 use Rattle.fanout.specs.Nets.{row, sinks, sinkAt, up, nodesAt}
 use Rattle.fanout.proofs.Nets.{div-up, up-zero, nodes-at, nodes-none, row-at}
-use Rattle.mapper.specs.Mapped.{buffersOf, mappedSize, place, parent, bufferRecord, rank, distance, sinkNumber, sinkParent, rewired, mappedAt, Ready}
+use Rattle.mapper.specs.Mapped.{buffersOf, mappedSize, place, parent, bufferRecord, rank, distance, sinkNumber, sinkParent, rewired, mappedAt}
+use Rattle.mapper.specs.PrivateWriting.{Ready}
 use Rattle.fanout.proofs.Lists.{getD-replicated}
 use Rattle.fanout.proofs.Rows.{row-none, no-sinks}
 use Rattle.mapper.proofs.Blocks.{rank-below}

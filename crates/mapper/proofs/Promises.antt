@@ -32,7 +32,8 @@ use Rattle.fanout.specs.Promises.{LeastTree, Attained}
 use Rattle.fanout.proofs.Promises.{tree-exactly, least-in-all, fewest-attained}
 use Rattle.fanout.proofs.Rows.{row-of-net, no-sinks}
 use Rattle.mapper.specs.declared.Mapping.{Mapping}
-use Rattle.mapper.specs.Mapped.{blockStart, mappedSize, mapped, Ready}
+use Rattle.mapper.specs.Mapped.{blockStart, mappedSize, mapped}
+use Rattle.mapper.specs.PrivateWriting.{Ready}
 use Rattle.mapper.specs.View.{noEnds, ownEnds, blockEnds, between, blockView}
 use Rattle.mapper.specs.Bytes.{recs, bytesOf, onto}
 use Rattle.mapper.specs.Answer.{figures, tooLarge, tooShort, sourceMaps, mapChecks, answerOf, areaOf, mapAnswer, mapArea}

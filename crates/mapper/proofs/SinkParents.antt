@@ -15,9 +15,9 @@ use Rattle.netlist.specs.Kinds.{slots, topLevel, arity}
 use Rattle.netlist.specs.Records.{Netlist}
 use Rattle.fanout.specs.Nets.{sinks, sinkAt, nodesAt, row, treeSize}
 use Rattle.fanout.proofs.Rows.{added-at}
-use Rattle.mapper.specs.Mapped.{buffersOf, parent, rank, sinkNumber, sinkParent, Ready}
-use Rattle.nets.specs.Chains.{slotEnd, usedSlot, faninSlot, namesSlot, nextSink, slotDistance, sinksBelow}
-use Rattle.mapper.specs.Writing.{behind, onParent, ParentsDue, NodeCounts}
+use Rattle.mapper.specs.Mapped.{buffersOf, parent, rank, sinkNumber, sinkParent}
+use Rattle.mapper.specs.PrivateWriting.{Ready, behind, onParent, ParentsDue, NodeCounts}
+use Rattle.nets.specs.PrivateChains.{slotEnd, usedSlot, faninSlot, namesSlot, nextSink, slotDistance, sinksBelow}
 use Rattle.nets.proofs.OneChain.{sinks-all, sinks-below, sinks-rise, sinks-more, named-above, chain-none, chain-all, chain-inside, chain-names, chain-apart, chain-near, chain-count}
 use Rattle.facts.proofs.Blocks.{block-before}
 use Rattle.mapper.proofs.Mapped.{tree-sum}

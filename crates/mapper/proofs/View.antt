@@ -27,8 +27,8 @@ use Rattle.mapper.specs.declared.Ends.{Ends}
 use Rattle.mapper.specs.Mapped.{blockStart, mappedSize}
 use Rattle.mapper.specs.Answer.{tooLarge, sourceMaps}
 use Rattle.nets.specs.Checks.{treeCheck, treesBelow, treeChecks}
-use Rattle.nets.specs.Chains.{sizingOf}
-use Rattle.mapper.specs.Writing.{Counted, Mappable}
+use Rattle.nets.specs.PrivateChains.{sizingOf}
+use Rattle.mapper.specs.PrivateWriting.{Counted, Mappable}
 use Rattle.nets.proofs.TreeCounts.{input-capacity, total-small, refusing, counting}
 use Rattle.mapper.specs.View.{noEnds, ownEnds, endsOf, blockEnds, between}
 

@@ -12,8 +12,8 @@ use Rattle.facts.specs.Lists.{tabulate}
 use Rattle.netlist.specs.Records.{netlist, used, fanin}
 use Rattle.fanout.specs.Nets.{fewestInAll}
 use Rattle.mapper.specs.Bytes.{encoded, bytesOf, put, withRecords, onto}
-use Rattle.mapper.specs.Mapped.{mappedSize, sinkParent, rewired, mappedAt, mapped, Ready}
-use Rattle.mapper.specs.Writing.{ParentsSet, relinkedAt}
+use Rattle.mapper.specs.Mapped.{mappedSize, sinkParent, rewired, mappedAt, mapped}
+use Rattle.mapper.specs.PrivateWriting.{Ready, ParentsSet, relinkedAt}
 use Rattle.mapper.proofs.Mapped.{at-source}
 use Rattle.mapper.proofs.Nodes.{pos}
 use Rattle.mapper.proofs.Area.{records-all, encoded-cong}

@@ -16,14 +16,14 @@ use Rattle.netlist.specs.Records.{Netlist}
 use Rattle.fanout.specs.Nets.{row, sinks, buffersAt, treeSize}
 use Rattle.fanout.specs.declared.TreeTotals.{TreeTotals}
 use Rattle.mapper.specs.Bytes.{encoded, put, withRecords}
-use Rattle.mapper.specs.Mapped.{buffersOf, blockStart, mappedSize, mapped, Ready}
-use Rattle.nets.specs.Chains.{slotEnd, namesSlot, slotDistance, ShortChain}
-use Rattle.mapper.specs.Writing.{Stale, CountedNet, ParentsSet, ParentsWritten, onParent, onLine, lineRecord, NodeCounts, Writable, Wrote}
+use Rattle.mapper.specs.Mapped.{buffersOf, blockStart, mappedSize, mapped}
+use Rattle.mapper.specs.PrivateWriting.{Ready, Stale, CountedNet, ParentsSet, ParentsWritten, onParent, onLine, lineRecord, NodeCounts, Writable, Wrote}
+use Rattle.nets.specs.PrivateChains.{slotEnd, namesSlot, slotDistance, ShortChain}
 use Rattle.nets.proofs.Lines.{line-size}
 use Rattle.nets.proofs.TreeCounts.{measured-none}
 use Rattle.mapper.proofs.Area.{records-none, records-more, records-length}
 use Rattle.facts.proofs.Blocks.{block-before}
-use Rattle.fanout.specs.Walk.{Filled, Walked}
+use Rattle.fanout.specs.PrivateWalk.{Filled, Walked}
 use Rattle.fanout.proofs.Nets.{nodes-none}
 use Rattle.mapper.proofs.Nodes.{pos}
 use Rattle.mapper.proofs.SinkParents.{named-sink}

@@ -14,7 +14,7 @@ use Rattle.netlist.specs.Records.{recordAt}
 use Rattle.netlist.proofs.Checks.{arity-slots}
 use Rattle.mapper.specs.Bytes.{twoBytes, joined, encode, encoded, put}
 use Rattle.mapper.specs.Mapped.{bufferOf}
-use Rattle.mapper.specs.Writing.{behind, levelRecord, lineParent, lineRecord, relinked, relinkedAt}
+use Rattle.mapper.specs.PrivateWriting.{behind, levelRecord, lineParent, lineRecord, relinked, relinkedAt}
 use Rattle.mapper.proofs.Bytes.{length-joined, length-encode}
 use Rattle.mapper.proofs.Area.{length-put, put-behind, put-within}
 

@@ -17,8 +17,8 @@ use Rattle.netlist.specs.Records.{Netlist}
 use Rattle.fanout.specs.Nets.{up, treeSize}
 use Rattle.fanout.proofs.Nets.{up-zero}
 use Rattle.mapper.specs.Bytes.{encoded, recs, put, withRecords}
-use Rattle.mapper.specs.Mapped.{buffersOf, blockStart, mappedSize, place, parent, bufferOf, bufferRecord, mappedAt, mapped, Ready}
-use Rattle.mapper.specs.Writing.{behind, levelRecord, CountedNet, FirstParents}
+use Rattle.mapper.specs.Mapped.{buffersOf, blockStart, mappedSize, place, parent, bufferOf, bufferRecord, mappedAt, mapped}
+use Rattle.mapper.specs.PrivateWriting.{Ready, behind, levelRecord, CountedNet, FirstParents}
 use Rattle.facts.proofs.Blocks.{block-before}
 use Rattle.mapper.proofs.Mapped.{tree-sum, at-place}
 use Rattle.mapper.proofs.Nodes.{pos}

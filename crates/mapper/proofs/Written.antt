@@ -11,7 +11,8 @@ use Rattle.netlist.specs.Records.{Netlist, netlist, slot}
 use Rattle.netlist.proofs.Checks.{arity-slots}
 use Rattle.netlist.proofs.Source.{kind-byte}
 use Rattle.mapper.specs.Bytes.{bytesOf, Fits}
-use Rattle.mapper.specs.Mapped.{mappedSize, bufferRecord, rewired, mappedAt, mapped, Ready}
+use Rattle.mapper.specs.Mapped.{mappedSize, bufferRecord, rewired, mappedAt, mapped}
+use Rattle.mapper.specs.PrivateWriting.{Ready}
 use Rattle.mapper.proofs.Bytes.{netlist-bytes}
 use Rattle.mapper.proofs.Mapped.{at-source, at-end, placed}
 use Rattle.mapper.proofs.Nodes.{pos, kind-kept, inversion-kept, level-kept, slot-kept, named, at-placed, buffer-kind, buffer-inversion, buffer-low, buffer-empty}

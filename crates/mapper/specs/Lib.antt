@@ -1,6 +1,6 @@
 pub mod Bytes
 pub mod Mapped
 pub mod Answer
-pub mod Writing
+pub mod PrivateWriting
 pub mod View
 pub mod Promises

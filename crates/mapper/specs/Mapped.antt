@@ -1,7 +1,6 @@
 -- Specification 2.4, 2.5: the mapped netlist of a source, by index.
-use Prim.Native.Nat.{ℕ, zero, suc, _+_, _-_, _≤_, _<_, _/_}
-use mathlib.Core.Path.{_≡_}
-use mathlib.Core.Bool.{Bool, true, cond}
+use Prim.Native.Nat.{ℕ, zero, suc, _+_, _-_, _/_}
+use mathlib.Core.Bool.{Bool, cond}
 use mathlib.Core.List.{_∷_}
 use lib.ListN.{replicate}
 use lib.Dec.{ltb}
@@ -9,11 +8,9 @@ use Rattle.facts.specs.Sums.{sum, count, count₂}
 use Rattle.facts.specs.Blocks.{block}
 use Rattle.facts.specs.Lists.{tabulate}
 use Rattle.netlist.specs.declared.Record.{Record}
-use Rattle.netlist.specs.Kinds.{slots, unused, topLevel, mappedLimit, buffer}
+use Rattle.netlist.specs.Kinds.{slots, unused, topLevel, buffer}
 use Rattle.netlist.specs.Records.{Netlist, blank, used, fanin}
-use Rattle.netlist.specs.Source.{IsSource}
-use Rattle.netlist.specs.Balance.{driverCapacity}
-use Rattle.fanout.specs.Nets.{row, sinkAt, buffersAt, hasTree, treeSize, fewestInAll}
+use Rattle.fanout.specs.Nets.{row, sinkAt, buffersAt, treeSize, fewestInAll}
 
 -- the buffers of d's tree at distance k; at 0 stands the driver
 unfoldable pub buffersOf : Netlist → ℕ → ℕ → ℕ → ℕ
@@ -90,11 +87,3 @@ mappedAt n s x =
 -- the mapped netlist
 abbrev pub mapped : Netlist → ℕ → Netlist
 mapped n s = record { size = mappedSize n s; at = mappedAt n s }
-
--- what checks 1 to 9 show: a source, a capacity, a tree for every net, and not too many records
-pub record Ready (n : Netlist) (s : ℕ) : Type 0 where
-  pub source : IsSource n
-  pub low : 2 ≤ s
-  pub high : s ≤ 4
-  pub trees : (d : ℕ) → d < n .size → hasTree driverCapacity s (row n d) ≡ true
-  pub fits : mappedSize n s ≤ mappedLimit

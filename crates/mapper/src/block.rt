@@ -5,7 +5,7 @@ ghost use Rattle.netlist.specs.Records.{netlist};
 ghost use Rattle.netlist.specs.Checks.{inputChecks};
 ghost use Rattle.mapper.specs.Mapped.{blockStart};
 ghost use Rattle.mapper.specs.View.{noEnds, blockEnds};
-ghost use Rattle.mapper.specs.Writing.{Counted, Mappable};
+ghost use Rattle.mapper.specs.PrivateWriting.{Counted, Mappable};
 use crate::Ends;
 use crate::RECORDS;
 use crate::SINKS;

@@ -8,7 +8,7 @@ ghost use Rattle.netlist.specs.Checks.{inputChecks};
 ghost use Rattle.mapper.specs.Mapped.{mapped};
 ghost use Rattle.mapper.specs.Answer.{share, refusal, figures, mapAnswer, mapArea};
 ghost use Rattle.mapper.specs.View.{blockView};
-ghost use Rattle.mapper.specs.Writing.{Counted};
+ghost use Rattle.mapper.specs.PrivateWriting.{Counted};
 use facts::Checked;
 use fanout::DISTANCES;
 use netlist::MAPPED_LIMIT;

@@ -6,7 +6,7 @@ ghost use Rattle.netlist.specs.Kinds.{width, slots};
 ghost use Rattle.netlist.specs.Records.{recordCount};
 ghost use Rattle.mapper.specs.Bytes.{twoBytes, encode, encoded, put};
 ghost use Rattle.mapper.specs.Mapped.{bufferOf};
-ghost use Rattle.mapper.specs.Writing.{relinked, relinkedAt};
+ghost use Rattle.mapper.specs.PrivateWriting.{relinked, relinkedAt};
 use netlist::BUFFER;
 use netlist::Record;
 use netlist::SLOTS;

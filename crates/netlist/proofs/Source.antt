@@ -19,7 +19,8 @@ use Rattle.netlist.specs.declared.Record.{Record}
 use Rattle.netlist.specs.Kinds.{slots, majority, output, buffer, arity, isDriver}
 use Rattle.netlist.specs.Records.{Netlist, netlist, recordCount, recordAt, isOutput, depth}
 use Rattle.netlist.specs.Checks.{badCapacity, sourceChecks, inputChecks}
-use Rattle.netlist.specs.Source.{IsSource, Source, Input, OutputsAt}
+use Rattle.netlist.specs.Source.{IsSource, Source, OutputsAt}
+use Rattle.netlist.specs.PrivateInput.{Input}
 use Rattle.netlist.proofs.Checks.{arity-slots}
 use Rattle.netlist.proofs.Records.{record-past}
 

@@ -4,5 +4,6 @@ pub mod Counts
 pub mod Checks
 pub mod Refusals
 pub mod Source
+pub mod PrivateInput
 pub mod Balance
 pub mod View

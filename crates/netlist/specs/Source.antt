@@ -39,9 +39,3 @@ pub record OutputsAt (m : Netlist) (D : ℕ) : Type 0 where
 pub record Source (bytes : List ℕ) : Type 0 where
   pub whole : length bytes % width ≡ 0
   pub isSource : IsSource (netlist bytes)
-
--- what passing checks 1 to 7 means: a capacity and a source
-pub record Input (s : ℕ) (source : List ℕ) : Type 0 where
-  pub low : 2 ≤ s
-  pub high : s ≤ 4
-  pub isSource : Source source

@@ -13,9 +13,9 @@ use Rattle.netlist.specs.Records.{Netlist}
 use Rattle.fanout.specs.Nets.{row}
 use Rattle.fanout.proofs.Nets.{row-length, row-at}
 use Rattle.fanout.proofs.Rows.{added-at}
-use Rattle.nets.specs.Chains.{nextSink, slotDistance, sinksBelow, Chained}
-use Rattle.fanout.specs.Stretches.{stretch, InStretches}
-use Rattle.fanout.specs.Walk.{Filled}
+use Rattle.nets.specs.PrivateChains.{nextSink, slotDistance, sinksBelow, Chained}
+use Rattle.fanout.specs.PrivateStretches.{stretch, InStretches}
+use Rattle.fanout.specs.PrivateWalk.{Filled}
 use Rattle.fanout.proofs.EmptyStretches.{stretches-none, stretches-added}
 use Rattle.fanout.proofs.Lists.{getD-replicated}
 use Rattle.nets.proofs.OneChain.{sinks-below, OnChain, chain-start, chain-none, chain-all, chain-inside, chain-near, chain-next, chain-on, chain-count}

@@ -19,7 +19,7 @@ use Rattle.netlist.specs.Kinds.{slots, sourceLimit, arity}
 use Rattle.netlist.specs.Records.{Netlist, fanin}
 use Rattle.netlist.specs.Source.{IsSource}
 use Rattle.netlist.proofs.Checks.{arity-slots}
-use Rattle.nets.specs.Chains.{slotEnd, usedSlot, faninSlot, namesSlot, nextSink, Emptied, Linked, Chained}
+use Rattle.nets.specs.PrivateChains.{slotEnd, usedSlot, faninSlot, namesSlot, nextSink, Emptied, Linked, Chained}
 
 -- what holds only where p does is counted nowhere on the way to the first p
 seek-count : (p q : ℕ → Bool) (y m : ℕ) → ((z : ℕ) → q z ≡ true → p z ≡ true) → count q (seek p y m) ≡ count q y

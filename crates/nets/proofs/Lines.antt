@@ -10,7 +10,7 @@ use Rattle.netlist.specs.Kinds.{topLevel}
 use Rattle.netlist.specs.Records.{Netlist}
 use Rattle.fanout.specs.Nets.{row, buffersAt, treeSize}
 use Rattle.fanout.proofs.Nets.{nodes-at, fewest-sum, line-row, row-length, row-at}
-use Rattle.nets.specs.Chains.{ShortChain, Measured}
+use Rattle.nets.specs.PrivateChains.{ShortChain, Measured}
 use Rattle.fanout.proofs.Rows.{row-none}
 
 -- d's net of one or two sinks

@@ -15,7 +15,7 @@ use Rattle.netlist.specs.Kinds.{slots, topLevel}
 use Rattle.netlist.specs.Records.{Netlist}
 use Rattle.netlist.specs.Source.{IsSource}
 use Rattle.fanout.specs.Nets.{sinks, sinkAt}
-use Rattle.nets.specs.Chains.{slotEnd, usedSlot, faninSlot, namesSlot, nextSink, Above, slotDistance, sinksBelow, Chained}
+use Rattle.nets.specs.PrivateChains.{slotEnd, usedSlot, faninSlot, namesSlot, nextSink, Above, slotDistance, sinksBelow, Chained}
 use Rattle.nets.proofs.Chains.{next-within, next-names, next-count}
 
 -- all sinks stand below the end

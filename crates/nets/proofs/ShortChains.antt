@@ -15,7 +15,7 @@ use Rattle.netlist.specs.Records.{Netlist}
 use Rattle.fanout.specs.Nets.{sinks}
 use Rattle.nets.specs.declared.sinks.Chain.{Chain}
 use Rattle.nets.specs.declared.sinks.Chain.the-variants.{Empty, Short, Long}
-use Rattle.nets.specs.Chains.{nextSink, slotDistance, sinksBelow, Chained, ShortChain, ChainIs}
+use Rattle.nets.specs.PrivateChains.{nextSink, slotDistance, sinksBelow, Chained, ShortChain, ChainIs}
 use Rattle.nets.proofs.OneChain.{OnChain, chain-start, chain-none, chain-next, chain-all, chain-apart, chain-near, chain-on, chain-count}
 
 -- one sink, at distance a

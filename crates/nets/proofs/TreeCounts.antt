@@ -24,10 +24,10 @@ use Rattle.fanout.specs.declared.TreeTotals.{TreeTotals}
 use Rattle.nets.specs.declared.trees.Sizing.{Sizing}
 use Rattle.nets.specs.declared.trees.Sizing.the-variants.{Total, Stops}
 use Rattle.nets.specs.Checks.{treeCheck, treesBelow, treeChecks}
-use Rattle.nets.specs.Chains.{Chained, Measured, sizingOf, Linked}
+use Rattle.nets.specs.PrivateChains.{Chained, Measured, sizingOf, Linked}
 use Rattle.fanout.proofs.Walking.{bufferLimit, fewest-small}
 use lib.Seq.{getD-drop}
-use Rattle.fanout.specs.Walk.{Filled, Walked}
+use Rattle.fanout.specs.PrivateWalk.{Filled, Walked}
 use Rattle.fanout.proofs.Nets.{nodes-none, buffers-none}
 use Rattle.fanout.proofs.Rows.{row-none}
 use Rattle.netlist.specs.Checks.{inputChecks}

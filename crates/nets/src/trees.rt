@@ -8,7 +8,7 @@ ghost use Rattle.netlist.specs.Records.{netlist, recordCount};
 ghost use Rattle.netlist.specs.Checks.{inputChecks};
 ghost use Rattle.fanout.specs.Nets.{treeSize, fewestInAll};
 ghost use Rattle.nets.specs.Checks.{treesBelow, treeChecks};
-ghost use Rattle.nets.specs.Chains.{Linked, Chained, Measured, sizingOf};
+ghost use Rattle.nets.specs.PrivateChains.{Linked, Chained, Measured, sizingOf};
 ghost use Rattle.facts.specs.declared.Checked.{Checked};
 use crate::numbers;
 use crate::sinks;

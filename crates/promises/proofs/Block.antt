@@ -21,7 +21,8 @@ use Rattle.verifier.specs.Fewest.{onNet}
 use Rattle.verifier.proofs.Trace.{traces-driver}
 use Rattle.fanout.specs.Nets.{treeSize}
 use Rattle.mapper.specs.Bytes.{recs}
-use Rattle.mapper.specs.Mapped.{Ready, blockStart, mappedSize, bufferRecord, mapped}
+use Rattle.mapper.specs.Mapped.{blockStart, mappedSize, bufferRecord, mapped}
+use Rattle.mapper.specs.PrivateWriting.{Ready}
 use Rattle.mapper.proofs.Mapped.{within-tree, placed}
 use Rattle.mapper.proofs.Nodes.{pos, kind-kept, parent-traced, buffer-node, at-placed, buffer-kind}
 use Rattle.mapper.proofs.Promises.{block-written}

@@ -10,7 +10,8 @@ use Rattle.netlist.specs.Balance.{capacityOf}
 use Rattle.netlist.specs.Counts.{bufferCount}
 use Rattle.netlist.proofs.Source.{no-buffer}
 use Rattle.verifier.specs.Legal.{Legal, Kept, Traces}
-use Rattle.mapper.specs.Mapped.{Ready, mappedSize, mappedAt, mapped}
+use Rattle.mapper.specs.Mapped.{mappedSize, mappedAt, mapped}
+use Rattle.mapper.specs.PrivateWriting.{Ready}
 use Rattle.fanout.specs.Nets.{fewestInAll}
 use Rattle.mapper.proofs.Mapped.{placed}
 use Rattle.mapper.proofs.Nodes.{pos, kind-kept, inversion-kept, level-kept, slot-kept, named, no-output, balanced, traced, buffer-kind, buffer-inversion, buffer-low, buffer-empty}

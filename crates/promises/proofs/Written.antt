@@ -21,7 +21,8 @@ use Rattle.netlist.specs.Checks.{inputChecks}
 use Rattle.netlist.specs.Counts.{bufferCount}
 use Rattle.netlist.proofs.Refusals.{input-numbered}
 use Rattle.netlist.proofs.Source.{input-passed}
-use Rattle.mapper.specs.Mapped.{Ready, mappedSize, mapped}
+use Rattle.mapper.specs.Mapped.{mappedSize, mapped}
+use Rattle.mapper.specs.PrivateWriting.{Ready}
 use Rattle.mapper.specs.Bytes.{bytesOf}
 use Rattle.mapper.specs.Answer.{tooLarge, sourceMaps, mapChecks, answerOf, mapAnswer, mapArea}
 use Rattle.mapper.specs.Promises.{MapFails}

@@ -1,5 +1,5 @@
 -- `next_sinks` meets its contract: no sinks stand between x and k.
-use Rattle.fanout.specs.Stretches.{NextSinks}
+use Rattle.fanout.specs.PrivateStretches.{NextSinks}
 use Rattle.fanout.proofs.EmptyStretches.{seek-start, seek-range, seek-more}
 use borrow.Author.Needs.{needs}
 use Rattle.fanout.proofs.stretches.next_sinks.Statement.{statement}

@@ -1,7 +1,7 @@
 -- `write_source` meets its contract: the first i records are written.
 use Prim.Native.Nat.{_-_}
 use Rattle.netlist.specs.Records.{recordCount}
-use Rattle.mapper.specs.Writing.{relinkedAt}
+use Rattle.mapper.specs.PrivateWriting.{relinkedAt}
 use Rattle.mapper.proofs.WriteRecords.{RecordsSoFar, written-start, source-room, source-more, source-end}
 use borrow.Author.Needs.{needs}
 use Rattle.mapper.proofs.records.write_source.Statement.{statement}

@@ -2,7 +2,7 @@
 use Prim.Native.Nat.{_-_}
 use mathlib.Core.Path.{_≡_}
 use Rattle.netlist.specs.Records.{netlist, recordAt}
-use Rattle.mapper.specs.Writing.{onLine}
+use Rattle.mapper.specs.PrivateWriting.{onLine}
 use Rattle.nets.proofs.OneChain.{first-inside, distance-is, chain-above}
 use Rattle.mapper.proofs.ChainParents.{ParentsSoFar, parents-start, parents-reach, parents-inside, parents-less, parents-more, parents-end, driver-fits, line-parent-is}
 use borrow.Author.Needs.{needs}

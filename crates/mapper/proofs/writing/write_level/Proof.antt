@@ -1,6 +1,6 @@
 -- `write_level` meets its contract: the first j buffers are written.
 use Prim.Native.Nat.{_-_}
-use Rattle.mapper.specs.Writing.{levelRecord}
+use Rattle.mapper.specs.PrivateWriting.{levelRecord}
 use Rattle.mapper.proofs.WriteRecords.{RecordsSoFar, written-start, written-room, written-end, level-parent, level-more}
 use borrow.Author.Needs.{needs}
 use Rattle.mapper.proofs.writing.write_level.Statement.{statement}

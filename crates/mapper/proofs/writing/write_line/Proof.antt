@@ -1,6 +1,6 @@
 -- `write_line` meets its contract: the first j buffers are written.
 use Prim.Native.Nat.{_-_}
-use Rattle.mapper.specs.Writing.{lineRecord}
+use Rattle.mapper.specs.PrivateWriting.{lineRecord}
 use Rattle.mapper.proofs.WriteRecords.{RecordsSoFar, written-start, written-room, written-end, line-more}
 use borrow.Author.Needs.{needs}
 use Rattle.mapper.proofs.writing.write_line.Statement.{statement}

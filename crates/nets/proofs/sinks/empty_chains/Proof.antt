@@ -3,7 +3,7 @@ use borrow.Author.Needs.{needs}
 use Prim.Native.Nat.{_-_, _≤_}
 use mathlib.Core.Path.{_≡_}
 use lib.ListN.{length}
-use Rattle.nets.specs.Chains.{Emptied}
+use Rattle.nets.specs.PrivateChains.{Emptied}
 use Rattle.nets.proofs.Chains.{empty-none, empty-more, empty-all}
 use Rattle.nets.proofs.sinks.empty_chains.Statement.{statement}
 use Rattle.nets.proofs.sinks.empty_chains.Tie as tie

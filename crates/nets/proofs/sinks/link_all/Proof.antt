@@ -4,7 +4,7 @@ use mathlib.Core.Path.{_≡_}
 use lib.ListN.{length}
 use Rattle.netlist.specs.Kinds.{slots}
 use Rattle.netlist.specs.Records.{netlist}
-use Rattle.nets.specs.Chains.{Linked}
+use Rattle.nets.specs.PrivateChains.{Linked}
 use Rattle.nets.proofs.Chains.{linked-below, linked-end}
 use borrow.Author.Needs.{needs}
 use Rattle.nets.proofs.sinks.link_all.Statement.{statement}

@@ -1,4 +1,4 @@
--- What the mapper's local arrays and its area hold while nets are written.
+-- For private functions alone: what the mapper's local arrays and its area hold while nets are written.
 use Prim.Native.Nat.{ℕ, zero, suc, _+_, _*_, _≤_, _<_, _/_, _%_}
 use mathlib.Core.Path.{_≡_}
 use mathlib.Core.Bool.{true, false, cond}
@@ -8,15 +8,25 @@ use lib.Dec.{ltb}
 use Rattle.facts.specs.declared.Checked.the-variants.{Passed}
 use Rattle.facts.specs.Lists.{tabulate}
 use Rattle.netlist.specs.declared.Record.{Record}
-use Rattle.netlist.specs.Kinds.{width, slots, topLevel, arity}
+use Rattle.netlist.specs.Kinds.{width, slots, topLevel, mappedLimit, arity}
 use Rattle.netlist.specs.Records.{Netlist, netlist, slot, recordCount, recordAt}
+use Rattle.netlist.specs.Source.{IsSource}
+use Rattle.netlist.specs.Balance.{driverCapacity}
 use Rattle.nets.specs.Checks.{treeChecks}
-use Rattle.nets.specs.Chains.{slotEnd, usedSlot, faninSlot, namesSlot, slotDistance, Chained}
+use Rattle.nets.specs.PrivateChains.{slotEnd, usedSlot, faninSlot, namesSlot, slotDistance, Chained}
 use Rattle.netlist.specs.Checks.{inputChecks}
-use Rattle.fanout.specs.Nets.{row, nodesAt, treeSize, fewestInAll}
+use Rattle.fanout.specs.Nets.{row, nodesAt, hasTree, treeSize, fewestInAll}
 use Rattle.mapper.specs.Bytes.{withRecords}
 use Rattle.mapper.specs.Answer.{sourceMaps}
-use Rattle.mapper.specs.Mapped.{buffersOf, blockStart, mappedSize, parent, bufferOf, sinkParent, mapped, Ready}
+use Rattle.mapper.specs.Mapped.{buffersOf, blockStart, mappedSize, parent, bufferOf, sinkParent, mapped}
+
+-- what checks 1 to 9 show: a source, a capacity, a tree for every net, and not too many records
+pub record Ready (n : Netlist) (s : ℕ) : Type 0 where
+  pub source : IsSource n
+  pub low : 2 ≤ s
+  pub high : s ≤ 4
+  pub trees : (d : ℕ) → d < n .size → hasTree driverCapacity s (row n d) ≡ true
+  pub fits : mappedSize n s ≤ mappedLimit
 
 -- a row to be cleared up to distance top
 pub record Stale (counts : List ℕ) (top : ℕ) : Type 0 where

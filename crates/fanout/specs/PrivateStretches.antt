@@ -1,4 +1,4 @@
--- The way down a row over stretches of distances without sinks.
+-- For functions inside the engine alone: the way down a row over stretches of distances without sinks.
 use Prim.Native.Nat.{ℕ, suc, _/_, _%_, _^_, _≤_, _<_}
 use mathlib.Core.Path.{_≡_}
 use mathlib.Core.Bool.{Bool, false}

@@ -1,4 +1,4 @@
--- What the local arrays of the chains hold, and what is counted along them. Slots go by number: slot y is slot y % slots of record
+-- For functions inside the engine alone: what the local arrays of the chains hold, and what is counted along them. Slots go by number: slot y is slot y % slots of record
 -- y / slots.
 use Prim.Native.Nat.{ℕ, suc, _-_, _*_, _≤_, _<_, _/_, _%_}
 use mathlib.Core.Path.{_≡_}
@@ -6,7 +6,7 @@ use mathlib.Core.Bool.{Bool, true}
 use mathlib.Core.List.{List}
 use lib.ListN.{length, getD}
 use Rattle.facts.specs.declared.Checked.{Checked}
-use Rattle.facts.specs.declared.Checked.the-variants.{Passed, Refused}
+use Rattle.facts.specs.Checks.{outcome}
 use Rattle.facts.specs.Sums.{count, seek}
 use Rattle.netlist.specs.Kinds.{slots, topLevel}
 use Rattle.netlist.specs.Records.{Netlist, used, fanin, names}
@@ -94,5 +94,4 @@ pub record Measured (n : Netlist) (s d : ℕ) (t : TreeTotals) : Type 0 where
 
 -- the buffers of all trees, or check 8's refusal
 abbrev pub sizingOf : Checked → ℕ → Sizing
-sizingOf Passed total = Total total
-sizingOf (Refused number place) total = Stops number place
+sizingOf checks total = outcome checks (Total total) Stops

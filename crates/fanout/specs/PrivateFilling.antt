@@ -1,4 +1,4 @@
--- What the count's code keeps while it fills the row of one driver.
+-- For private functions alone: what the count's code keeps while it fills the row of one driver.
 use Prim.Native.Nat.{ℕ, suc, _+_, _-_, _≤_, _<_, _^_}
 use mathlib.Core.Path.{_≡_}
 use mathlib.Core.Bool.{cond}

@@ -1,20 +1,17 @@
--- The walk down a driver's row: what it asks of the row, and what it leaves.
+-- For functions inside the engine alone: the walk down a driver's row: what it asks of the row, and what it leaves.
 use Prim.Native.Nat.{ℕ, suc, _*_, _≤_, _<_}
 use mathlib.Core.Path.{_≡_}
 use mathlib.Core.Bool.{Bool, cond}
 use mathlib.Core.List.{List}
 use lib.ListN.{length, getD}
-use Rattle.netlist.specs.Kinds.{slots, topLevel, sourceLimit}
+use Rattle.netlist.specs.Kinds.{topLevel}
 use Rattle.netlist.specs.Records.{Netlist}
 use Rattle.fanout.specs.declared.Reach.{Reach}
 use Rattle.fanout.specs.declared.TreeTotals.{TreeTotals}
-use Rattle.fanout.specs.Stretches.{InStretches}
-use Rattle.fanout.specs.Nets.{row, nodesAt, buffersAt, fewest}
+use Rattle.fanout.specs.PrivateStretches.{InStretches}
+use Rattle.fanout.specs.Nets.{sinkLimit, row, nodesAt, buffersAt, fewest}
 
--- the most sinks of a net, and a number of nodes that no distance reaches
-abbrev pub sinkLimit : ℕ
-sinkLimit = slots * sourceLimit
-
+-- a number of nodes that no distance reaches
 abbrev pub nodeLimit : ℕ
 nodeLimit = 2 * sinkLimit
 
