@@ -1,12 +1,115 @@
--- Laws of loops that write an area from the front: what is written so far, then the rest as it was.
-use Prim.Native.Nat.{ℕ, suc, _+_, _-_, _<_, _≤_}
+-- Laws of an area: bytes put into it, side by side and one within another, and loops that write it from the front on.
+use Prim.Native.Nat.{ℕ, suc, _+_, _-_, _<_, _≤_, _/_, _%_}
 use mathlib.Core.Path.{_≡_, refl, sym, _∙_, ap, ap₂}
-use mathlib.Core.List.{List, [], _∷_, _++_, append-nil}
+use mathlib.Core.List.{List, [], _∷_, _++_, append-assoc, append-nil}
 use native.Mathlib.Omega.{arith}
 use native.Mathlib.Nat.{add-sub-of-le, add-zero}
+use native.Mathlib.Numerals.{add-one}
 use lib.ListN.{length, getD, take, drop, set, replicate, length-append, length-set, length-drop, take-append-drop, drop-of-length-le}
-use lib.Seq.{drop-cons, set-at, append-snoc, take-at, drop-drop, drop-append-add, length-take-le}
+use lib.Seq.{sets, sets-eq, drop-cons, set-at, append-snoc, take-at, drop-at, drop-drop, drop-append-add, length-take-le, take-append-le, take-append-add, drop-append-le, take-take}
 use borrow.Author.Fill.{fill-more}
+use Rattle.facts.specs.Bytes.{twoBytes}
+use Rattle.facts.specs.Areas.{put}
+
+module _ (xs : List ℕ) (a : ℕ) (bs : List ℕ) where
+  pub length-put : a + length bs ≤ length xs → length (put xs a bs) ≡ length xs
+  length-put l =
+      omega (
+        arith,
+        length-append (take a xs) (bs ++ drop (a + length bs) xs),
+        length-append bs (drop (a + length bs) xs),
+        length-take-le a xs (omega arith),
+        length-drop (a + length bs) xs,
+      )
+
+  -- further bytes right behind
+  pub put-behind : (cs : List ℕ) → a + length bs ≤ length xs → put (put xs a bs) (a + length bs) cs ≡ put xs a (bs ++ cs)
+  put-behind cs l =
+      ap (λ (l : List ℕ). put l (a + length bs) cs) (sym (append-assoc (take a xs) bs R))
+      ∙ ap₂ (λ (u v : List ℕ). u ++ (cs ++ v)) (take-at P R (a + length bs) long)
+      (ap (λ (k : ℕ). drop (k + length cs) (P ++ R)) (sym long)
+      ∙ drop-append-add P R (length cs)
+      ∙ drop-drop (length cs) (a + length bs) xs
+      ∙ ap (λ (k : ℕ). drop k xs) both)
+      ∙ append-assoc (take a xs) bs (cs ++ drop (a + length (bs ++ cs)) xs)
+      ∙ ap (λ (l : List ℕ). take a xs ++ l) (sym (append-assoc bs cs (drop (a + length (bs ++ cs)) xs)))
+    where
+      P : List ℕ
+      P = take a xs ++ bs
+
+      R : List ℕ
+      R = drop (a + length bs) xs
+
+      long : length P ≡ a + length bs
+      long = omega (arith, length-append (take a xs) bs, length-take-le a xs (omega arith))
+
+      both : a + length bs + length cs ≡ a + length (bs ++ cs)
+      both = omega (arith, length-append bs cs)
+
+  -- further bytes right before
+  pub put-before : (b : ℕ) (cs : List ℕ) → a + length bs ≡ b → b ≤ length xs → put (put xs b cs) a bs ≡ put xs a (bs ++ cs)
+  put-before b cs e l =
+      ap₂ (λ (u v : List ℕ). u ++ (bs ++ v))
+      (take-append-le a (take b xs) (cs ++ drop (b + length cs) xs) (omega (arith, length-take-le b xs l)) ∙ take-take a b xs (omega arith))
+      (ap (λ (k : ℕ). drop k (put xs b cs)) e ∙ drop-at (take b xs) (cs ++ drop (b + length cs) xs) b (length-take-le b xs l))
+      ∙ ap (λ (l : List ℕ). take a xs ++ l)
+      (sym (append-assoc bs cs (drop (b + length cs) xs)) ∙ ap (λ (k : ℕ). (bs ++ cs) ++ drop k xs) both)
+    where
+      both : b + length cs ≡ a + length (bs ++ cs)
+      both = omega (arith, length-append bs cs)
+
+-- bytes put within bytes that were put
+pub put-within : (xs : List ℕ) (a : ℕ) (bs : List ℕ) (k : ℕ) (cs : List ℕ) → a + length bs ≤ length xs → k + length cs ≤ length bs →
+    put (put xs a bs) (a + k) cs ≡ put xs a (put bs k cs)
+put-within xs a bs k cs l h =
+    ap₂ (λ (u v : List ℕ). u ++ (cs ++ v))
+    (ap (λ (x : ℕ). take (x + k) (P ++ (bs ++ R))) (sym long)
+    ∙ take-append-add P (bs ++ R) k
+    ∙ ap (λ (u : List ℕ). P ++ u) (take-append-le k bs R (omega arith)))
+    (ap (λ (x : ℕ). drop x (P ++ (bs ++ R))) far
+    ∙ drop-append-add P (bs ++ R) (k + length cs)
+    ∙ drop-append-le (k + length cs) bs R h)
+    ∙ append-assoc P (take k bs) (cs ++ (drop (k + length cs) bs ++ R))
+    ∙ ap (λ (u : List ℕ). P ++ u)
+    (ap (λ (u : List ℕ). take k bs ++ u) (sym (append-assoc cs (drop (k + length cs) bs) R))
+    ∙ sym (append-assoc (take k bs) (cs ++ drop (k + length cs) bs) R)
+    ∙ ap (λ (x : ℕ). put bs k cs ++ drop (a + x) xs) (sym (length-put bs k cs h)))
+  where
+    P : List ℕ
+    P = take a xs
+
+    R : List ℕ
+    R = drop (a + length bs) xs
+
+    long : length P ≡ a
+    long = length-take-le a xs (omega arith)
+
+    far : a + k + length cs ≡ length P + (k + length cs)
+    far = omega (arith, long)
+
+-- a part that was stored whole comes back into the area
+pub stored-whole : (part bytes : List ℕ) (w : ℕ) → length part ≡ w → length bytes ≡ w → sets part 0 bytes ≡ bytes
+stored-whole part bytes w p b =
+    sets-eq bytes part 0 (omega arith)
+    ∙ ap (λ (l : List ℕ). bytes ++ l) (drop-of-length-le part {i = 0 + length bytes} (omega arith))
+    ∙ append-nil bytes
+
+pub part-back : (area : List ℕ) (at w : ℕ) (bytes part : List ℕ) → part ≡ bytes → length bytes ≡ w →
+    take at area ++ (part ++ drop (at + w - at) (drop at area)) ≡ put area at bytes
+part-back area at w bytes part e b =
+    ap₂ (λ (p l : List ℕ). take at area ++ (p ++ l)) e
+    (drop-drop (at + w - at) at area ∙ ap (λ (k : ℕ). drop k area) far)
+  where
+    far : at + (at + w - at) ≡ at + length bytes
+    far = omega arith
+
+-- a number's two bytes, stored one by one
+pub slot-stored : (area : List ℕ) (at v x y : ℕ) → at + 1 < length area → x ≡ v % 256 → y ≡ v / 256 % 256 → set (set area at x) (at + 1) y ≡ put area at (twoBytes v)
+slot-stored area at v x y l e f =
+    ap (λ (k : ℕ). set (set area at x) k y) (add-one at)
+    ∙ sets-eq (x ∷ y ∷ []) area at (omega arith)
+    ∙ append-assoc (take at area) (x ∷ y ∷ []) (drop (at + 2) area)
+    ∙ ap₂ (λ (x y : ℕ). put area at (x ∷ y ∷ [])) e f
 
 -- the first bytes are new, the rest is as it was
 pub record Written (new : List ℕ) (k : ℕ) (area old : List ℕ) : Type 0 where

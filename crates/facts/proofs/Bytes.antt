@@ -1,11 +1,16 @@
--- Laws of numbers as bytes: four stores at a place put a number's bytes there.
-use Prim.Native.Nat.{ℕ, _+_, _/_, _%_, _≤_}
+-- Laws of numbers as bytes: two of them give the number back, and four stores at a place put a number's bytes there.
+use Prim.Native.Nat.{ℕ, _+_, _*_, _/_, _%_, _<_, _≤_}
+use native.Mathlib.Omega.{arith}
 use native.Mathlib.Numerals.{add-one, add-two, add-three}
 use mathlib.Core.Path.{_≡_, refl, _∙_}
 use mathlib.Core.List.{List, _++_, append-assoc}
 use lib.ListN.{length, take, drop, set}
 use lib.Seq.{sets-eq}
 use Rattle.facts.specs.Bytes.{four}
+
+-- a two-byte number from its bytes
+pub two-back : (v : ℕ) → v < 65536 → v % 256 + 256 * (v / 256 % 256) ≡ v
+two-back v l = omega arith
 
 pub length-four : (n : ℕ) → length (four n) ≡ 4
 unfolding four

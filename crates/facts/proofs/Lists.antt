@@ -1,13 +1,13 @@
--- Laws of lists by index: entries within the length and past it, and lists made of a function's values.
-use Prim.Native.Nat.{ℕ, zero, suc, _+_, _<_, _≤_}
+-- Laws of lists by index: entries within the length and past it, lists made of a function's values, and parts joined.
+use Prim.Native.Nat.{ℕ, zero, suc, _+_, _*_, _<_, _≤_}
 use mathlib.Core.Path.{_≡_, refl, sym, ap, _∙_}
 use mathlib.Core.List.{List, [], _∷_, _++_, append-nil, append-assoc}
 use native.Mathlib.Omega.{arith}
-use native.Mathlib.Nat.{add-zero, add-suc}
+use native.Mathlib.Nat.{add-zero, add-suc, mul-zero, mul-suc, mul-le-mul-left}
 use native.Mathlib.Decide.{decLt}
-use lib.ListN.{length, getD, replicate, length-append, List·getD-append, List·getD-eq-default}
-use lib.Seq.{getD-at}
-use Rattle.facts.specs.Lists.{tabulate}
+use lib.ListN.{length, getD, take, drop, replicate, length-append, length-drop, List·getD-append, List·getD-eq-default}
+use lib.Seq.{getD-at, take-append-le, drop-append-le, drop-at, take-all, getD-drop, getD-take}
+use Rattle.facts.specs.Lists.{tabulate, joined}
 
 -- an entry below the length does not depend on the default
 pub getD-any : (l : List ℕ) (i d e : ℕ) → i < length l → getD l i d ≡ getD l i e
@@ -49,3 +49,35 @@ tabulate-append f n (suc k) =
     ap (tabulate f) (add-suc n k)
     ∙ ap (λ (l : List ℕ). l ++ (f (n + k) ∷ [])) (tabulate-append f n k)
     ∙ append-assoc (tabulate f n) _ _
+
+-- n parts of w elements
+module _ (f : ℕ → List ℕ) (w : ℕ) (each : (i : ℕ) → length (f i) ≡ w) where
+  pub length-joined : (n : ℕ) → length (joined f n) ≡ w * n
+  unfolding joined
+  length-joined zero = sym (mul-zero w)
+  length-joined (suc n) = omega (arith, length-append (joined f n) (f n), length-joined n, each n, mul-suc w n)
+
+  -- part i of them
+  pub part-joined : (n i : ℕ) → i < n → take w (drop (w * i) (joined f n)) ≡ f i
+  unfolding joined
+  part-joined zero i l = absurd (omega arith)
+  part-joined (suc n) i l =
+      elim (decLt i n) [
+        | yes h ↦
+            (let room : w * i + w ≤ w * n = omega (arith, mul-suc w i, mul-le-mul-left {m = suc i} {n = n} w h) in
+            let from : w * i ≤ length (joined f n) = omega (arith, length-joined n) in
+            let long : w ≤ length (drop (w * i) (joined f n)) =
+            omega (arith, length-drop (w * i) (joined f n), length-joined n) in
+            rw (drop-append-le (w * i) (joined f n) (f n) from, take-append-le w (drop (w * i) (joined f n)) (f n) long)
+            (part-joined n i h))
+        | no g ↦
+            (let e : i ≡ n = omega arith in
+            rw (e, drop-at (joined f n) (f n) (w * n) (length-joined n)) (take-all w (f n) (omega (arith, each n))))
+      ]
+
+  -- element b of part i
+  pub getD-joined : (n i b d : ℕ) → i < n → b < w → getD (joined f n) (w * i + b) d ≡ getD (f i) b d
+  getD-joined n i b d l h =
+      sym (getD-drop (w * i) (joined f n) b d)
+      ∙ sym (getD-take w (drop (w * i) (joined f n)) b d h)
+      ∙ ap (λ (p : List ℕ). getD p b d) (part-joined n i l)

@@ -1,3 +1,4 @@
+pub mod Areas
 pub mod Blocks
 pub mod Bytes
 pub mod Checks

@@ -11,15 +11,16 @@ use borrow.Author.Tests.{eq-eqb, ne-eqb, lt-ltb, le-ltb, not-false}
 use Rattle.facts.specs.declared.Checked.{Checked}
 use Rattle.facts.specs.declared.Checked.the-variants.{Passed, Refused}
 use Rattle.facts.specs.Checks.{check, _andThen_}
+use Rattle.facts.specs.Areas.{onto}
 use Rattle.facts.proofs.Sums.{count-le}
 use Rattle.facts.proofs.Reflect.{check-passed, scan-passed}
 use Rattle.netlist.specs.Kinds.{width, sourceLimit, mappedLimit, isGate}
 use Rattle.netlist.specs.Records.{Netlist, netlist, recordCount, depth}
 use Rattle.netlist.specs.Checks.{inputChecks}
 use Rattle.netlist.specs.Counts.{gates}
+use Rattle.netlist.specs.Bytes.{bytesOf}
 use Rattle.fanout.specs.Nets.{fewestInAll}
 use Rattle.mapper.specs.declared.Mapping.{Mapping}
-use Rattle.mapper.specs.Bytes.{bytesOf, onto}
 use Rattle.mapper.specs.Mapped.{mappedSize, mapped}
 use Rattle.mapper.specs.PrivateWriting.{Ready, Counted, ParentsSet}
 use Rattle.mapper.specs.Answer.{gatePrice, bufferPrice, share, junctions, figures, answerOf, areaOf, refusal, tooLarge, tooShort, sourceMaps, mapChecks, mapAnswer, mapArea}

@@ -1,7 +1,5 @@
 pub mod Answering
-pub mod Area
 pub mod Blocks
-pub mod Bytes
 pub mod ChainParents
 pub mod ClearedRow
 pub mod Feeds

@@ -7,16 +7,18 @@ use native.Mathlib.Decide.{decLt}
 use lib.Dec.{ltb}
 use borrow.Author.Tests.{lt-ltb, le-ltb}
 use Rattle.facts.specs.Sums.{bit, sum}
+use Rattle.facts.specs.Areas.{put}
 use Rattle.facts.proofs.Sums.{sum-first}
 use Rattle.netlist.specs.Kinds.{width, topLevel}
 use Rattle.netlist.specs.Records.{Netlist}
+use Rattle.netlist.specs.Bytes.{encoded}
+use Rattle.netlist.specs.PrivateBytes.{withRecords}
+use Rattle.netlist.proofs.Bytes.{encoded-cong}
 use Rattle.fanout.specs.Nets.{treeSize}
-use Rattle.mapper.specs.Bytes.{encoded, put, withRecords}
 use Rattle.mapper.specs.Mapped.{buffersOf, blockStart, place, parent, bufferOf, bufferRecord, mappedAt, mapped}
 use Rattle.mapper.specs.PrivateWriting.{Ready, lineParent, lineRecord, ParentsWritten, onParent, onLine}
 use Rattle.nets.proofs.Lines.{line-at, line-below, line-size}
 use Rattle.nets.specs.PrivateChains.{slotDistance, ShortChain}
-use Rattle.mapper.proofs.Area.{encoded-cong}
 use Rattle.mapper.proofs.Mapped.{at-place}
 use Rattle.mapper.proofs.Nodes.{pos, IsNode, hangs, buffer-node}
 use Rattle.mapper.proofs.SinkParents.{sink-node, sink-parent, flatNumbered}

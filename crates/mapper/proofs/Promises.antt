@@ -16,6 +16,7 @@ use Rattle.facts.specs.Checks.{check, _andThen_}
 use Rattle.facts.specs.Sums.{sum}
 use Rattle.facts.proofs.Sums.{sum-more}
 use Rattle.facts.specs.Refusals.{rowOf, Fails, _or_, Each, First}
+use Rattle.facts.specs.Areas.{onto}
 use Rattle.facts.proofs.Bools.{true-false}
 use Rattle.facts.proofs.Reflect.{less, check-passed, then-passed, less-none}
 use Rattle.facts.proofs.Refusals.{exact, rows-before, one-row, within-one, first-check, first-after, first-then, first-scan, scan-rows}
@@ -24,8 +25,10 @@ use Rattle.netlist.specs.Records.{Netlist, netlist, recordCount, recordAt}
 use Rattle.netlist.specs.Source.{IsSource}
 use Rattle.netlist.specs.Checks.{inputChecks}
 use Rattle.netlist.specs.Balance.{driverCapacity}
+use Rattle.netlist.specs.Bytes.{recs, bytesOf}
 use Rattle.netlist.proofs.Source.{driver-inside}
 use Rattle.netlist.proofs.Refusals.{input-rows, input-first}
+use Rattle.netlist.proofs.Bytes.{length-recs, recs-append}
 use Rattle.fanout.specs.Nets.{row, nodesAt, hasTree, treeSize, fewestInAll}
 use Rattle.fanout.specs.Trees.{netOf, RowOf}
 use Rattle.fanout.specs.Promises.{LeastTree, Attained}
@@ -35,11 +38,9 @@ use Rattle.mapper.specs.declared.Mapping.{Mapping}
 use Rattle.mapper.specs.Mapped.{blockStart, mappedSize, mapped}
 use Rattle.mapper.specs.PrivateWriting.{Ready}
 use Rattle.mapper.specs.View.{noEnds, ownEnds, blockEnds, between, blockView}
-use Rattle.mapper.specs.Bytes.{recs, bytesOf, onto}
 use Rattle.mapper.specs.Answer.{figures, tooLarge, tooShort, sourceMaps, mapChecks, answerOf, areaOf, mapAnswer, mapArea}
 use Rattle.mapper.specs.Promises.{Treeless, TooLarge, TooShort, SourceMapFails, MapFails, MapExact, RefusedLeaves, Accepts, AcceptedMaps, BlockWritten, BlockNone}
 use Rattle.mapper.proofs.Answering.{passed-ready}
-use Rattle.mapper.proofs.Area.{length-recs, recs-append}
 use Rattle.nets.specs.Checks.{noTree, treeCheck, treeChecks}
 use Rattle.nets.proofs.TreeCounts.{input-source, input-capacity, measured-none}
 use Rattle.mapper.proofs.Written.{mapped-read}

@@ -9,14 +9,16 @@ use borrow.Author.Tests.{ltb-true}
 use Rattle.netlist.specs.declared.Record.{Record}
 use Rattle.netlist.specs.Kinds.{width, slots}
 use Rattle.facts.specs.Lists.{tabulate}
+use Rattle.facts.specs.Areas.{put, onto}
 use Rattle.netlist.specs.Records.{netlist, used, fanin}
+use Rattle.netlist.specs.Bytes.{encoded, bytesOf}
+use Rattle.netlist.specs.PrivateBytes.{withRecords}
+use Rattle.netlist.proofs.Bytes.{records-all, encoded-cong}
 use Rattle.fanout.specs.Nets.{fewestInAll}
-use Rattle.mapper.specs.Bytes.{encoded, bytesOf, put, withRecords, onto}
 use Rattle.mapper.specs.Mapped.{mappedSize, sinkParent, rewired, mappedAt, mapped}
 use Rattle.mapper.specs.PrivateWriting.{Ready, ParentsSet, relinkedAt}
 use Rattle.mapper.proofs.Mapped.{at-source}
 use Rattle.mapper.proofs.Nodes.{pos}
-use Rattle.mapper.proofs.Area.{records-all, encoded-cong}
 
 tabulate-cong : (f g : ℕ → ℕ) (n : ℕ) → ((i : ℕ) → i < n → f i ≡ g i) → tabulate f n ≡ tabulate g n
 tabulate-cong f g zero h = refl

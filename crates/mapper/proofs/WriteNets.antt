@@ -10,18 +10,20 @@ use mir.Syntax.{w64}
 use lib.ListN.{length, getD, drop, replicate, List·getD-eq-default}
 use lib.Seq.{getD-drop}
 use Rattle.facts.specs.Sums.{sum}
+use Rattle.facts.specs.Areas.{put}
 use Rattle.facts.proofs.Sums.{sum-last}
 use Rattle.netlist.specs.Kinds.{width, topLevel, mappedLimit}
 use Rattle.netlist.specs.Records.{Netlist}
+use Rattle.netlist.specs.Bytes.{encoded}
+use Rattle.netlist.specs.PrivateBytes.{withRecords}
+use Rattle.netlist.proofs.Bytes.{records-none, records-more, records-length}
 use Rattle.fanout.specs.Nets.{row, sinks, buffersAt, treeSize}
 use Rattle.fanout.specs.declared.TreeTotals.{TreeTotals}
-use Rattle.mapper.specs.Bytes.{encoded, put, withRecords}
 use Rattle.mapper.specs.Mapped.{buffersOf, blockStart, mappedSize, mapped}
 use Rattle.mapper.specs.PrivateWriting.{Ready, Stale, CountedNet, ParentsSet, ParentsWritten, onParent, onLine, lineRecord, NodeCounts, Writable, Wrote}
 use Rattle.nets.specs.PrivateChains.{slotEnd, namesSlot, slotDistance, ShortChain}
 use Rattle.nets.proofs.Lines.{line-size}
 use Rattle.nets.proofs.TreeCounts.{measured-none}
-use Rattle.mapper.proofs.Area.{records-none, records-more, records-length}
 use Rattle.facts.proofs.Blocks.{block-before}
 use Rattle.fanout.specs.PrivateWalk.{Filled, Walked}
 use Rattle.fanout.proofs.Nets.{nodes-none}

@@ -8,15 +8,19 @@ use native.Mathlib.Numerals.{add-one}
 use mir.Val.{Fits}
 use mir.Syntax.{w16}
 use lib.ListN.{length, take, drop, getD, take-append-drop}
+use Rattle.facts.specs.Bytes.{twoBytes}
+use Rattle.facts.specs.Lists.{joined}
+use Rattle.facts.specs.Areas.{put}
+use Rattle.facts.proofs.Lists.{length-joined}
+use Rattle.facts.proofs.Areas.{length-put, put-behind, put-within}
 use Rattle.netlist.specs.declared.Record.{Record}
 use Rattle.netlist.specs.Kinds.{width, slots, arity}
 use Rattle.netlist.specs.Records.{recordAt}
+use Rattle.netlist.specs.Bytes.{encode, encoded}
 use Rattle.netlist.proofs.Checks.{arity-slots}
-use Rattle.mapper.specs.Bytes.{twoBytes, joined, encode, encoded, put}
+use Rattle.netlist.proofs.Bytes.{length-encode}
 use Rattle.mapper.specs.Mapped.{bufferOf}
 use Rattle.mapper.specs.PrivateWriting.{behind, levelRecord, lineParent, lineRecord, relinked, relinkedAt}
-use Rattle.mapper.proofs.Bytes.{length-joined, length-encode}
-use Rattle.mapper.proofs.Area.{length-put, put-behind, put-within}
 
 -- records f 0 to f (j - 1) are written from record at on
 pub record RecordsSoFar (area₀ : List ℕ) (at : ℕ) (f : ℕ → Record) (n : ℕ) (area : List ℕ) (j : ℕ) : Type 0 where

@@ -11,18 +11,20 @@ use mir.Syntax.{w16, w64}
 use lib.ListN.{length, getD, set, length-set}
 use lib.Seq.{getD-set-same, getD-set-other}
 use Rattle.facts.specs.Sums.{sum}
+use Rattle.facts.specs.Areas.{put}
 use Rattle.facts.proofs.Sums.{sum-last, sum-none, sum-append, sum-more}
 use Rattle.netlist.specs.Kinds.{width, topLevel}
 use Rattle.netlist.specs.Records.{Netlist}
+use Rattle.netlist.specs.Bytes.{encoded, recs}
+use Rattle.netlist.specs.PrivateBytes.{withRecords}
+use Rattle.netlist.proofs.Bytes.{encoded-cong, records-none, records-more, records-length}
 use Rattle.fanout.specs.Nets.{up, treeSize}
 use Rattle.fanout.proofs.Nets.{up-zero}
-use Rattle.mapper.specs.Bytes.{encoded, recs, put, withRecords}
 use Rattle.mapper.specs.Mapped.{buffersOf, blockStart, mappedSize, place, parent, bufferOf, bufferRecord, mappedAt, mapped}
 use Rattle.mapper.specs.PrivateWriting.{Ready, behind, levelRecord, CountedNet, FirstParents}
 use Rattle.facts.proofs.Blocks.{block-before}
 use Rattle.mapper.proofs.Mapped.{tree-sum, at-place}
 use Rattle.mapper.proofs.Nodes.{pos}
-use Rattle.mapper.proofs.Area.{encoded-cong, records-none, records-more, records-length}
 
 -- what node q hangs on, from what the first node of its distance hangs on
 pub parent-from : (n : Netlist) (s d k q : ℕ) → parent n s d k q ≡ parent n s d k 0 + behind s k q

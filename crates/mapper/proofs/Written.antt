@@ -8,12 +8,13 @@ use native.Mathlib.Nat.{pow-le-pow-right}
 use lib.ListN.{length, List·getD-eq-default}
 use Rattle.netlist.specs.Kinds.{slots, unused, isGate, arity, invertible}
 use Rattle.netlist.specs.Records.{Netlist, netlist, slot}
+use Rattle.netlist.specs.Bytes.{bytesOf}
+use Rattle.netlist.specs.PrivateBytes.{Fits}
 use Rattle.netlist.proofs.Checks.{arity-slots}
 use Rattle.netlist.proofs.Source.{kind-byte}
-use Rattle.mapper.specs.Bytes.{bytesOf, Fits}
+use Rattle.netlist.proofs.Bytes.{netlist-bytes}
 use Rattle.mapper.specs.Mapped.{mappedSize, bufferRecord, rewired, mappedAt, mapped}
 use Rattle.mapper.specs.PrivateWriting.{Ready}
-use Rattle.mapper.proofs.Bytes.{netlist-bytes}
 use Rattle.mapper.proofs.Mapped.{at-source, at-end, placed}
 use Rattle.mapper.proofs.Nodes.{pos, kind-kept, inversion-kept, level-kept, slot-kept, named, at-placed, buffer-kind, buffer-inversion, buffer-low, buffer-empty}
 

@@ -6,14 +6,15 @@ use lib.ListN.{length}
 use lib.Dec.{ltb, eqb}
 use Rattle.facts.specs.declared.Checked.{Checked}
 use Rattle.facts.specs.Checks.{check, _andThen_, outcome, unlessRefused}
+use Rattle.facts.specs.Areas.{onto}
 use Rattle.netlist.specs.Kinds.{width, mappedLimit}
 use Rattle.netlist.specs.Records.{Netlist, netlist, depth}
 use Rattle.netlist.specs.Counts.{gates}
 use Rattle.netlist.specs.Checks.{inputChecks}
+use Rattle.netlist.specs.Bytes.{bytesOf}
 use Rattle.fanout.specs.Nets.{fewestInAll}
 use Rattle.nets.specs.Checks.{treeChecks}
 use Rattle.mapper.specs.declared.Mapping.{Mapping}
-use Rattle.mapper.specs.Bytes.{bytesOf, onto}
 use Rattle.mapper.specs.Mapped.{mappedSize, mapped}
 
 -- 9: too many records

@@ -1,4 +1,3 @@
-pub mod Bytes
 pub mod Mapped
 pub mod Answer
 pub mod PrivateWriting

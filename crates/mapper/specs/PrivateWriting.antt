@@ -15,8 +15,8 @@ use Rattle.netlist.specs.Balance.{driverCapacity}
 use Rattle.nets.specs.Checks.{treeChecks}
 use Rattle.nets.specs.PrivateChains.{slotEnd, usedSlot, faninSlot, namesSlot, slotDistance, Chained}
 use Rattle.netlist.specs.Checks.{inputChecks}
+use Rattle.netlist.specs.PrivateBytes.{withRecords}
 use Rattle.fanout.specs.Nets.{row, nodesAt, hasTree, treeSize, fewestInAll}
-use Rattle.mapper.specs.Bytes.{withRecords}
 use Rattle.mapper.specs.Answer.{sourceMaps}
 use Rattle.mapper.specs.Mapped.{buffersOf, blockStart, mappedSize, parent, bufferOf, sinkParent, mapped}
 

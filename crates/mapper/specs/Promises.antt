@@ -12,10 +12,10 @@ use Rattle.netlist.specs.Kinds.{width, mappedLimit, buffer, isDriver}
 use Rattle.netlist.specs.Records.{Netlist, netlist, recordCount, recordAt}
 use Rattle.netlist.specs.Refusals.{InputFails}
 use Rattle.netlist.specs.Balance.{driverCapacity}
+use Rattle.netlist.specs.Bytes.{recs}
 use Rattle.fanout.specs.Trees.{netOf}
 use Rattle.fanout.specs.Promises.{NoLegalTree, LeastTree}
 use Rattle.fanout.specs.Nets.{treeSize, fewestInAll}
-use Rattle.mapper.specs.Bytes.{recs}
 use Rattle.mapper.specs.Mapped.{blockStart, mappedSize, mapped}
 use Rattle.mapper.specs.Answer.{refusal, sourceMaps, mapChecks, mapAnswer, mapArea}
 use Rattle.mapper.specs.View.{blockView}

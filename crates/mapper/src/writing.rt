@@ -3,15 +3,18 @@ ghost use mathlib.Core.Path.{_≡_};
 ghost use Prim.Native.Nat.{suc, _+_, _*_, _<_, _≤_};
 ghost use lib.ListN.{length, replicate};
 ghost use Rattle.facts.specs.Sums.{sum};
+ghost use Rattle.facts.specs.Areas.{put, onto};
 ghost use Rattle.netlist.specs.Kinds.{width, topLevel, mappedLimit};
 ghost use Rattle.netlist.specs.Records.{netlist, recordCount};
+ghost use Rattle.netlist.specs.Bytes.{encoded, bytesOf};
+ghost use Rattle.netlist.specs.PrivateBytes.{withRecords};
 ghost use Rattle.fanout.specs.Nets.{treeSize};
-ghost use Rattle.mapper.specs.Bytes.{encoded, put, withRecords, bytesOf, onto};
 ghost use Rattle.mapper.specs.Mapped.{blockStart, mappedSize, mapped};
 ghost use Rattle.mapper.specs.PrivateWriting.{Ready, Stale, behind, levelRecord, lineParent, lineRecord, CountedNet, FirstParents, ParentsSet, ParentsWritten, onParent, onLine, ParentsDue, NodeCounts, Writable, Wrote};
 ghost use Rattle.nets.specs.PrivateChains.{Chained};
 use crate::records;
 use fanout::DISTANCES;
+use netlist::record_writer;
 use nets::numbers;
 use nets::sinks;
 use nets::sinks::Chain;
@@ -47,7 +50,7 @@ fn write_level(area: &mut [u8], s: u32, k: usize, at: usize, level: u16, base: u
 {
     let mut j: u32 = 0;
     while j < n {
-        records::write_record(
+        record_writer::write_record(
             area,
             at + j as usize,
             records::buffer_of(level, parent_of(base, s, k, j)),
@@ -181,7 +184,7 @@ fn write_line(area: &mut [u8], d: usize, start: usize, low: u16, n: usize)
     let mut j: usize = 0;
     while j < n {
         let k = j + 1;
-        records::write_record(
+        record_writer::write_record(
             area,
             start + j,
             records::buffer_of(low + k as u16, line_parent(d, start, k)),

@@ -1,4 +1,5 @@
 pub mod Balance
+pub mod Bytes
 pub mod Checks
 pub mod Counts
 pub mod Records

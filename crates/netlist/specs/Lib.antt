@@ -1,5 +1,7 @@
 pub mod Kinds
 pub mod Records
+pub mod Bytes
+pub mod PrivateBytes
 pub mod Counts
 pub mod Checks
 pub mod Refusals

@@ -10,6 +10,7 @@ ghost use Rattle.netlist.specs.View.{viewOf};
 use facts::Checked;
 
 mod record_reader;
+pub mod record_writer;
 mod source_reader;
 
 pub const WIDTH: usize = 10;

@@ -13,6 +13,7 @@ use Rattle.facts.proofs.Blocks.{block-at}
 use Rattle.netlist.specs.Kinds.{buffer}
 use Rattle.netlist.specs.Records.{Netlist, netlist, recordCount, fanin}
 use Rattle.netlist.specs.Counts.{isBuffer}
+use Rattle.netlist.specs.Bytes.{recs}
 use Rattle.netlist.proofs.Source.{no-buffer, driver-inside}
 use Rattle.netlist.proofs.Balance.{buffer-named}
 use Rattle.verifier.specs.Legal.{Traces}
@@ -20,7 +21,6 @@ use Rattle.verifier.specs.Trace.{driver}
 use Rattle.verifier.specs.Fewest.{onNet}
 use Rattle.verifier.proofs.Trace.{traces-driver}
 use Rattle.fanout.specs.Nets.{treeSize}
-use Rattle.mapper.specs.Bytes.{recs}
 use Rattle.mapper.specs.Mapped.{blockStart, mappedSize, bufferRecord, mapped}
 use Rattle.mapper.specs.PrivateWriting.{Ready}
 use Rattle.mapper.proofs.Mapped.{within-tree, placed}

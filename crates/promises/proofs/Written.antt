@@ -19,15 +19,15 @@ use Rattle.netlist.specs.Records.{Netlist, netlist, recordCount}
 use Rattle.netlist.specs.Source.{Source}
 use Rattle.netlist.specs.Checks.{inputChecks}
 use Rattle.netlist.specs.Counts.{bufferCount}
+use Rattle.netlist.specs.Bytes.{bytesOf}
 use Rattle.netlist.proofs.Refusals.{input-numbered}
 use Rattle.netlist.proofs.Source.{input-passed}
+use Rattle.netlist.proofs.Bytes.{length-recs}
 use Rattle.mapper.specs.Mapped.{mappedSize, mapped}
 use Rattle.mapper.specs.PrivateWriting.{Ready}
-use Rattle.mapper.specs.Bytes.{bytesOf}
 use Rattle.mapper.specs.Answer.{tooLarge, sourceMaps, mapChecks, answerOf, mapAnswer, mapArea}
 use Rattle.mapper.specs.Promises.{MapFails}
 use Rattle.mapper.proofs.Promises.{maps-ready, map-exact}
-use Rattle.mapper.proofs.Area.{length-recs}
 use Rattle.mapper.proofs.Written.{mapped-read}
 use Rattle.verifier.specs.Checks.{verifyChecks}
 use Rattle.verifier.proofs.Accepted.{checks-passed, accepted-exactly, buffers-all}

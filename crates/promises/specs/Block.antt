@@ -6,9 +6,9 @@ use mathlib.Core.Bool.{true}
 use mathlib.Core.List.{List, []}
 use Rattle.netlist.specs.Kinds.{isDriver}
 use Rattle.netlist.specs.Records.{netlist, recordCount, recordAt}
+use Rattle.netlist.specs.Bytes.{recs}
 use Rattle.verifier.specs.Fewest.{onNet}
 use Rattle.fanout.specs.Nets.{treeSize}
-use Rattle.mapper.specs.Bytes.{recs}
 use Rattle.mapper.specs.Mapped.{blockStart}
 use Rattle.mapper.specs.Answer.{mapArea}
 use Rattle.mapper.specs.View.{blockEnds, blockView}

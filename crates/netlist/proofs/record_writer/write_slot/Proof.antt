@@ -2,11 +2,11 @@
 use native.Mathlib.Omega.{arith}
 use lib.ListN.{length-set}
 use Prim.Native.Nat.{_+_, _*_}
 use Rattle.netlist.specs.Kinds.{width}
-use Rattle.mapper.proofs.Area.{slot-stored}
+use Rattle.facts.proofs.Areas.{slot-stored}
 use borrow.Author.Needs.{needs}
-use Rattle.mapper.proofs.records.write_slot.Statement.{statement}
-use Rattle.mapper.proofs.records.write_slot.Tie as tie
+use Rattle.netlist.proofs.record_writer.write_slot.Statement.{statement}
+use Rattle.netlist.proofs.record_writer.write_slot.Tie as tie
 
 mul-at : tie.Need-mul-at
 mul-at c = search needs

@@ -1,9 +1,9 @@
 -- `write_record` meets its contract: the part that was stored comes back into the area.
-use Rattle.mapper.proofs.Bytes.{length-encode}
-use Rattle.mapper.proofs.Area.{part-back}
+use Rattle.netlist.proofs.Bytes.{length-encode}
+use Rattle.facts.proofs.Areas.{part-back}
 use borrow.Author.Needs.{needs}
-use Rattle.mapper.proofs.records.write_record.Statement.{statement}
-use Rattle.mapper.proofs.records.write_record.Tie as tie
+use Rattle.netlist.proofs.record_writer.write_record.Statement.{statement}
+use Rattle.netlist.proofs.record_writer.write_record.Tie as tie
 
 mul-at : tie.Need-mul-at
 mul-at c = search needs

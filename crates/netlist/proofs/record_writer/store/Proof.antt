@@ -1,10 +1,10 @@
 -- `store` meets its contract: ten stores write a part of ten bytes whole.
 use native.Mathlib.Omega.{arith}
 use lib.ListN.{length-set}
-use Rattle.mapper.proofs.Area.{stored}
+use Rattle.netlist.proofs.Bytes.{stored}
 use borrow.Author.Needs.{needs}
-use Rattle.mapper.proofs.records.store.Statement.{statement}
-use Rattle.mapper.proofs.records.store.Tie as tie
+use Rattle.netlist.proofs.record_writer.store.Statement.{statement}
+use Rattle.netlist.proofs.record_writer.store.Tie as tie
 
 slot-requires : tie.Need-slot-requires
 slot-requires c κs = search needs
