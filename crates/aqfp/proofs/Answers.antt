@@ -1,16 +1,16 @@
--- Laws of stored answers: four stores at a number's place store it, and numbers stored one after another from 0 on are the whole area.
-use Prim.Native.Nat.{ℕ, _+_, _*_, _/_, _%_, _<_, _≤_}
+-- Laws of stored answers: numbers stored one after another from 0 on are the whole area.
+use Prim.Native.Nat.{ℕ, _+_, _*_, _<_, _≤_}
 use native.Mathlib.Numerals.{add-one}
 use native.Mathlib.Omega.{arith}
 use mathlib.Core.Path.{_≡_, refl, sym, ap, ap₂, _∙_}
 use mathlib.Core.List.{List, [], _∷_, _++_, append-assoc, append-nil}
-use lib.ListN.{length, getD, take, drop, set, length-append, length-take}
+use lib.ListN.{length, getD, take, drop, length-append, length-take}
 use lib.Seq.{take-all, take-suc}
 use Rattle.facts.specs.declared.Checked.{Checked}
 use Rattle.facts.specs.declared.Checked.the-variants.{Passed, Refused}
 use Rattle.facts.specs.Checks.{checkedNumbers}
 use Rattle.facts.specs.Bytes.{four}
-use Rattle.facts.proofs.Bytes.{length-four, stores-four}
+use Rattle.facts.specs.Areas.{put}
 use Rattle.facts.proofs.Areas.{Written, length-written, take-written, drop-written, written-none, written-all}
 use Rattle.fanout.specs.declared.Count.{Count}
 use Rattle.fanout.specs.declared.Count.the-variants as count
@@ -20,19 +20,12 @@ use Rattle.mapper.specs.Answer.{mappingNumbers}
 use Rattle.verifier.specs.declared.Verified.{Verified}
 use Rattle.verifier.specs.declared.Verified.the-variants as verified
 use Rattle.verifier.specs.Checks.{verifiedNumbers}
-use Rattle.aqfp.specs.Answers.{numbers, first, stored, Answered}
-
--- the four stores of a number
-pub stores : (l : List ℕ) (k n : ℕ) → 4 * k + 4 ≤ length l →
-    set (set (set (set l (4 * k) (n % 256)) (4 * k + 1) (n / 256 % 256)) (4 * k + 2) (n / 65536 % 256)) (4 * k + 3) (n / 16777216 % 256)
-    ≡ stored l k n
-unfolding stored
-stores l k n h = stores-four l (4 * k) n h
+use Rattle.aqfp.specs.Answers.{numbers, first, Answered}
 
 length-numbers : (ns : List ℕ) → length (numbers ns) ≡ 4 * length ns
 unfolding numbers
 length-numbers [] = refl
-length-numbers (n ∷ ns) = omega (arith, length-append (four n) (numbers ns), length-four n, length-numbers ns)
+length-numbers (n ∷ ns) = omega (arith, length-append (four n) (numbers ns), length-numbers ns)
 
 -- one number more
 numbers-more : (ns : List ℕ) (n : ℕ) → numbers (ns ++ (n ∷ [])) ≡ numbers ns ++ four n
@@ -56,8 +49,7 @@ module _ (ns old : List ℕ) where
   pub storing-room : (k : ℕ) (area : List ℕ) → Storing ns k area old → k < length ns → 4 * k + 4 ≤ length area
   storing-room k area s h = omega (arith, s .long)
 
-  pub storing-more : (k : ℕ) (area new : List ℕ) → Storing ns k area old → k < length ns → new ≡ stored area k (getD ns k 0) → Storing ns (k + 1) new old
-  unfolding stored
+  pub storing-more : (k : ℕ) (area new : List ℕ) → Storing ns k area old → k < length ns → new ≡ put area (4 * k) (four (getD ns k 0)) → Storing ns (k + 1) new old
   storing-more k area new s h e =
       record {
         within = omega arith;

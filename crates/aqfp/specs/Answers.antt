@@ -1,8 +1,7 @@
 -- Specification 3.2: an answer's numbers in an area of their own, four bytes each, low byte first, in the order given.
-use Prim.Native.Nat.{ℕ, _+_, _*_}
+use Prim.Native.Nat.{ℕ}
 use mathlib.Core.Path.{_≡_}
 use mathlib.Core.List.{List, [], _∷_, _++_}
-use lib.ListN.{take, drop}
 use Rattle.facts.specs.Bytes.{four}
 
 -- the bytes of an answer's numbers
@@ -19,7 +18,3 @@ first (n ∷ ns) = n
 pub record Answered (returned : ℕ) (area : List ℕ) (answer : List ℕ) : Type 0 where
   pub number : returned ≡ first answer
   pub written : area ≡ numbers answer
-
--- an area once number k of an answer is stored in it
-unfoldable pub stored : List ℕ → ℕ → ℕ → List ℕ
-stored area k n = take (4 * k) area ++ (four n ++ drop (4 * k + 4) area)

@@ -3,13 +3,15 @@ ghost use mathlib.Core.Path.{_≡_};
 ghost use Prim.Native.Nat.{_+_, _*_, _≤_, _<_};
 ghost use lib.ListN.{length};
 ghost use Rattle.facts.specs.Checks.{checkedNumbers};
+ghost use Rattle.facts.specs.Bytes.{four};
+ghost use Rattle.facts.specs.Areas.{put};
 ghost use Rattle.fanout.specs.Answer.{countAnswer, countNumbers};
 ghost use Rattle.mapper.specs.Answer.{mapAnswer, mapArea, mappingNumbers};
 ghost use Rattle.verifier.specs.Checks.{verifyAnswer, verifiedNumbers};
 ghost use Rattle.simulator.specs.Evaluate.{evaluateAnswer, evaluateArea};
 ghost use Rattle.simulator.specs.Step.{stepAnswer, stepArea};
 ghost use Rattle.simulator.specs.Run.{runAnswer, runArea, runOutputs};
-ghost use Rattle.aqfp.specs.Answers.{stored, Answered};
+ghost use Rattle.aqfp.specs.Answers.{Answered};
 use facts::Checked;
 use fanout::Count;
 use verifier::Verified;
@@ -20,7 +22,7 @@ const NO_TREE: u32 = 4294967295;
 // Stores number k of an answer.
 fn store(answer: &mut [u8], k: usize, n: u32)
     requires { ⌜ 4 * k + 4 ≤ length (now answer) ⌝ }
-    ensures { λ _. ⌜ now (answer .exit) ≡ stored (now (answer .entry)) k n ⌝ }
+    ensures { λ _. ⌜ now (answer .exit) ≡ put (now (answer .entry)) (4 * k) (four n) ⌝ }
 {
     let at = 4 * k;
     answer[at] = (n % 256) as u8;

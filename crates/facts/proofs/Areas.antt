@@ -1,15 +1,16 @@
 -- Laws of an area: bytes put into it, side by side and one within another, and loops that write it from the front on.
-use Prim.Native.Nat.{ℕ, suc, _+_, _-_, _<_, _≤_, _/_, _%_}
+use Prim.Native.Nat.{ℕ, suc, _+_, _-_, _<_, _≤_}
 use mathlib.Core.Path.{_≡_, refl, sym, _∙_, ap, ap₂}
 use mathlib.Core.List.{List, [], _∷_, _++_, append-assoc, append-nil}
 use native.Mathlib.Omega.{arith}
-use native.Mathlib.Nat.{add-sub-of-le, add-zero}
-use native.Mathlib.Numerals.{add-one}
+use native.Mathlib.Nat.{add-sub-of-le, add-sub-cancel-left, add-zero}
 use lib.ListN.{length, getD, take, drop, set, replicate, length-append, length-set, length-drop, take-append-drop, drop-of-length-le}
 use lib.Seq.{sets, sets-eq, drop-cons, set-at, append-snoc, take-at, drop-at, drop-drop, drop-append-add, length-take-le, take-append-le, take-append-add, drop-append-le, take-take}
 use borrow.Author.Fill.{fill-more}
-use Rattle.facts.specs.Bytes.{twoBytes}
 use Rattle.facts.specs.Areas.{put}
+
+pub put-none : (xs : List ℕ) (a : ℕ) → put xs a [] ≡ xs
+put-none xs a = ap (λ (k : ℕ). take a xs ++ drop k xs) (add-zero a) ∙ take-append-drop a xs
 
 module _ (xs : List ℕ) (a : ℕ) (bs : List ℕ) where
   pub length-put : a + length bs ≤ length xs → length (put xs a bs) ≡ length xs
@@ -87,6 +88,10 @@ put-within xs a bs k cs l h =
     far : a + k + length cs ≡ length P + (k + length cs)
     far = omega (arith, long)
 
+-- bytes that were stored one by one
+pub sets-put : (bs xs : List ℕ) (at : ℕ) → at + length bs ≤ length xs → sets xs at bs ≡ put xs at bs
+sets-put bs xs at l = sets-eq bs xs at l ∙ append-assoc (take at xs) bs (drop (at + length bs) xs)
+
 -- a part that was stored whole comes back into the area
 pub stored-whole : (part bytes : List ℕ) (w : ℕ) → length part ≡ w → length bytes ≡ w → sets part 0 bytes ≡ bytes
 stored-whole part bytes w p b =
@@ -94,22 +99,16 @@ stored-whole part bytes w p b =
     ∙ ap (λ (l : List ℕ). bytes ++ l) (drop-of-length-le part {i = 0 + length bytes} (omega arith))
     ∙ append-nil bytes
 
-pub part-back : (area : List ℕ) (at w : ℕ) (bytes part : List ℕ) → part ≡ bytes → length bytes ≡ w →
-    take at area ++ (part ++ drop (at + w - at) (drop at area)) ≡ put area at bytes
-part-back area at w bytes part e b =
-    ap₂ (λ (p l : List ℕ). take at area ++ (p ++ l)) e
-    (drop-drop (at + w - at) at area ∙ ap (λ (k : ℕ). drop k area) far)
-  where
-    far : at + (at + w - at) ≡ at + length bytes
-    far = omega arith
+pub part-kept : (area part bytes : List ℕ) (at w : ℕ) → part ≡ bytes →
+    take at area ++ (part ++ drop (at + w - at) (drop at area)) ≡ take at area ++ (bytes ++ drop (at + w) area)
+part-kept area part bytes at w e =
+    ap₂ (λ (p d : List ℕ). take at area ++ (p ++ d)) e
+    (ap (λ (n : ℕ). drop n (drop at area)) (add-sub-cancel-left at w) ∙ drop-drop w at area)
 
--- a number's two bytes, stored one by one
-pub slot-stored : (area : List ℕ) (at v x y : ℕ) → at + 1 < length area → x ≡ v % 256 → y ≡ v / 256 % 256 → set (set area at x) (at + 1) y ≡ put area at (twoBytes v)
-slot-stored area at v x y l e f =
-    ap (λ (k : ℕ). set (set area at x) k y) (add-one at)
-    ∙ sets-eq (x ∷ y ∷ []) area at (omega arith)
-    ∙ append-assoc (take at area) (x ∷ y ∷ []) (drop (at + 2) area)
-    ∙ ap₂ (λ (x y : ℕ). put area at (x ∷ y ∷ [])) e f
+pub part-back : (area part bytes : List ℕ) (at w : ℕ) → part ≡ bytes → length bytes ≡ w →
+    take at area ++ (part ++ drop (at + w - at) (drop at area)) ≡ put area at bytes
+part-back area part bytes at w e b =
+    part-kept area part bytes at w e ∙ ap (λ (k : ℕ). take at area ++ (bytes ++ drop (at + k) area)) (sym b)
 
 -- the first bytes are new, the rest is as it was
 pub record Written (new : List ℕ) (k : ℕ) (area old : List ℕ) : Type 0 where

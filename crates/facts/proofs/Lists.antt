@@ -5,8 +5,8 @@ use mathlib.Core.List.{List, [], _∷_, _++_, append-nil, append-assoc}
 use native.Mathlib.Omega.{arith}
 use native.Mathlib.Nat.{add-zero, add-suc, mul-zero, mul-suc, mul-le-mul-left}
 use native.Mathlib.Decide.{decLt}
-use lib.ListN.{length, getD, take, drop, replicate, length-append, length-drop, List·getD-append, List·getD-eq-default}
-use lib.Seq.{getD-at, take-append-le, drop-append-le, drop-at, take-all, getD-drop, getD-take}
+use lib.ListN.{length, getD, take, drop, replicate, length-append, length-drop, length-replicate, List·getD-append, List·getD-eq-default}
+use lib.Seq.{getD-at, take-append-le, drop-append-le, drop-at, take-all, getD-drop, getD-take, ext-getD}
 use Rattle.facts.specs.Lists.{tabulate, joined}
 
 -- an entry below the length does not depend on the default
@@ -24,6 +24,14 @@ pub getD-replicated : (n i v : ℕ) → getD (replicate n v) i v ≡ v
 getD-replicated zero i v = sym (getD-past [] 0 i v refl (omega arith))
 getD-replicated (suc n) zero v = refl
 getD-replicated (suc n) (suc i) v = getD-replicated n i v
+
+-- a list of zeros, by its entries
+pub zeros : (n : ℕ) (l : List ℕ) → length l ≡ n → ((x : ℕ) → getD l x 0 ≡ 0) → l ≡ replicate n 0
+zeros n l e h =
+    ext-getD 0 l (replicate n 0) (e ∙ sym (length-replicate {A = ℕ} n 0)) (λ x m. h x ∙ sym (getD-replicated n x 0))
+
+pub zeros-at : (n : ℕ) (l : List ℕ) → l ≡ replicate n 0 → (x : ℕ) → getD l x 0 ≡ 0
+zeros-at n l e x = ap (λ (l : List ℕ). getD l x 0) e ∙ getD-replicated n x 0
 
 pub length-tabulate : (f : ℕ → ℕ) (n : ℕ) → length (tabulate f n) ≡ n
 length-tabulate f zero = refl

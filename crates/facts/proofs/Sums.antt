@@ -136,11 +136,6 @@ bit-mono : (a b : Bool) → (a ≡ true → b ≡ true) → bit a ≤ bit b
 bit-mono true b h = rw (h refl) (omega arith)
 bit-mono false b h = omega arith
 
-bit-or : (a b : Bool) → (a ≡ true → b ≡ true → ⊥) → bit (a || b) ≡ bit a + bit b
-bit-or true true h = absurd (h refl refl)
-bit-or true false h = refl
-bit-or false b h = omega arith
-
 -- what implies more is counted more often
 pub count-mono : (p q : ℕ → Bool) (n : ℕ) → ((i : ℕ) → i < n → p i ≡ true → q i ≡ true) → count p n ≤ count q n
 unfolding count
@@ -150,12 +145,6 @@ count-mono p q n h = sum-mono _ _ n (λ i l. bit-mono (p i) (q i) (h i l))
 pub count-le : (p : ℕ → Bool) (n : ℕ) → count p n ≤ n
 unfolding count
 count-le p n = omega (arith, sum-mono (λ i. bit (p i)) (λ i. 1) n (λ i l. bit-le (p i)), sum-const 1 n)
-
--- a disjoint union
-pub count-or : (p q : ℕ → Bool) (n : ℕ) →
-    ((i : ℕ) → i < n → p i ≡ true → q i ≡ true → ⊥) → count (λ i. p i || q i) n ≡ count p n + count q n
-unfolding count
-count-or p q n h = sum-cong _ _ n (λ i l. bit-or (p i) (q i) (h i l)) ∙ sum-add (λ i. bit (p i)) (λ i. bit (q i)) n
 
 -- one more index
 pub count-suc : (p : ℕ → Bool) (n : ℕ) → count p (suc n) ≡ count p n + bit (p n)
@@ -200,7 +189,7 @@ pub count-all : (p : ℕ → Bool) (n : ℕ) → ((i : ℕ) → i < n → p i �
 unfolding count
 count-all p n h = sum-cong _ (λ i. 1) n (λ i l. ap bit (h i l)) ∙ omega (arith, sum-const 1 n)
 
--- over pairs: tests that agree, that imply, that never hold, disjoint unions, and the range
+-- over pairs: tests that agree, that imply, that never hold, and the range
 pub count₂-cong : (p q : ℕ → ℕ → Bool) (w n : ℕ) →
     ((i j : ℕ) → i < n → j < w → p i j ≡ q i j) → count₂ p w n ≡ count₂ q w n
 unfolding count₂

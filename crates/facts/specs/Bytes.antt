@@ -7,5 +7,5 @@ abbrev pub twoBytes : ℕ → List ℕ
 twoBytes v = v % 256 ∷ v / 256 % 256 ∷ []
 
 -- a number's four bytes
-unfoldable pub four : ℕ → List ℕ
+abbrev pub four : ℕ → List ℕ
 four n = n % 256 ∷ n / 256 % 256 ∷ n / 65536 % 256 ∷ n / 16777216 % 256 ∷ []

@@ -10,12 +10,12 @@ use native.Mathlib.Numerals.{add-one}
 use lib.Dec.{ltb, eqb}
 use borrow.Author.Tests.{eq-eqb, ne-eqb, lt-ltb, le-ltb, ltb-true, ltb-false}
 use Rattle.facts.proofs.Bools.{and-i, and-l}
+use Rattle.facts.proofs.Lists.{zeros-at}
 use Rattle.facts.specs.Sums.{bit, sum, count, count₂}
 use Rattle.facts.proofs.Sums.{count-suc, count-false, count-le, count-stop, count₂-le}
 use Rattle.netlist.proofs.Checks.{arity-slots}
 use Rattle.fanout.specs.PrivateWalk.{Filled}
 use Rattle.fanout.proofs.Nets.{row-length, row-at}
-use Rattle.fanout.proofs.Lists.{getD-replicated}
 use Rattle.fanout.proofs.Rows.{added-at, level-test, sink-above}
 use Rattle.netlist.specs.declared.Record.{Record}
 use Rattle.netlist.specs.Kinds.{slots, topLevel, arity}
@@ -236,7 +236,7 @@ module _ (m : Netlist) (d below n : ℕ) where
       }
     where
       zero-at : (x : ℕ) → getD row x 0 ≡ 0
-      zero-at x = ap (λ (r : List ℕ). getD r x 0) (h .zeros) ∙ getD-replicated (suc topLevel) x 0
+      zero-at = zeros-at (suc topLevel) row (h .zeros)
 
   module _ (row : List ℕ) (far k : ℕ) (h : Records m d below n row far k) where
     pub records-room : k < n → RowAtRecord m d below k row far

@@ -1,4 +1,3 @@
-pub mod Lists
 pub mod Nets
 pub mod Rows
 pub mod Least

@@ -12,6 +12,7 @@ use lib.Dec.{eqb, ltb, leb}
 use borrow.Author.Tests.{eqb-true, eq-eqb, ne-eqb, ltb-true, leb-true}
 use Rattle.facts.specs.Sums.{bit, sum, count}
 use Rattle.facts.proofs.Bools.{and-l, and-r}
+use Rattle.facts.proofs.Lists.{getD-replicated}
 use Rattle.facts.proofs.Sums.{sum-first, count-cong, count-none, count₂-flat, count₂-le, count₂-none}
 use Rattle.netlist.specs.Kinds.{slots, topLevel, arity, isDriver}
 use Rattle.netlist.specs.Records.{Netlist, names, used, fanin}
@@ -20,7 +21,6 @@ use Rattle.netlist.proofs.Source.{is-output}
 use Rattle.fanout.specs.Nets.{sinkLimit, sinkAt, sinks, row, added}
 use Rattle.fanout.specs.Trees.{RowOf, netOf, netAt, sinksAt}
 use Rattle.fanout.specs.Worked.{addedAll, rowAt}
-use Rattle.fanout.proofs.Lists.{getD-replicated}
 use Rattle.fanout.proofs.Nets.{row-length, row-at}
 
 -- one more sink at x, and the others as they were

@@ -12,6 +12,7 @@ use mir.Syntax.{w32}
 use lib.ListN.{length, getD, drop, set, replicate, length-set, length-drop}
 use lib.Seq.{getD-set-same, getD-set-other, getD-drop}
 use borrow.Author.Tests.{le-leb, lt-leb}
+use Rattle.facts.proofs.Lists.{zeros}
 use Rattle.netlist.specs.Kinds.{topLevel}
 use Rattle.netlist.specs.Records.{Netlist, netlist}
 use Rattle.netlist.specs.Source.{IsSource}
@@ -24,7 +25,6 @@ use Rattle.fanout.specs.Answer.{treeCount}
 use Rattle.fanout.specs.declared.Reach.{Reach}
 use Rattle.fanout.specs.PrivateStretches.{InStretches, NextSinks, NextDistance}
 use Rattle.fanout.specs.PrivateWalk.{nodeLimit, Filled, Walkable, Walked}
-use Rattle.fanout.proofs.Lists.{zeros}
 use Rattle.fanout.proofs.Nets.{up-le, up-zero, up-one, nodes-at, nodes-none, buffers-from, buffers-none, row-length}
 use Rattle.fanout.proofs.EmptyStretches.{stretches-all}
 use Rattle.fanout.proofs.Rows.{row-small, row-apart}

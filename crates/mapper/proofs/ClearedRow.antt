@@ -6,8 +6,8 @@ use native.Mathlib.Omega.{arith}
 use native.Mathlib.Decide.{decLt, ℕ-discrete}
 use lib.ListN.{length, getD, set, replicate, length-set}
 use lib.Seq.{getD-set-same, getD-set-other}
+use Rattle.facts.proofs.Lists.{zeros}
 use Rattle.netlist.specs.Kinds.{topLevel}
-use Rattle.fanout.proofs.Lists.{zeros}
 use Rattle.mapper.specs.PrivateWriting.{Stale}
 
 -- entries below k are zero, and those beyond top

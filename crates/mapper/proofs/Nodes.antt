@@ -11,7 +11,7 @@ use lib.Seq.{getD-drop}
 use borrow.Author.Tests.{lt-ltb, le-ltb, ltb-true, eq-eqb, eqb-true}
 use Rattle.facts.proofs.Bools.{and-l, and-r, and-i}
 use Rattle.facts.proofs.Sums.{count₂-none}
-use Rattle.facts.proofs.Lists.{getD-tabulate}
+use Rattle.facts.proofs.Lists.{getD-replicated, getD-tabulate}
 use Rattle.netlist.specs.declared.Record.{Record}
 use Rattle.netlist.specs.Kinds.{slots, unused, topLevel, output, buffer, arity, isDriver}
 use Rattle.netlist.specs.Records.{Netlist, slot, used, fanin, names}
@@ -20,7 +20,6 @@ use Rattle.fanout.specs.Nets.{row, sinks, sinkAt, up, nodesAt}
 use Rattle.fanout.proofs.Nets.{div-up, up-zero, nodes-at, nodes-none, row-at}
 use Rattle.mapper.specs.Mapped.{buffersOf, mappedSize, place, parent, bufferRecord, rank, distance, sinkNumber, sinkParent, rewired, mappedAt}
 use Rattle.mapper.specs.PrivateWriting.{Ready}
-use Rattle.fanout.proofs.Lists.{getD-replicated}
 use Rattle.fanout.proofs.Rows.{row-none, no-sinks}
 use Rattle.mapper.proofs.Blocks.{rank-below}
 use Rattle.mapper.proofs.Mapped.{at-source, at-place, place-inside, Placed, placed}

@@ -1,15 +1,15 @@
 -- Laws of the whole area: the source's records as written are the mapped netlist's, and with the buffers behind them they are all of it.
-use Prim.Native.Nat.{ℕ, zero, suc, _+_, _*_, _≤_, _<_, _/_, _%_}
+use Prim.Native.Nat.{ℕ, _+_, _*_, _≤_, _<_, _/_, _%_}
 use mathlib.Core.Path.{_≡_, refl, sym, _∙_, ap, ap₂}
 use mathlib.Core.Bool.{Bool, true, false, cond}
-use mathlib.Core.List.{List, [], _∷_, _++_}
+use mathlib.Core.List.{List}
 use native.Mathlib.Omega.{arith}
 use lib.ListN.{length, getD}
 use borrow.Author.Tests.{ltb-true}
 use Rattle.netlist.specs.declared.Record.{Record}
 use Rattle.netlist.specs.Kinds.{width, slots}
-use Rattle.facts.specs.Lists.{tabulate}
 use Rattle.facts.specs.Areas.{put, onto}
+use Rattle.facts.proofs.Lists.{tabulate-cong}
 use Rattle.netlist.specs.Records.{netlist, used, fanin}
 use Rattle.netlist.specs.Bytes.{encoded, bytesOf}
 use Rattle.netlist.specs.PrivateBytes.{withRecords}
@@ -19,10 +19,6 @@ use Rattle.mapper.specs.Mapped.{mappedSize, sinkParent, rewired, mappedA
 use Rattle.mapper.specs.PrivateWriting.{Ready, ParentsSet, relinkedAt}
 use Rattle.mapper.proofs.Mapped.{at-source}
 use Rattle.mapper.proofs.Nodes.{pos}
-
-tabulate-cong : (f g : ℕ → ℕ) (n : ℕ) → ((i : ℕ) → i < n → f i ≡ g i) → tabulate f n ≡ tabulate g n
-tabulate-cong f g zero h = refl
-tabulate-cong f g (suc n) h = ap₂ (λ (l : List ℕ) (x : ℕ). l ++ (x ∷ [])) (tabulate-cong f g n (λ i l. h i (omega arith))) (h n (omega arith))
 
 -- a record with other slots
 abbrev withSlots : Record → List ℕ → Record

@@ -7,18 +7,17 @@ use native.Mathlib.Nat.{add-zero, zero-add, div-le-self}
 use native.Mathlib.Numerals.{add-one}
 use mir.Val.{Fits}
 use mir.Syntax.{w16}
-use lib.ListN.{length, take, drop, getD, take-append-drop}
+use lib.ListN.{length, getD}
 use Rattle.facts.specs.Bytes.{twoBytes}
 use Rattle.facts.specs.Lists.{joined}
 use Rattle.facts.specs.Areas.{put}
-use Rattle.facts.proofs.Lists.{length-joined}
-use Rattle.facts.proofs.Areas.{length-put, put-behind, put-within}
+use Rattle.facts.proofs.Areas.{put-none, length-put, put-behind, put-within}
 use Rattle.netlist.specs.declared.Record.{Record}
 use Rattle.netlist.specs.Kinds.{width, slots, arity}
 use Rattle.netlist.specs.Records.{recordAt}
 use Rattle.netlist.specs.Bytes.{encode, encoded}
 use Rattle.netlist.proofs.Checks.{arity-slots}
-use Rattle.netlist.proofs.Bytes.{length-encode}
+use Rattle.netlist.proofs.Bytes.{length-encode, length-encoded}
 use Rattle.mapper.specs.Mapped.{bufferOf}
 use Rattle.mapper.specs.PrivateWriting.{behind, levelRecord, lineParent, lineRecord, relinked, relinkedAt}
 
@@ -35,8 +34,7 @@ module _ (area₀ : List ℕ) (at : ℕ) (f : ℕ → Record) (n : ℕ) where
       record {
         within = omega arith;
         long = refl;
-        bytes =
-            sym (ap (λ (k : ℕ). take (width * at) area₀ ++ drop k area₀) (add-zero (width * at)) ∙ take-append-drop (width * at) area₀);
+        bytes = sym (put-none area₀ (width * at));
       }
 
   module _ (area : List ℕ) (j : ℕ) (h : RecordsSoFar area₀ at f n area j) where
@@ -70,7 +68,7 @@ module _ (area₀ : List ℕ) (at : ℕ) (f : ℕ → Record) (n : ℕ) where
         so-far = encoded f j
 
         long-so-far : length so-far ≡ width * j
-        long-so-far = length-joined (λ j. encode (f j)) width (λ j. length-encode (f j)) j
+        long-so-far = length-encoded f j
 
         place : width * (at + j) ≡ width * at + length so-far
         place = omega (arith, long-so-far)

@@ -5,14 +5,14 @@ use mathlib.Core.List.{List, [], _∷_, _++_, append-assoc, append-nil}
 use native.Mathlib.Omega.{arith}
 use native.Mathlib.Nat.{add-zero, add-suc, add-assoc, zero-add}
 use native.Mathlib.Decide.{decLt}
-use lib.ListN.{length, getD, take, drop, take-append-drop}
+use lib.ListN.{length, getD, drop}
 use lib.Seq.{sets, getD-append-add, ext-getD}
 use Rattle.facts.specs.Bytes.{twoBytes}
 use Rattle.facts.specs.Lists.{tabulate, joined}
 use Rattle.facts.specs.Areas.{put, onto}
 use Rattle.facts.proofs.Lists.{length-tabulate, getD-tabulate, length-joined, part-joined, getD-joined}
 use Rattle.facts.proofs.Bytes.{two-back}
-use Rattle.facts.proofs.Areas.{length-put, put-behind, put-before, stored-whole}
+use Rattle.facts.proofs.Areas.{put-none, length-put, put-behind, put-before, stored-whole}
 use Rattle.netlist.specs.declared.Record.{Record}
 use Rattle.netlist.specs.Kinds.{width, slots, unused}
 use Rattle.netlist.specs.Records.{Netlist, netlist, field, decode, slot, blank, recordCount, recordAt}
@@ -23,6 +23,13 @@ use Rattle.netlist.proofs.Records.{record-inside, record-past}
 pub length-encode : (r : Record) → length (encode r) ≡ width
 unfolding encode joined
 length-encode r = refl
+
+pub length-encoded : (f : ℕ → Record) (n : ℕ) → length (encoded f n) ≡ width * n
+unfolding encoded
+length-encoded f n = length-joined (λ k. encode (f k)) width (λ k. length-encode (f k)) n
+
+pub length-recs : (m : Netlist) (i c : ℕ) → length (recs m i c) ≡ width * c
+length-recs m i c = length-encoded (λ k. m .at (i + k)) c
 
 -- slot j from its bytes
 slot-back : (r : Record) (j : ℕ) → Fits r → j < slots → field (encode r) (4 + 2 * j) ≡ slot r j
@@ -57,12 +64,8 @@ decode-encode r h =
 
 -- what is read of a netlist's bytes is the netlist
 module _ (m : Netlist) (fits : (i : ℕ) → i < m .size → Fits (m .at i)) (end : (i : ℕ) → m .size ≤ i → m .at i ≡ blank) where
-  length-bytes : length (bytesOf m) ≡ width * m .size
-  unfolding encoded
-  length-bytes = length-joined (λ k. encode (m .at (0 + k))) width (λ k. length-encode (m .at (0 + k))) (m .size)
-
   count-bytes : recordCount (bytesOf m) ≡ m .size
-  count-bytes = omega (arith, length-bytes)
+  count-bytes = omega (arith, length-recs m 0 (m .size))
 
   record-bytes : (i : ℕ) → recordAt (bytesOf m) i ≡ m .at i
   unfolding encoded
@@ -95,17 +98,13 @@ recs-append m i c (suc k) =
     ∙ ap₂ _++_ (recs-append m i c k) (ap (λ (x : ℕ). encode (m .at x)) (sym (add-assoc i c k)))
     ∙ append-assoc (recs m i c) (recs m (i + c) k) (encode (m .at (i + c + k)))
 
-pub length-recs : (m : Netlist) (i c : ℕ) → length (recs m i c) ≡ width * c
-unfolding encoded
-length-recs m i c = length-joined (λ k. encode (m .at (i + k))) width (λ k. length-encode (m .at (i + k))) c
-
 module _ (m : Netlist) (i c : ℕ) (area : List ℕ) where
   pub records-length : width * (i + c) ≤ length area → length (withRecords m i c area) ≡ length area
   records-length l = length-put area (width * i) (recs m i c) (omega (arith, length-recs m i c))
 
   pub records-none : withRecords m i 0 area ≡ area
   unfolding encoded joined
-  records-none = ap (λ (k : ℕ). take (width * i) area ++ drop k area) (add-zero (width * i)) ∙ take-append-drop (width * i) area
+  records-none = put-none area (width * i)
 
   pub records-more : (k : ℕ) → width * (i + c) ≤ length area → withRecords m (i + c) k (withRecords m i c area) ≡ withRecords m i (c + k) area
   records-more k l =

@@ -8,6 +8,7 @@ use mir.Syntax.{w32}
 use lib.Bits.{bitOr}
 use lib.ListN.{length, getD, set, replicate, length-set, length-replicate}
 use lib.Seq.{getD-set-other, ext-getD}
+use Rattle.facts.proofs.Lists.{zeros-at}
 use Rattle.netlist.specs.Kinds.{topLevel}
 use Rattle.netlist.specs.Records.{Netlist}
 use Rattle.fanout.specs.Nets.{row}
@@ -17,7 +18,6 @@ use Rattle.nets.specs.PrivateChains.{nextSink, slotDistance, sinksBelow,
 use Rattle.fanout.specs.PrivateStretches.{stretch, InStretches}
 use Rattle.fanout.specs.PrivateWalk.{Filled}
 use Rattle.fanout.proofs.EmptyStretches.{stretches-none, stretches-added}
-use Rattle.fanout.proofs.Lists.{getD-replicated}
 use Rattle.nets.proofs.OneChain.{sinks-below, OnChain, chain-start, chain-none, chain-all, chain-inside, chain-near, chain-next, chain-on, chain-count}
 
 -- every sink of d below slot p is counted, and none further than top
@@ -42,7 +42,7 @@ module _ (n : Netlist) (first next : List ℕ) (end d : ℕ) (h : Chained n firs
       }
     where
       zero-at : (k : ℕ) → getD counts k 0 ≡ 0
-      zero-at k = ap (λ (l : List ℕ). getD l k 0) f ∙ getD-replicated (suc topLevel) k 0
+      zero-at = zeros-at (suc topLevel) counts f
 
   module _ (p : ℕ) (counts : List ℕ) (top stretches : ℕ) (f : Filling n d p counts top stretches) where
     module _ (l : p < end) (a : ℕ) (e : a ≡ slotDistance n d p) where

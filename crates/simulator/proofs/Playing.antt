@@ -7,7 +7,7 @@ use native.Mathlib.Omega.{arith}
 use native.Mathlib.Nat.{mul-le-mul, mul-le-mul-right, zero-add, zero-mul, add-zero, add-sub-cancel-left, suc-mul}
 use native.Mathlib.Numerals.{add-one}
 use lib.ListN.{length, getD, take, drop, set, replicate, length-drop, length-set, drop-of-length-le}
-use lib.Seq.{take-all, take-nil, drop-drop}
+use lib.Seq.{take-all, take-nil}
 use lib.Dec.{eqb}
 use borrow.Author.Tests.{ne-eqb}
 use Rattle.facts.specs.Sums.{bit, sum, count}
@@ -143,13 +143,6 @@ module _ (rows : List ℕ) (w k : ℕ) where
 
   pub row-whole : take (k * w + w - k * w) (drop (k * w) rows) ≡ rowAt w rows k
   row-whole = ap (λ (n : ℕ). take n (drop (k * w) rows)) (add-sub-cancel-left (k * w) w)
-
--- a row that was written as a part of the output area
-pub row-back : (outs part row : List ℕ) (at w : ℕ) → part ≡ row →
-    take at outs ++ (part ++ drop (at + w - at) (drop at outs)) ≡ take at outs ++ (row ++ drop (at + w) outs)
-row-back outs part row at w e =
-    ap₂ (λ (p d : List ℕ). take at outs ++ (p ++ d)) e
-    (ap (λ (n : ℕ). drop n (drop at outs)) (add-sub-cancel-left at w) ∙ drop-drop w at outs)
 
 -- a source's inputs are few
 pub shape-narrow : (source : List ℕ) (x : ℕ) → x ≡ inputs (netlist source) → recordCount source ≤ sourceLimit → x ≤ sourceLimit

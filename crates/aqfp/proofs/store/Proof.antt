@@ -2,7 +2,7 @@
 use borrow.Author.Needs.{needs}
 use native.Mathlib.Omega.{arith}
 use lib.ListN.{length-set}
-use Rattle.aqfp.proofs.Answers.{stores}
+use Rattle.facts.proofs.Bytes.{stores-four}
 use Rattle.aqfp.proofs.store.Statement.{statement}
 use Rattle.aqfp.proofs.store.Tie as tie
 
@@ -46,7 +46,7 @@ same-length : tie.Need-same-length
 same-length c = search needs
 
 returns : tie.Need-returns
-returns c = search stores
+returns c = search stores-four
 
 pub store-spec : {M : Type 1} → statement M
 store-spec =

@@ -3,7 +3,7 @@ use native.Mathlib.Omega.{arith}
 use lib.ListN.{length-set}
 use Prim.Native.Nat.{_+_, _*_}
 use Rattle.netlist.specs.Kinds.{width}
-use Rattle.facts.proofs.Areas.{slot-stored}
+use Rattle.facts.proofs.Bytes.{stores-two}
 use borrow.Author.Needs.{needs}
 use Rattle.netlist.proofs.record_writer.write_slot.Statement.{statement}
 use Rattle.netlist.proofs.record_writer.write_slot.Tie as tie
@@ -41,7 +41,7 @@ same-length c = search needs
 returns : tie.Need-returns
 returns c =
     let a = c .before .before .before .args in
-    slot-stored (a .area .now) (width * a .x + (4 + 2 * a .j)) _ _ _ (search needs) (c .before .low-byte .ensures) (c .high-byte .ensures)
+    stores-two (a .area .now) (width * a .x + (4 + 2 * a .j)) _ _ _ (search needs) (c .before .low-byte .ensures) (c .high-byte .ensures)
 
 pub write-slot-spec : {M : Type 1} → statement M
 write-slot-spec =

@@ -1,5 +1,5 @@
 -- `write_row` meets its contract: the row is written as a part of the output area.
-use Rattle.simulator.proofs.Playing.{row-back}
+use Rattle.facts.proofs.Areas.{part-kept}
 use borrow.Author.Needs.{needs}
 use Rattle.simulator.proofs.phase_run.write_row.Statement.{statement}
 use Rattle.simulator.proofs.phase_run.write_row.Tie as tie
@@ -26,7 +26,7 @@ same-length : tie.Need-same-length
 same-length c = search needs
 
 returns : tie.Need-returns
-returns c = search row-back
+returns c = search part-kept
 
 pub write-row-spec : {M : Type 1} → statement M
 write-row-spec =
