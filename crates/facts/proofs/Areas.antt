@@ -92,13 +92,14 @@ put-within xs a bs k cs l h =
 pub sets-put : (bs xs : List ℕ) (at : ℕ) → at + length bs ≤ length xs → sets xs at bs ≡ put xs at bs
 sets-put bs xs at l = sets-eq bs xs at l ∙ append-assoc (take at xs) bs (drop (at + length bs) xs)
 
--- a part that was stored whole comes back into the area
+-- a part that was stored whole
 pub stored-whole : (part bytes : List ℕ) (w : ℕ) → length part ≡ w → length bytes ≡ w → sets part 0 bytes ≡ bytes
 stored-whole part bytes w p b =
     sets-eq bytes part 0 (omega arith)
     ∙ ap (λ (l : List ℕ). bytes ++ l) (drop-of-length-le part {i = 0 + length bytes} (omega arith))
     ∙ append-nil bytes
 
+-- a part that was written comes back into the area
 pub part-kept : (area part bytes : List ℕ) (at w : ℕ) → part ≡ bytes →
     take at area ++ (part ++ drop (at + w - at) (drop at area)) ≡ take at area ++ (bytes ++ drop (at + w) area)
 part-kept area part bytes at w e =

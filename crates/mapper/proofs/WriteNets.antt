@@ -94,7 +94,7 @@ module _ (n : Netlist) (s d at : ℕ) (first next : List ℕ) (end : ℕ) (count
   net-none z =
       wrote at next counts base area (omega (arith, none, next-start)) (w .clear) (w .room)
       record { size = refl; at = λ y l c. absurd (unnamed y l c); others = λ y c. refl }
-      (sym (ap (λ (c : ℕ). withRecords (mapped n s) at c area) (sym none) ∙ records-none (mapped n s) at 0 area))
+      (sym (ap (λ (c : ℕ). withRecords (mapped n s) at c area) (sym none) ∙ records-none (mapped n s) at area))
     where
       none : 0 ≡ treeSize n s d
       none = measured-none n s d (w .ready .low) z .buffers
@@ -157,7 +157,7 @@ module _ (n : Netlist) (s : ℕ) (first : List ℕ) (end : ℕ) (area₀ : List 
         room = b;
         parents = h;
         long = refl;
-        bytes = sym (records-none (mapped n s) (n .size) 0 area₀);
+        bytes = sym (records-none (mapped n s) (n .size) area₀);
       }
 
   module _ (d at N : ℕ) (next counts base area : List ℕ) (h : NetsWritten n s first end area₀ d at next counts base area) (size : N ≡ n .size) where

@@ -89,7 +89,7 @@ module _ (n : Netlist) (s d start top : ℕ) (counts area₀ : List ℕ) (h : Co
         size = b;
         firstParents = λ x l m. absurd (omega arith);
         long = refl;
-        bytes = sym (ap (λ (c : ℕ). withRecords (mapped n s) start c area₀) at-one ∙ records-none (mapped n s) start 0 area₀);
+        bytes = sym (ap (λ (c : ℕ). withRecords (mapped n s) start c area₀) at-one ∙ records-none (mapped n s) start area₀);
       }
 
   pub tree-driver : Fits w16 d

@@ -98,13 +98,13 @@ recs-append m i c (suc k) =
     ∙ ap₂ _++_ (recs-append m i c k) (ap (λ (x : ℕ). encode (m .at x)) (sym (add-assoc i c k)))
     ∙ append-assoc (recs m i c) (recs m (i + c) k) (encode (m .at (i + c + k)))
 
+pub records-none : (m : Netlist) (i : ℕ) (area : List ℕ) → withRecords m i 0 area ≡ area
+unfolding encoded joined
+records-none m i area = put-none area (width * i)
+
 module _ (m : Netlist) (i c : ℕ) (area : List ℕ) where
   pub records-length : width * (i + c) ≤ length area → length (withRecords m i c area) ≡ length area
   records-length l = length-put area (width * i) (recs m i c) (omega (arith, length-recs m i c))
-
-  pub records-none : withRecords m i 0 area ≡ area
-  unfolding encoded joined
-  records-none = put-none area (width * i)
 
   pub records-more : (k : ℕ) → width * (i + c) ≤ length area → withRecords m (i + c) k (withRecords m i c area) ≡ withRecords m i (c + k) area
   records-more k l =
