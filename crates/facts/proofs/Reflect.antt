@@ -10,7 +10,7 @@ use mathlib.Core.Logic.{_⊎_, inl, inr, ⊎-elim, _≢_, _↔_}
 use Rattle.facts.specs.declared.Checked.{Checked}
 use Rattle.facts.specs.declared.Checked.the-variants.{Passed, Refused}
 use Rattle.facts.specs.Checks.{check, _andThen_, scan}
-use Rattle.facts.proofs.Sums.{any-none}
+use Rattle.facts.proofs.Sums.{any-none, any-some}
 use Rattle.facts.proofs.Bools.{true-false}
 
 pub check-passed : (number place : ℕ) (b : Bool) → (check number place b ≡ Passed) ↔ (b ≡ false)
@@ -121,6 +121,16 @@ both false b = (λ e. (e, cc), λ e. e .0)
 pub either : (a b : Bool) → ((a || b) ≡ true) ↔ ((a ≡ true) ⊎ (b ≡ true))
 either true b = (λ e. inl refl, λ e. refl)
 either false b = (inr, ⊎-elim (λ e. cc) (λ e. e))
+
+-- a test in two parts, each read as what it means
+pub either-is : {A B : Type 0} {a b : Bool} → (a ≡ true) ↔ A → (b ≡ true) ↔ B → ((a || b) ≡ true) ↔ (A ⊎ B)
+either-is {a = a} {b} f g = iff-trans (either a b) (iff-sum f g)
+
+pub both-is : {A B : Type 0} {a b : Bool} → (a ≡ true) ↔ A → (b ≡ true) ↔ B → ((a && b) ≡ true) ↔ (A × B)
+both-is {a = a} {b} f g = iff-trans (both a b) (iff-pair f g)
+
+-- `simp holds` reads a test that holds as facts, below any but `||`
+pub ruleset holds = (less, most, same, unlike, both, any-some)
 
 -- one test below n, another from there on
 pub side : (k n : ℕ) (a b : Bool) → (cond (ltb k n) a b ≡ true) ↔ (((k < n) × (a ≡ true)) ⊎ ((n ≤ k) × (b ≡ true)))

@@ -10,7 +10,7 @@ use lib.Dec.{ltb, eqb}
 use Rattle.facts.specs.declared.Checked.{Checked}
 use Rattle.facts.specs.Checks.{check, _andThen_}
 use Rattle.facts.specs.Refusals.{rowOf, Each, First}
-use Rattle.facts.proofs.Reflect.{iff-sum, iff-trans, less, unlike, either}
+use Rattle.facts.proofs.Reflect.{less, unlike, either-is}
 use Rattle.facts.proofs.Refusals.{exact, After, rows-before, one-row, within-one, first-check, first-then, first-scan}
 use Rattle.netlist.specs.Records.{Netlist, netlist}
 use Rattle.netlist.specs.Counts.{inputs, outputs}
@@ -38,15 +38,11 @@ area-first c Bad row e =
     (λ k l. first-check 19 k (less 1 (getD row k 0))))
 
 areas-are : (n : Netlist) (row area : List ℕ) → (badAreas n row area ≡ true) ↔ BadAreas n row area
-areas-are n row area =
-    iff-trans (either (not (eqb (length row) (inputs n))) _) (iff-sum (unlike (length row) (inputs n)) (unlike (length area) (n .size)))
+areas-are n row area = either-is (unlike (length row) (inputs n)) (unlike (length area) (n .size))
 
 rows-are : (n m : Netlist) (r : ℕ) (rows area : List ℕ) → (badRows n m r rows area ≡ true) ↔ BadRows n m r rows area
 rows-are n m r rows area =
-    iff-trans (either (ltb rowLimit r || not (eqb (length rows) (r * inputs n))) _)
-    (iff-sum
-    (iff-trans (either (ltb rowLimit r) _) (iff-sum (less rowLimit r) (unlike (length rows) (r * inputs n))))
-    (unlike (length area) (2 * m .size)))
+    either-is (either-is (less rowLimit r) (unlike (length rows) (r * inputs n))) (unlike (length area) (2 * m .size))
 
 -- 18 twice is 18 once
 twice : (a b : Bool) (c : Checked) → (check 18 0 (a || b) andThen c) ≡ (check 18 0 a andThen (check 18 0 b andThen c))
@@ -81,5 +77,4 @@ run-exact source s mapped r rows area outs =
     (verify-first source s mapped)
     (subst (First _) (twice (badRows (netlist source) (netlist mapped) r rows area) (badOutputs (netlist source) r outs) (bitChecks rows))
     (area-first _ _ rows
-    (iff-trans (either (badRows (netlist source) (netlist mapped) r rows area) (badOutputs (netlist source) r outs))
-    (iff-sum (rows-are (netlist source) (netlist mapped) r rows area) (unlike (length outs) (r * outputs (netlist source))))))))
+    (either-is (rows-are (netlist source) (netlist mapped) r rows area) (unlike (length outs) (r * outputs (netlist source)))))))

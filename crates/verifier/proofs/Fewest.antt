@@ -2,17 +2,18 @@
 -- buffers one level lower feed them, so that the counts by distance carry as those of a tree, of which `fanout` has the least.
 use Prim.Native.Nat.{ℕ, suc, _+_, _*_, _-_, _≤_, _<_}
 use mathlib.Core.Path.{_≡_, refl, sym, _∙_, ap, subst}
-use mathlib.Core.Logic.{_≢_}
+use mathlib.Core.Logic.{_≢_, _↔_}
 use mathlib.Core.Bool.{Bool, true, false, _&&_}
 use lib.Dec.{eqb, lit<}
 use lib.ListN.{getD, List·getD-eq-default}
-use borrow.Author.Tests.{ltb-true, lt-ltb, eqb-true, eq-eqb, ne-eqb, le-leb}
+use borrow.Author.Tests.{eqb-true, ne-eqb, le-leb}
 use native.Mathlib.Omega.{arith}
 use native.Mathlib.Nat.{add-suc, add-sub-of-le}
 use native.Mathlib.Numerals.{add-one}
 use native.Mathlib.Decide.{ℕ-discrete, decLe, decLt}
 use Rattle.facts.specs.Sums.{sum, count, count₂}
-use Rattle.facts.proofs.Bools.{and-l, and-r, and-i, eqb-same}
+use Rattle.facts.proofs.Bools.{eqb-same}
+use Rattle.facts.proofs.Reflect.{holds}
 use Rattle.facts.proofs.Sums.{sum-cong, sum-mono, count-cong, count-mono, count₂-mono, double-count, fibres₁, count-some, count-above}
 use Rattle.netlist.specs.Kinds.{slots, topLevel, buffer, arity}
 use Rattle.netlist.specs.Records.{Netlist, netlist, used, fanin, names, feeds}
@@ -47,42 +48,19 @@ record Hangs (m : Netlist) (d level i j : ℕ) : Type 0 where
   ends : driver m (fanin m i j) ≡ d
   stands : m .at i .level ≡ level
 
-hangs-facts : (m : Netlist) (d level i j : ℕ) → hangs m d level i j ≡ true → Hangs m d level i j
+hangs-is : (m : Netlist) (d level i j : ℕ) → (hangs m d level i j ≡ true) ↔ Hangs m d level i j
 unfolding hangs
-hangs-facts m d level i j h =
-    let rest = and-r (used m i j) _ h in
-    record {
-      isUsed = ltb-true j _ (and-l (used m i j) _ h);
-      ends = eqb-true _ d (and-l (eqb (driver m (fanin m i j)) d) _ rest);
-      stands = eqb-true _ level (and-r (eqb (driver m (fanin m i j)) d) _ rest);
-    }
-
-hangs-used : (m : Netlist) (d level i j : ℕ) → hangs m d level i j ≡ true → used m i j ≡ true
-unfolding hangs
-hangs-used m d level i j h = and-l (used m i j) _ h
-
-facts-hang : (m : Netlist) (d level i j : ℕ) → Hangs m d level i j → hangs m d level i j ≡ true
-unfolding hangs
-facts-hang m d level i j h =
-    rw (lt-ltb j (arity (m .at i .kind)) (h .isUsed), eq-eqb (driver m (fanin m i j)) d (h .ends), eq-eqb (m .at i .level) level (h .stands))
+hangs-is m d level i j =
+    simp holds (λ f. record { isUsed = f .0; ends = f .1 .0; stands = f .1 .1 }, λ h. (h .isUsed, (h .ends, h .stands)))
 
 record OnNetAt (m : Netlist) (d level x : ℕ) : Type 0 where
   isBuffer : m .at x .kind ≡ buffer
   ends : driver m (fanin m x 0) ≡ d
   stands : m .at x .level ≡ level
 
-on-net-facts : (m : Netlist) (d level x : ℕ) → onNetAt m d level x ≡ true → OnNetAt m d level x
-on-net-facts m d level x h =
-    let net = and-l (onNet m d x) _ h in
-    record {
-      isBuffer = eqb-true _ buffer (and-l (isBuffer m x) _ net);
-      ends = eqb-true _ d (and-r (isBuffer m x) _ net);
-      stands = eqb-true _ level (and-r (onNet m d x) _ h);
-    }
-
-facts-on-net : (m : Netlist) (d level x : ℕ) → OnNetAt m d level x → onNetAt m d level x ≡ true
-facts-on-net m d level x h =
-    rw (eq-eqb (m .at x .kind) buffer (h .isBuffer), eq-eqb (driver m (fanin m x 0)) d (h .ends), eq-eqb (m .at x .level) level (h .stands))
+on-net-is : (m : Netlist) (d level x : ℕ) → (onNetAt m d level x ≡ true) ↔ OnNetAt m d level x
+on-net-is m d level x =
+    simp holds (λ f. record { isBuffer = f .0 .0; ends = f .0 .1; stands = f .1 }, λ h. ((h .isBuffer, h .ends), h .stands))
 
 module _ (n : Netlist) (s : ℕ) (m : Netlist) (source : IsSource n) (legal : Legal n s m) where
   -- a source record is no buffer
@@ -93,32 +71,20 @@ module _ (n : Netlist) (s : ℕ) (m : Netlist) (source : IsSource n) (legal : Le
   sink-hangs :
       (d x i j : ℕ) → i < n .size → sinkAt n d x i j ≡ true → hangs m d (n .at d .level + x) i j ≡ true
   sink-hangs d x i j l h =
-      facts-hang
-      m
-      d
-      (n .at d .level + x)
-      i
-      j
+      let f = simp holds at h in
+      let uses : j < arity (m .at i .kind) = rw (legal .kept i l .kind) (f .0 .0) in
+      let named = legal .named i j (omega (arith, legal .whole)) uses in
+      hangs-is m d (n .at d .level + x) i j .1
       (record {
         isUsed = uses;
-        ends = traces-driver m (legal .named) (legal .balanced) (fanin n i j) (fanin m i j) (legal .named i j below uses) (legal .traced i j l slot)
-            ∙ eqb-true (fanin n i j) d (and-r (used n i j) _ (and-l (names n d i j) _ h));
-        stands = legal .kept i l .level ∙ eqb-true _ (n .at d .level + x) (and-r (names n d i j) _ h);
+        ends = traces-driver m (legal .named) (legal .balanced) (fanin n i j) (fanin m i j) named (legal .traced i j l (f .0 .0)) ∙ f .0 .1;
+        stands = legal .kept i l .level ∙ f .1;
       })
-    where
-      below : i < m .size
-      below = omega (arith, legal .whole)
-
-      slot : j < arity (n .at i .kind)
-      slot = ltb-true j _ (and-l (used n i j) _ (and-l (names n d i j) _ h))
-
-      uses : j < arity (m .at i .kind)
-      uses = rw (legal .kept i l .kind) slot
 
   buffer-hangs : (d level x : ℕ) → onNetAt m d level x ≡ true → hangs m d level x 0 ≡ true
   buffer-hangs d level x h =
-      let f = on-net-facts m d level x h in
-      facts-hang m d level x 0 (record { isUsed = buffer-slot m x (f .isBuffer); ends = f .ends; stands = f .stands })
+      let f = on-net-is m d level x .0 h in
+      hangs-is m d level x 0 .1 (record { isUsed = buffer-slot m x (f .isBuffer); ends = f .ends; stands = f .stands })
 
   -- (a) the buffers and sinks of d at a level are at most the slots that hang there
   carried :
@@ -138,7 +104,7 @@ module _ (n : Netlist) (s : ℕ) (m : Netlist) (source : IsSource n) (legal : Le
       (n .size)
       (m .size - n .size)
       (λ i l. count-mono (sinkAt n d x i) (hangs m d level i) slots (λ j b h. sink-hangs d x i j l h))
-      (λ i l h. kept-no-buffer i l (on-net-facts m d level i h .isBuffer))
+      (λ i l h. kept-no-buffer i l (on-net-is m d level i .0 h .isBuffer))
       (λ i l h. count-some (hangs m d level (n .size + i)) 0 slots (lit< tt) (buffer-hangs d level (n .size + i) h)))
     where
       level : ℕ
@@ -152,7 +118,7 @@ module _ (n : Netlist) (s : ℕ) (m : Netlist) (source : IsSource n) (legal : Le
 
   below : (d level i j : ℕ) → i < m .size → hangs m d (suc level) i j ≡ true → Below d level (fanin m i j)
   below d level i j l h =
-      let f = hangs-facts m d (suc level) i j h in
+      let f = hangs-is m d (suc level) i j .0 h in
       record {
         named = legal .named i j l (f .isUsed);
         ends = f .ends;
@@ -196,7 +162,7 @@ module _ (n : Netlist) (s : ℕ) (m : Netlist) (source : IsSource n) (legal : Le
       (m .size)
       (λ i j a b h. (below d level i j a h .named, on (fanin m i j) (below d level i j a h)))
       (λ y a h.
-      let b = on-net-facts m d level y h .isBuffer in
+      let b = on-net-is m d level y .0 h .isBuffer in
       let few : feeds m y ≤ s = rw b at (legal .branched y a) in
       let all = count₂-mono (λ i j. hangs m d (suc level) i j && eqb (fanin m i j) y) (names m y) slots (m .size) (names-there y) in
       omega arith)
@@ -204,7 +170,7 @@ module _ (n : Netlist) (s : ℕ) (m : Netlist) (source : IsSource n) (legal : Le
       on : (y : ℕ) → Below d level y → onNetAt m d level y ≡ true
       on y b =
           let e = net-buffer d level y l above b in
-          facts-on-net m d level y
+          on-net-is m d level y .1
           (record {
             isBuffer = e;
             ends = sym (driver-back m (legal .named) (legal .balanced) y (b .named) e) ∙ b .ends;
@@ -213,8 +179,7 @@ module _ (n : Netlist) (s : ℕ) (m : Netlist) (source : IsSource n) (legal : Le
 
       names-there :
           (y i j : ℕ) → i < m .size → j < slots → (hangs m d (suc level) i j && eqb (fanin m i j) y) ≡ true → names m y i j ≡ true
-      names-there y i j a b h =
-          and-i (used m i j) _ (hangs-used m d (suc level) i j (and-l (hangs m d (suc level) i j) _ h)) (and-r (hangs m d (suc level) i j) _ h)
+      names-there y i j a b h = let f = simp holds at h in simp holds (hangs-is m d (suc level) i j .0 (f .0) .isUsed, f .1)
 
   -- (c) one level above d they name d itself
   fed-first :
@@ -227,11 +192,8 @@ module _ (n : Netlist) (s : ℕ) (m : Netlist) (source : IsSource n) (legal : Le
       slots
       (m .size)
       (λ i j a b h.
-      and-i
-      (used m i j)
-      _
-      (hangs-used m d (suc (n .at d .level)) i j h)
-      (eq-eqb (fanin m i j) d (net-driver d (fanin m i j) l (below d (n .at d .level) i j a h))))
+      simp holds
+      (hangs-is m d (suc (n .at d .level)) i j .0 h .isUsed, net-driver d (fanin m i j) l (below d (n .at d .level) i j a h)))
 
   -- the counts of buffers by distance carry as those of a tree
   carries :
@@ -272,11 +234,10 @@ module _ (n : Netlist) (s : ℕ) (m : Netlist) (source : IsSource n) (legal : Le
   pub above : (d x : ℕ) → d < n .size → x < m .size → onNet m d x ≡ true →
       (n .at d .level < m .at x .level) × (m .at x .level ≤ topLevel)
   above d x l a h =
-      let b : m .at x .kind ≡ buffer = eqb-true _ buffer (and-l (isBuffer m x) _ h) in
-      let ends : driver m x ≡ d =
-      driver-back m (legal .named) (legal .balanced) x a b ∙ eqb-true _ d (and-r (isBuffer m x) _ h) in
-      let under : m .at d .level < m .at x .level = rw ends at (driver-under m (legal .named) (legal .balanced) x a b) in
-      (omega (arith, legal .kept d l .level), legal .buffers x (buffer-place x b) a .level)
+      let f = simp holds at h in
+      let ends : driver m x ≡ d = driver-back m (legal .named) (legal .balanced) x a (f .0) ∙ f .1 in
+      let under : m .at d .level < m .at x .level = rw ends at (driver-under m (legal .named) (legal .balanced) x a (f .0)) in
+      (omega (arith, legal .kept d l .level), legal .buffers x (buffer-place x (f .0)) a .level)
 
   -- the buffers on a net are those at its levels
   pub levels-sum :
@@ -347,15 +308,11 @@ module _ (n : Netlist) (s : ℕ) (m : Netlist) (source : IsSource n) (legal : Le
 
 -- a buffer is on the net of d exactly if its slot, traced back through buffers, ends there
 pub on-net-exactly : OnNetExactly
-on-net-exactly n s m legal d x l = (
-  λ h.
-      let b : m .at x .kind ≡ buffer = eqb-true _ buffer (and-l (isBuffer m x) _ h) in
-      let ends : driver m (fanin m x 0) ≡ d = eqb-true _ d (and-r (isBuffer m x) _ h) in
-      (b, subst (λ (e : ℕ). Traces m e (fanin m x 0)) ends (driver-traces m (legal .named) (legal .balanced) (fanin m x 0) (named b))),
-  λ t.
-      and-i (isBuffer m x) _ (eq-eqb (m .at x .kind) buffer (t .0))
-      (eq-eqb (driver m (fanin m x 0)) d (traces-driver m (legal .named) (legal .balanced) d (fanin m x 0) (named (t .0)) (t .1))),
-)
+on-net-exactly n s m legal d x l =
+    simp holds (
+      λ f. (f .0, subst (λ (e : ℕ). Traces m e (fanin m x 0)) (f .1) (driver-traces m (legal .named) (legal .balanced) (fanin m x 0) (named (f .0)))),
+      λ t. (t .0, traces-driver m (legal .named) (legal .balanced) d (fanin m x 0) (named (t .0)) (t .1)),
+    )
   where
     named : m .at x .kind ≡ buffer → fanin m x 0 < m .size
     named b = buffer-named m (legal .named) x l b

@@ -14,7 +14,7 @@ use Rattle.facts.specs.Checks.{outcome}
 use Rattle.facts.specs.Sums.{any}
 use Rattle.facts.specs.Refusals.{rowOf, Fails, _or_, Each, First}
 use Rattle.facts.proofs.Sums.{any-some}
-use Rattle.facts.proofs.Reflect.{reflect, iff-sum, iff-pair, iff-trans, iff-some, less, most, same, unlike, both, either}
+use Rattle.facts.proofs.Reflect.{reflect, holds, iff-trans, iff-some, less, most, same, unlike, either-is, both-is}
 use Rattle.facts.proofs.Refusals.{InRow, UpTo, Within, After, rows-before, one-row, within-one, within-or, within-before, first-check, first-then, first-after, first-scan, scan-rows, exact}
 use Rattle.netlist.specs.declared.Record.{Record}
 use Rattle.netlist.specs.Kinds.{width, slots, unused, topLevel, mappedLimit, output, buffer, arity}
@@ -33,39 +33,28 @@ use Rattle.verifier.proofs.Checks.{placed}
 
 length-is : (records : ℕ) (bytes : List ℕ) → (badLength records bytes ≡ true) ↔ BadLength records bytes
 length-is records bytes =
-    iff-trans (either (ragged bytes) _)
-    (iff-sum (unlike (length bytes % width) 0) (iff-trans (either _ _) (iff-sum (less (recordCount bytes) records) (less mappedLimit (recordCount bytes)))))
+    either-is (unlike (length bytes % width) 0) (either-is (less (recordCount bytes) records) (less mappedLimit (recordCount bytes)))
 
 -- a slot that a kind does not use differs
 empty-is :
     (kind : ℕ) (a r : Record) →
     (any (badEmpty kind a r) slots ≡ true) ↔ ((j : ℕ) × (j < slots) × ((arity kind ≤ j) × (slot r j ≢ slot a j)))
-empty-is kind a r =
-    iff-trans (any-some (badEmpty kind a r) slots)
-    (iff-some slots _ _ (λ j. iff-trans (both (leb (arity kind) j) (not (eqb (slot r j) (slot a j)))) (iff-pair (most (arity kind) j) (unlike (slot r j) (slot a j)))))
+empty-is kind a r = simp holds (λ x. x, λ x. x)
 
 changed-is : (n : Netlist) (k : ℕ) (r : Record) → (changed n k r ≡ true) ↔ Changed n k r
 changed-is n k r =
     let a = n .at k in
-    iff-trans (both (ltb k (n .size)) (differs a r))
-    (iff-pair (less k (n .size))
-    (iff-trans (either (not (eqb (r .kind) (a .kind))) _)
-    (iff-sum (unlike (r .kind) (a .kind))
-    (iff-trans (either (not (eqb (r .inversion) (a .inversion))) _)
-    (iff-sum (unlike (r .inversion) (a .inversion))
-    (iff-trans (either (not (eqb (r .level) (a .level))) _)
-    (iff-sum (unlike (r .level) (a .level)) (empty-is (a .kind) a r))))))))
+    both-is (less k (n .size))
+    (either-is (unlike (r .kind) (a .kind))
+    (either-is (unlike (r .inversion) (a .inversion))
+    (either-is (unlike (r .level) (a .level)) (empty-is (a .kind) a r))))
 
 foreign-is : (n : Netlist) (k : ℕ) (r : Record) → (foreign n k r ≡ true) ↔ Foreign n k r
 foreign-is n k r =
-    iff-trans (both (leb (n .size) k) (noBuffer r))
-    (iff-pair (most (n .size) k)
-    (iff-trans (either (not (eqb (r .kind) buffer)) _)
-    (iff-sum (unlike (r .kind) buffer)
-    (iff-trans (either (not (eqb (r .inversion) 0)) _)
-    (iff-sum (unlike (r .inversion) 0)
-    (iff-trans (either (ltb topLevel (r .level)) _)
-    (iff-sum (less topLevel (r .level)) (iff-trans (empty-is buffer blank r) unused-slots))))))))
+    both-is (most (n .size) k)
+    (either-is (unlike (r .kind) buffer)
+    (either-is (unlike (r .inversion) 0)
+    (either-is (less topLevel (r .level)) (iff-trans (empty-is buffer blank r) unused-slots))))
   where
     unused-slots :
         ((j : ℕ) × (j < slots) × ((arity buffer ≤ j) × (slot r j ≢ slot blank j)))
@@ -78,14 +67,10 @@ foreign-is n k r =
 names-are : (m : Netlist) (r : Record) → (any (badName m r) (arity (r .kind)) ≡ true) ↔ BadNames m r
 names-are m r =
     iff-trans (any-some (badName m r) (arity (r .kind)))
-    (iff-some (arity (r .kind)) _ _ (λ j.
-    iff-trans (either (leb (m .size) (slot r j)) (eqb (m .at (slot r j) .kind) output))
-    (iff-sum (most (m .size) (slot r j)) (same (m .at (slot r j) .kind) output))))
+    (iff-some (arity (r .kind)) _ _ (λ j. either-is (most (m .size) (slot r j)) (same (m .at (slot r j) .kind) output)))
 
 levels-are : (m : Netlist) (r : Record) → (any (notOneLower m r) (arity (r .kind)) ≡ true) ↔ Unbalanced m r
-levels-are m r =
-    iff-trans (any-some (notOneLower m r) (arity (r .kind)))
-    (iff-some (arity (r .kind)) _ _ (λ j. unlike (r .level) (suc (m .at (slot r j) .level))))
+levels-are m r = simp holds (λ x. x, λ x. x)
 
 strays-are :
     (n m : Netlist) (k : ℕ) → n .size ≤ m .size → PlacesPassed n m → k < n .size →
