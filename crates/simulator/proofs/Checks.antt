@@ -10,7 +10,7 @@ use lib.Dec.{eqb}
 use borrow.Author.Tests.{lt-ltb, le-ltb, eq-eqb, ne-eqb}
 use Rattle.facts.specs.declared.Checked.{Checked}
 use Rattle.facts.specs.declared.Checked.the-variants.{Passed, Refused}
-use Rattle.facts.specs.Checks.{scan}
+use Rattle.facts.specs.Checks.{check, scan, _andThen_, unlessRefused}
 use Rattle.facts.proofs.Loops.{Scanning, scan-more, scan-stop, scan-end}
 use Rattle.facts.proofs.Reflect.{reflect, or-none, unlike-none}
 use Rattle.facts.proofs.Sums.{count-le}
@@ -30,6 +30,29 @@ use Rattle.simulator.specs.PrivateStep.{Buffered}
 use Rattle.simulator.specs.Run.{after, steps, outputRows, badOutputs, runChecks, runAnswer, runArea, runOutputs}
 use Rattle.simulator.specs.PrivateRun.{IsRun}
 use Rattle.simulator.proofs.Accepted.{evaluate-passed, step-passed, run-passed}
+
+-- a check that refuses is the answer, and one that passes leaves it to the next
+module _ (a x y : Checked) (e : a ≡ x) where
+  pub then-stop : (number place : ℕ) → a ≡ Refused number place → Refused number place ≡ (x andThen y)
+  then-stop number place h = rw (← e, h)
+
+  pub then-go : (b : Checked) → a ≡ Passed → b ≡ y → b ≡ (x andThen y)
+  then-go b h q = rw (← e, h) q
+
+module _ (b c : Bool) (e : b ≡ c) (number place : ℕ) (y : Checked) where
+  pub check-stop : b ≡ true → Refused number place ≡ (check number place c andThen y)
+  check-stop h = rw (← e, h)
+
+  pub check-go : (a : Checked) → b ≡ false → a ≡ y → a ≡ (check number place c andThen y)
+  check-go a h q = rw (← e, h) q
+
+-- an area is written where the answer passes, and else is as it was
+module _ (a x : Checked) (e : a ≡ x) (new old : List ℕ) where
+  pub area-writes : (area : List ℕ) → a ≡ Passed → area ≡ new → area ≡ unlessRefused x new old
+  area-writes area h q = rw (← e, h) q
+
+  pub area-keeps : (number place : ℕ) → a ≡ Refused number place → old ≡ unlessRefused x new old
+  area-keeps number place h = rw (← e, h)
 
 module _ (row : List ℕ) (n k : ℕ) (s : Scanning (bitCheck row) n k) where
   pub bits-more : k < n → getD row k 0 ≤ 1 → Scanning (bitCheck row) n (k + 1)
@@ -53,14 +76,6 @@ module _ (source row area : List ℕ) (x : ℕ) (e : x ≡ inputs (netlist sourc
   areas-area y h q = rw (eq-eqb (length row) (inputs (netlist source)) (h ∙ e), q)
 
 module _ (source row area : List ℕ) (b : Bool) (e : b ≡ badAreas (netlist source) row area) where
-  pub areas-bad : b ≡ true → Refused 18 0 ≡ evaluateChecks (netlist source) row area
-  unfolding evaluateChecks
-  areas-bad h = rw (← e, h)
-
-  pub areas-good : (a : Checked) → b ≡ false → a ≡ bitChecks row → a ≡ evaluateChecks (netlist source) row area
-  unfolding evaluateChecks
-  areas-good a h q = rw (← e, h) q
-
   -- a row of a source's inputs is short
   pub row-short : sourceChecks source ≡ Passed → b ≡ false → length row < 2 ^ 32
   row-short p h =
@@ -72,29 +87,16 @@ module _ (source row area : List ℕ) (b : Bool) (e : b ≡ badAreas (netlist so
         source-passed source .0 p .isSource .few,
       )
 
-module _ (source row area : List ℕ) (a : Checked) where
-  pub evaluate-source : (number place : ℕ) → a ≡ sourceChecks source → a ≡ Refused number place → Refused number place ≡ evaluateAnswer source row area
-  unfolding evaluateAnswer
-  evaluate-source number place e h = rw (← e, h)
+module _ (source row area : List ℕ) (a : Checked) (e : a ≡ evaluateAnswer source row area) (h : a ≡ Passed) where
+  pub evaluate-source-is : IsSource (netlist source)
+  evaluate-source-is = evaluate-passed source row area .0 (sym e ∙ h) .0 .isSource
 
-  pub evaluate-areas : (b : Checked) → a ≡ sourceChecks source → a ≡ Passed → b ≡ evaluateChecks (netlist source) row area → b ≡ evaluateAnswer source row area
-  unfolding evaluateAnswer
-  evaluate-areas b e h q = rw (← e, h) q
+  module _ (n : ℕ) (q : n ≡ recordCount source) where
+    pub evaluate-room : length area ≡ n
+    evaluate-room = evaluate-passed source row area .0 (sym e ∙ h) .2 ∙ sym q
 
-  module _ (e : a ≡ evaluateAnswer source row area) where
-    pub evaluate-source-is : a ≡ Passed → IsSource (netlist source)
-    evaluate-source-is h = evaluate-passed source row area .0 (sym e ∙ h) .0 .isSource
-
-    pub evaluate-room : (n : ℕ) → a ≡ Passed → n ≡ recordCount source → length area ≡ n
-    evaluate-room n h q = evaluate-passed source row area .0 (sym e ∙ h) .2 ∙ sym q
-
-    pub evaluate-writes : (n : ℕ) (new : List ℕ) → a ≡ Passed → n ≡ recordCount source → new ≡ values (netlist source) row n → new ≡ evaluateArea source row area
-    unfolding evaluateArea
-    evaluate-writes n new h q p = rw (← e, h) (p ∙ ap (values (netlist source) row) q)
-
-    pub evaluate-keeps : (number place : ℕ) → a ≡ Refused number place → area ≡ evaluateArea source row area
-    unfolding evaluateArea
-    evaluate-keeps number place h = rw (← e, h)
+    pub evaluated : (new : List ℕ) → new ≡ values (netlist source) row n → new ≡ values (netlist source) row (recordCount source)
+    evaluated new p = p ∙ ap (values (netlist source) row) q
 
 -- R rows of a source's inputs are few bytes
 rows-short : (r x n : ℕ) → r ≤ rowLimit → x ≤ n → n ≤ sourceLimit → r * x ≤ rowLimit * sourceLimit
@@ -127,61 +129,36 @@ module _ (source mapped : List ℕ) (r : ℕ) (rows area : List ℕ) where
         rows-short r (inputs (netlist source)) (recordCount source) (g .0 .0) (count-le (isInput (netlist source)) (recordCount source)) l,
       )
 
-module _ (source mapped row area : List ℕ) (b : Bool) (e : b ≡ badRows (netlist source) (netlist mapped) 1 row area) where
-  pub row-bad : b ≡ true → Refused 18 0 ≡ stepChecks (netlist source) (netlist mapped) row area
-  unfolding stepChecks
-  row-bad h = rw (← e, h)
+-- a judged source has few records, its mapped netlist's used slots name records, and from its size on that has buffers alone
+module _ (source : List ℕ) (s : ℕ) (mapped : List ℕ) (a : Checked) (e : a ≡ verifyChecks source s mapped) (p : a ≡ Passed) where
+  pub judged-few : recordCount source ≤ sourceLimit
+  judged-few = checks-passed source s mapped .0 (sym e ∙ p) .isSource .isSource .few
 
-  pub row-good : (a : Checked) → b ≡ false → a ≡ bitChecks row → a ≡ stepChecks (netlist source) (netlist mapped) row area
-  unfolding stepChecks
-  row-good a h q = rw (← e, h) q
+  pub judged-named : Named (netlist mapped)
+  judged-named = checks-passed source s mapped .0 (sym e ∙ p) .legal .named
 
--- a judged source has few records
-pub judged-few : (source : List ℕ) (s : ℕ) (mapped : List ℕ) (a : Checked) → a ≡ verifyChecks source s mapped → a ≡ Passed → recordCount source ≤ sourceLimit
-judged-few source s mapped a e h = checks-passed source s mapped .0 (sym e ∙ h) .isSource .isSource .few
+  pub judged-buffered : (n : ℕ) → n ≡ recordCount source → Buffered mapped n
+  judged-buffered n q =
+      let l = checks-passed source s mapped .0 (sym e ∙ p) .legal in
+      rw q (record {
+        within = l .whole;
+        kind = λ i g h. l .buffers i g h .kind;
+        inversion = λ i g h. l .buffers i g h .inversion;
+        named = λ i g h. l .named i 0 h (rw (l .buffers i g h .kind) (omega arith));
+      })
 
--- its mapped netlist's used slots name records
-pub judged-named : (source : List ℕ) (s : ℕ) (mapped : List ℕ) → verifyChecks source s mapped ≡ Passed → Named (netlist mapped)
-judged-named source s mapped e = checks-passed source s mapped .0 e .legal .named
+module _ (source : List ℕ) (s : ℕ) (mapped row area : List ℕ) (a : Checked) (e : a ≡ stepAnswer source s mapped row area) (h : a ≡ Passed) where
+  verified : Passed ≡ verifyChecks source s mapped
+  verified = sym (step-passed source s mapped row area .0 (sym e ∙ h) .0)
 
--- and from its size on the mapped netlist has buffers alone
-pub judged-buffered : (source : List ℕ) (s : ℕ) (mapped : List ℕ) → verifyChecks source s mapped ≡ Passed → Buffered mapped (recordCount source)
-judged-buffered source s mapped e =
-    let l = checks-passed source s mapped .0 e .legal in
-    record {
-      within = l .whole;
-      kind = λ i g h. l .buffers i g h .kind;
-      inversion = λ i g h. l .buffers i g h .inversion;
-      named = λ i g h. l .named i 0 h (rw (l .buffers i g h .kind) (omega arith));
-    }
+  pub step-named : Named (netlist mapped)
+  step-named = judged-named source s mapped Passed verified refl
 
-module _ (source : List ℕ) (s : ℕ) (mapped row area : List ℕ) (a : Checked) where
-  pub step-judged : (number place : ℕ) → a ≡ verifyChecks source s mapped → a ≡ Refused number place → Refused number place ≡ stepAnswer source s mapped row area
-  unfolding stepAnswer
-  step-judged number place e h = rw (← e, h)
+  pub step-buffered : (n : ℕ) → n ≡ recordCount source → Buffered mapped n
+  step-buffered = judged-buffered source s mapped Passed verified refl
 
-  pub step-checked : (b : Checked) → a ≡ verifyChecks source s mapped → a ≡ Passed → b ≡ stepChecks (netlist source) (netlist mapped) row area → b ≡ stepAnswer source s mapped row area
-  unfolding stepAnswer
-  step-checked b e h q = rw (← e, h) q
-
-  module _ (e : a ≡ stepAnswer source s mapped row area) where
-    pub step-room : (m : ℕ) → a ≡ Passed → m ≡ recordCount mapped → length area ≡ 2 * m
-    step-room m h q = step-passed source s mapped row area .0 (sym e ∙ h) .2 ∙ ap (λ (k : ℕ). 2 * k) (sym q)
-
-    pub step-named : a ≡ Passed → Named (netlist mapped)
-    step-named h = judged-named source s mapped (step-passed source s mapped row area .0 (sym e ∙ h) .0)
-
-    pub step-buffered : (n : ℕ) → a ≡ Passed → n ≡ recordCount source → Buffered mapped n
-    step-buffered n h q =
-        rw q (judged-buffered source s mapped (step-passed source s mapped row area .0 (sym e ∙ h) .0))
-
-    pub step-writes : (new : List ℕ) → a ≡ Passed → new ≡ stepped (netlist mapped) row area → new ≡ stepArea source s mapped row area
-    unfolding stepArea
-    step-writes new h p = rw (← e, h) p
-
-    pub step-keeps : (number place : ℕ) → a ≡ Refused number place → area ≡ stepArea source s mapped row area
-    unfolding stepArea
-    step-keeps number place h = rw (← e, h)
+  pub step-room : (m : ℕ) → m ≡ recordCount mapped → length area ≡ 2 * m
+  step-room m q = step-passed source s mapped row area .0 (sym e ∙ h) .2 ∙ ap (λ (k : ℕ). 2 * k) (sym q)
 
 module _ (source : List ℕ) (r : ℕ) (outs : List ℕ) (x : ℕ) (e : x ≡ outputs (netlist source)) where
   pub outs-fit : recordCount source ≤ sourceLimit → r ≤ rowLimit → r * x < 2 ^ 64
@@ -195,57 +172,13 @@ module _ (source : List ℕ) (r : ℕ) (outs : List ℕ) (x : ℕ) (e : x ≡ ou
 pub few-rows : (source mapped : List ℕ) (r : ℕ) (rows area : List ℕ) (b : Bool) → b ≡ badRows (netlist source) (netlist mapped) r rows area → b ≡ false → r ≤ rowLimit
 few-rows source mapped r rows area b e h = let g = simp reflect at (sym e ∙ h) in g .0 .0
 
-module _ (source mapped : List ℕ) (r : ℕ) (rows area outs : List ℕ) (b : Bool) (e : b ≡ badRows (netlist source) (netlist mapped) r rows area) where
-  pub run-bad : b ≡ true → Refused 18 0 ≡ runChecks (netlist source) (netlist mapped) r rows area outs
-  unfolding runChecks
-  run-bad h = rw (← e, h)
+module _ (source : List ℕ) (s : ℕ) (mapped : List ℕ) (r : ℕ) (rows area outs : List ℕ) (a : Checked)
+    (e : a ≡ runAnswer source s mapped r rows area outs) (h : a ≡ Passed) where
+  pub run-verified : Passed ≡ verifyChecks source s mapped
+  run-verified = sym (run-passed source s mapped r rows area outs .0 (sym e ∙ h) .0)
 
-  module _ (d : Bool) (f : d ≡ badOutputs (netlist source) r outs) where
-    pub run-outs : b ≡ false → d ≡ true → Refused 18 0 ≡ runChecks (netlist source) (netlist mapped) r rows area outs
-    unfolding runChecks
-    run-outs h k = rw (← e, h, ← f, k)
-
-    pub run-good : (a : Checked) → b ≡ false → d ≡ false → a ≡ bitChecks rows → a ≡ runChecks (netlist source) (netlist mapped) r rows area outs
-    unfolding runChecks
-    run-good a h k q = rw (← e, h, ← f, k) q
-
-module _ (source : List ℕ) (s : ℕ) (mapped : List ℕ) (r : ℕ) (rows area outs : List ℕ) (a : Checked) where
-  pub run-judged : (number place : ℕ) → a ≡ verifyChecks source s mapped → a ≡ Refused number place → Refused number place ≡ runAnswer source s mapped r rows area outs
-  unfolding runAnswer
-  run-judged number place e h = rw (← e, h)
-
-  pub run-checked : (b : Checked) → a ≡ verifyChecks source s mapped → a ≡ Passed → b ≡ runChecks (netlist source) (netlist mapped) r rows area outs → b ≡ runAnswer source s mapped r rows area outs
-  unfolding runAnswer
-  run-checked b e h q = rw (← e, h) q
-
-  module _ (e : a ≡ runAnswer source s mapped r rows area outs) where
-    pub run-areas : a ≡ Passed → IsRun (netlist source) (netlist mapped) r rows area outs
-    run-areas h = run-passed source s mapped r rows area outs .0 (sym e ∙ h) .1
-
-    pub run-few : a ≡ Passed → recordCount source ≤ sourceLimit
-    run-few h = judged-few source s mapped Passed (sym (run-passed source s mapped r rows area outs .0 (sym e ∙ h) .0)) refl
-
-    pub run-named : a ≡ Passed → Named (netlist mapped)
-    run-named h = judged-named source s mapped (run-passed source s mapped r rows area outs .0 (sym e ∙ h) .0)
-
-    pub run-buffered : a ≡ Passed → Buffered mapped (recordCount source)
-    run-buffered h = judged-buffered source s mapped (run-passed source s mapped r rows area outs .0 (sym e ∙ h) .0)
-
-    pub run-state : (new : List ℕ) → a ≡ Passed → new ≡ after (netlist mapped) (inputs (netlist source)) rows (steps (netlist source) r) → new ≡ runArea source s mapped r rows area outs
-    unfolding runArea
-    run-state new h p = rw (← e, h) p
-
-    pub run-rows : (new : List ℕ) → a ≡ Passed → new ≡ outputRows (netlist source) (netlist mapped) rows r → new ≡ runOutputs source s mapped r rows area outs
-    unfolding runOutputs
-    run-rows new h p = rw (← e, h) p
-
-    pub run-keeps-state : (number place : ℕ) → a ≡ Refused number place → area ≡ runArea source s mapped r rows area outs
-    unfolding runArea
-    run-keeps-state number place h = rw (← e, h)
-
-    pub run-keeps-rows : (number place : ℕ) → a ≡ Refused number place → outs ≡ runOutputs source s mapped r rows area outs
-    unfolding runOutputs
-    run-keeps-rows number place h = rw (← e, h)
+  pub run-areas : IsRun (netlist source) (netlist mapped) r rows area outs
+  run-areas = run-passed source s mapped r rows area outs .0 (sym e ∙ h) .1
 
 -- an answer that is known, and is one
 pub answer-is : (a b c : Checked) → a ≡ b → a ≡ c → c ≡ b

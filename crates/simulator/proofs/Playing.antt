@@ -161,13 +161,14 @@ pub after-more : (mapped : List ℕ) (w : ℕ) (rows : List ℕ) (k : ℕ) (row 
 unfolding after
 after-more mapped w rows k row state new e f g = rw (← f, ← e) g
 
+-- the numbers of a run, as the loops hold them
+abbrev shape : (w n m deep wide : ℕ) → Shape
+shape w n m deep wide = record { sources = n; inputs = w; outputs = wide; records = m; depth = deep }
+
 -- the state area is k of the first D steps on
 pub record Warming (mapped rows : List ℕ) (w n m deep k : ℕ) (state old : List ℕ) : Type 0 where
-  pub records : m ≡ recordCount mapped
-  pub named : Named (netlist mapped)
-  pub buffered : Buffered mapped n
-  pub narrow : w ≤ sourceLimit
-  pub shallow : deep < 2 ^ 16
+  pub wide : ℕ
+  pub steps : Steppable mapped (shape w n m deep wide)
   pub within : k ≤ deep
   pub long : length state ≡ 2 * m
   pub same : length state ≡ length old
@@ -178,11 +179,8 @@ module _ (mapped rows : List ℕ) where
       Warming mapped rows (p .inputs) (p .sources) (p .records) (p .depth) 0 state state
   warming-start p state s e =
       record {
-        records = s .records;
-        named = s .named;
-        buffered = s .buffered;
-        narrow = s .narrow;
-        shallow = s .shallow;
+        wide = p .outputs;
+        steps = s;
         within = omega arith;
         long = state-long mapped (p .inputs) rows 0 (p .records) state e (s .records);
         same = refl;
@@ -193,13 +191,10 @@ module _ (mapped rows : List ℕ) where
     pub warming-more : (row new : List ℕ) → k < deep → row ≡ rowAt w rows k → new ≡ stepped (netlist mapped) row state → Warming mapped rows w n m deep (k + 1) new old
     warming-more row new h e f =
         let next = after-more mapped w rows k row state new (c .so-far) e f in
-        let long = state-long mapped w rows (suc k) m new next (c .records) in
+        let long = state-long mapped w rows (suc k) m new next (c .steps .records) in
         record {
-          records = c .records;
-          named = c .named;
-          buffered = c .buffered;
-          narrow = c .narrow;
-          shallow = c .shallow;
+          wide = c .wide;
+          steps = c .steps;
           within = omega arith;
           long = long;
           same = long ∙ sym (c .long) ∙ c .same;
@@ -213,17 +208,8 @@ module _ (mapped rows : List ℕ) where
 
 -- the state area is D + t steps on, and the first t output rows are written
 pub record Playing (source mapped rows : List ℕ) (count w n m deep wide t : ℕ) (state first outs old : List ℕ) : Type 0 where
-  pub records : m ≡ recordCount mapped
-  pub named : Named (netlist mapped)
-  pub buffered : Buffered mapped n
-  pub narrow : w ≤ sourceLimit
-  pub shallow : deep < 2 ^ 16
-  pub few : count ≤ rowLimit
-  pub inputs : w ≡ Counts.inputs (netlist source)
-  pub outputs : wide ≡ Counts.outputs (netlist source)
-  pub depth : deep ≡ Records.depth (netlist source)
+  pub ready : Playable source mapped (shape w n m deep wide) count old
   pub within : t ≤ count
-  pub room : length old ≡ count * wide
   pub same : length outs ≡ length old
   pub long : length state ≡ 2 * m
   pub kept : length state ≡ length first
@@ -235,21 +221,11 @@ module _ (source mapped rows : List ℕ) (count : ℕ) where
       Playing source mapped rows count (p .inputs) (p .sources) (p .records) (p .depth) (p .outputs) 0 state state outs outs
   unfolding outputRows
   playing-start p state outs s e =
-      let g = s .shape in
       record {
-        records = g .steps .records;
-        named = g .steps .named;
-        buffered = g .steps .buffered;
-        narrow = g .steps .narrow;
-        shallow = g .steps .shallow;
-        few = s .few;
-        inputs = g .inputs;
-        outputs = g .outputs;
-        depth = g .depth;
+        ready = s;
         within = omega arith;
-        room = s .room;
         same = refl;
-        long = state-long mapped (p .inputs) rows (p .depth) (p .records) state e (g .steps .records);
+        long = state-long mapped (p .inputs) rows (p .depth) (p .records) state e (s .shape .steps .records);
         kept = refl;
         so-far = e ∙ ap (after (netlist mapped) (p .inputs) rows) (sym (zero-add (p .depth)));
         done = rw (zero-mul (p .outputs)) (written-none outs);
@@ -257,13 +233,13 @@ module _ (source mapped rows : List ℕ) (count : ℕ) where
 
   module _ (w n m deep wide t : ℕ) (state first outs old : List ℕ) (c : Playing source mapped rows count w n m deep wide t state first outs old) (h : t < count) where
     fits : t * wide + wide ≤ length old
-    fits = rw (c .room, ← suc-mul t wide) (mul-le-mul-right wide h)
+    fits = rw (c .ready .room, ← suc-mul t wide) (mul-le-mul-right wide h)
 
     pub playing-room : t * wide + wide ≤ length outs
     playing-room = rw (c .same) fits
 
     pub playing-turn : t + deep < 2 ^ 17
-    playing-turn = omega (arith, c .few, c .shallow)
+    playing-turn = omega (arith, c .ready .few, c .ready .shape .steps .shallow)
 
     pub playing-more : (row new out : List ℕ) → row ≡ rowAt w rows (t + deep) → new ≡ stepped (netlist mapped) row state →
         out ≡ take (t * wide) outs ++ (outputRow (netlist source) new ++ drop (t * wide + wide) outs) →
@@ -271,17 +247,8 @@ module _ (source mapped rows : List ℕ) (count : ℕ) where
     unfolding outputRows
     playing-more row new out e f g =
         record {
-          records = c .records;
-          named = c .named;
-          buffered = c .buffered;
-          narrow = c .narrow;
-          shallow = c .shallow;
-          few = c .few;
-          inputs = c .inputs;
-          outputs = c .outputs;
-          depth = c .depth;
+          ready = c .ready;
           within = omega arith;
-          room = c .room;
           same = length-written _ (suc t * wide) out old done (rw (suc-mul t wide) fits);
           long = long;
           kept = long ∙ sym (c .long) ∙ c .kept;
@@ -293,24 +260,26 @@ module _ (source mapped rows : List ℕ) (count : ℕ) where
         next = after-more mapped w rows (t + deep) row state new (c .so-far) e f
 
         long : length new ≡ 2 * m
-        long = state-long mapped w rows (suc (t + deep)) m new next (c .records)
+        long = state-long mapped w rows (suc (t + deep)) m new next (c .ready .shape .steps .records)
 
         row-is : outputRow (netlist source) new ≡ outputRow (netlist source) (after (netlist mapped) (Counts.inputs (netlist source)) rows (suc (t + Records.depth (netlist source))))
         row-is =
             ap (outputRow (netlist source))
-            (next ∙ ap₂ (λ (a b : ℕ). after (netlist mapped) a rows (suc (t + b))) (c .inputs) (c .depth))
+            (next ∙ ap₂ (λ (a b : ℕ). after (netlist mapped) a rows (suc (t + b))) (c .ready .shape .inputs) (c .ready .shape .depth))
 
         done : Written (outputRows (netlist source) (netlist mapped) rows (suc t)) (suc t * wide) out old
         done =
             record {
-              long = length-outputRows (netlist source) (netlist mapped) rows (suc t) ∙ ap (λ (x : ℕ). suc t * x) (sym (c .outputs));
+              long = length-outputRows (netlist source) (netlist mapped) rows (suc t) ∙ ap (λ (x : ℕ). suc t * x) (sym (c .ready .shape .outputs));
               parts =
-                  g
-                  ∙ ap₂ (λ (x z : List ℕ). x ++ (outputRow (netlist source) new ++ z))
-                  (take-written _ (t * wide) outs old (c .done))
-                  (drop-written _ (t * wide) (t * wide + wide) outs old (c .done) (omega arith))
-                  ∙ sym (append-assoc (outputRows (netlist source) (netlist mapped) rows t) (outputRow (netlist source) new) (drop (t * wide + wide) old))
-                  ∙ ap₂ (λ (x : List ℕ) (k : ℕ). (outputRows (netlist source) (netlist mapped) rows t ++ x) ++ drop k old) row-is (sym (suc-mul t wide));
+                  rw (
+                    g,
+                    take-written _ (t * wide) outs old (c .done),
+                    drop-written _ (t * wide) (t * wide + wide) outs old (c .done) (omega arith),
+                    ← append-assoc (outputRows (netlist source) (netlist mapped) rows t),
+                    row-is,
+                    suc-mul t wide,
+                  );
             }
 
   module _ (w n m deep wide t : ℕ) (state first outs old : List ℕ) (c : Playing source mapped rows count w n m deep wide t state first outs old) (h : count ≤ t) where
@@ -322,7 +291,7 @@ module _ (source mapped rows : List ℕ) (count : ℕ) where
 
     pub playing-outs : outs ≡ outputRows (netlist source) (netlist mapped) rows count
     playing-outs =
-        written-all _ (t * wide) outs old (c .done) (rw (c .room, last) (omega arith))
+        written-all _ (t * wide) outs old (c .done) (rw (c .ready .room, last) (omega arith))
         ∙ ap (outputRows (netlist source) (netlist mapped) rows) last
 
 -- a whole run, as its parts leave the areas
@@ -350,6 +319,4 @@ module _ (source mapped rows : List ℕ) (r : ℕ) (area outs : List ℕ) (run :
 pub played-state : (source mapped rows : List ℕ) (r : ℕ) (p : Shape) (state : List ℕ) → (r ≡ 0 → ⊥) → ShapeOf source mapped p → state ≡ after (netlist mapped) (p .inputs) rows (r + p .depth) →
     state ≡ after (netlist mapped) (Counts.inputs (netlist source)) rows (steps (netlist source) r)
 played-state source mapped rows r p state h s e =
-    e
-    ∙ ap₂ (λ (w d : ℕ). after (netlist mapped) w rows (r + d)) (s .inputs) (s .depth)
-    ∙ ap (λ (b : Bool). after (netlist mapped) (Counts.inputs (netlist source)) rows (cond b 0 (r + Records.depth (netlist source)))) (sym (ne-eqb r 0 h))
+    rw (ne-eqb r 0 h, ← s .inputs, ← s .depth) e

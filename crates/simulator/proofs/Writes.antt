@@ -4,7 +4,7 @@ use mathlib.Core.Path.{_≡_, refl, sym, _∙_, ap, ap₂, subst, subst₂}
 use mathlib.Core.Bool.{Bool, false, not}
 use mathlib.Core.List.{List, [], _∷_, _++_, append-assoc}
 use native.Mathlib.Omega.{arith}
-use native.Mathlib.Nat.{add-sub-of-le, add-zero, sub-zero, sub-self}
+use native.Mathlib.Nat.{add-sub-of-le, add-suc, add-zero, sub-zero, sub-self}
 use native.Mathlib.Numerals.{add-one}
 use native.Mathlib.Decide.{decLt}
 use lib.ListN.{length, getD, take, drop, set, length-set, length-drop, List·getD-eq-default, List·getD-append}
@@ -48,27 +48,24 @@ module _ (m : ℕ) (old : List ℕ) where
   -- the first half is not written
   first-half : (area : List ℕ) (i : ℕ) → Keeping m area old i → i < m → on area i ≡ on old i
   first-half area i k h =
-      ap (λ (x : ℕ). not (eqb x 0))
-      (ap (λ (l : List ℕ). getD l i 0) (k .so-far .parts)
-      ∙ List·getD-append (take m old ++ older i old) _ 0 i (omega (arith, k .so-far .long))
-      ∙ List·getD-append (take m old) _ 0 i (omega (arith, length-take-le m old (omega (arith, k .whole))))
-      ∙ getD-take m old i 0 h)
+      rw (
+        k .so-far .parts,
+        List·getD-append (take m old ++ older i old) (drop (m + i) old) 0 i (omega (arith, k .so-far .long)),
+        List·getD-append (take m old) (older i old) 0 i (omega (arith, length-take-le m old (omega (arith, k .whole)))),
+        getD-take m old i 0 h,
+      )
 
   pub keeping-more : (area : List ℕ) (i b : ℕ) → Keeping m area old i → i < m → b ≡ bit (not (eqb (getD area i 0) 0)) → Keeping m (set area (m + i) b) old (i + 1)
   unfolding older
   keeping-more area i b k h f =
-      let w = written-more (take m old ++ older i old) (m + i) b area old (k .so-far) (omega (arith, k .whole)) in
+      let value : b ≡ bit (on old i) = f ∙ ap bit (first-half area i k h) in
       record {
         within = omega arith;
         whole = k .whole;
         same = length-set area (m + i) b ∙ k .same;
         so-far =
-            subst₂ (λ (l : List ℕ) (n : ℕ). Written l n (set area (m + i) b) old)
-            (append-assoc (take m old) (older i old) (b ∷ [])
-            ∙ ap (λ (x : ℕ). take m old ++ (older i old ++ (x ∷ []))) (f ∙ ap bit (first-half area i k h))
-            ∙ ap (λ (n : ℕ). take m old ++ older n old) (sym (add-one i)))
-            (omega arith)
-            w;
+            rw (add-one i, add-suc m i, ← append-assoc (take m old) (older i old), ← value)
+            (written-more _ (m + i) b area old (k .so-far) (omega (arith, k .whole)));
       }
 
   pub keeping-end : (area : List ℕ) (i : ℕ) → Keeping m area old i → m ≤ i → area ≡ take m old ++ older m old
@@ -111,18 +108,16 @@ module _ (bytes : List ℕ) (n : ℕ) (old : List ℕ) where
     unfolding next valueIn
     right = rw (byte, p .inputs)
 
-    passing-more : Passing bytes n (new ++ (bit (next (netlist bytes) row (on held) i) ∷ [])) (given + one) (i + 1) (set area i b) old
+    passing-more : Passing bytes n (new ++ (bit (next (netlist bytes) row (on held) i) ∷ [])) (given + one) (suc i) (set area i b) old
     unfolding count sum
     passing-more =
         record {
           within = omega arith;
           few = omega (arith, p .few, bit-le (eqb x input));
-          inputs = rw (add-one i, ← kind) (omega (arith, p .inputs));
+          inputs = rw (← kind) (omega (arith, p .inputs));
           room = p .room;
           same = length-set area i b ∙ p .same;
-          so-far =
-              rw (add-one i, ← right)
-              (written-more new i b area old (p .so-far) (omega (arith, p .room)));
+          so-far = rw (← right) (written-more new i b area old (p .so-far) (omega (arith, p .room)));
         }
 
   pub passing-fits : (given i one : ℕ) (new area : List ℕ) (x : Bool) → Passing bytes n new given i area old → i < n → one ≡ bit x → n < 2 ^ 64 → given + one < 2 ^ 64
@@ -141,8 +136,7 @@ module _ (bytes row : List ℕ) (n : ℕ) (old : List ℕ) where
   unfolding values
   filling-more given i area b x one p h byte kind more =
       let t : take (i - 0) area ≡ values (netlist bytes) row i = rw (sub-zero i) (take-written _ i area old (p .so-far)) in
-      subst (λ (l : List ℕ). Passing bytes n l (given + one) (i + 1) (set area i b) old)
-      (sym (ap (values (netlist bytes) row) (add-one i)))
+      rw (add-one i)
       (passing-more bytes n old given i row (values (netlist bytes) row i) _ area b x one p h (rw t at byte) kind more)
 
   -- a source's slots name what is written
@@ -177,8 +171,7 @@ module _ (bytes row : List ℕ) (n m : ℕ) (old : List ℕ) where
       take-all (length area - m) (drop m area) (simp length-drop (omega arith))
       ∙ drop-written _ i m area old (p .so-far) (omega arith)
       in
-      subst (λ (l : List ℕ). Passing bytes n l (given + one) (i + 1) (set area i b) old)
-      (sym (ap (renewedBelow (netlist bytes) row (drop m old)) (add-one i)))
+      rw (add-one i)
       (passing-more bytes n old given i row (drop m old) _ area b x one p h (rw t at byte) kind more)
 
   -- a mapped netlist's slots name what the second half holds
@@ -219,10 +212,7 @@ module _ (mapped : List ℕ) (n m : ℕ) (old : List ℕ) where
         within = omega (arith, s .within);
         same = refl;
         so-far =
-            subst₂ (λ (j k : ℕ). Written (take n old ++ copied mapped (drop m old) n j) k old old)
-            (sym (sub-self n))
-            (add-zero n)
-            (written-part n old (omega (arith, s .within)));
+            rw (sub-self n) (rw (add-zero n) at (written-part n old (omega (arith, s .within))));
       }
 
   module _ (k : ℕ) (area : List ℕ) (c : Copying mapped n m k area old) (r : ℕ) (q : r ≡ recordCount mapped) (h : k < r) (x : ℕ) (e : x ≡ slot (recordAt mapped k) 0) where
@@ -242,15 +232,11 @@ module _ (mapped : List ℕ) (n m : ℕ) (old : List ℕ) where
           within = omega (arith, c .records);
           same = length-set area k y ∙ c .same;
           so-far =
-              subst₂ (λ (l : List ℕ) (i : ℕ). Written l i (set area k y) old)
-              (append-assoc (take n old) (copied mapped (drop m old) n (k - n)) _
-              ∙ ap (λ (b : ℕ). take n old ++ (copied mapped (drop m old) n (k - n) ++ (b ∷ []))) right
-              ∙ ap (λ (i : ℕ). take n old ++ copied mapped (drop m old) n i) (sym next))
-              (sym (add-one k))
+              rw (add-one k, next, ← append-assoc (take n old) (copied mapped (drop m old) n (k - n)), ← right)
               (written-more _ k y area old (c .so-far) (omega (arith, c .whole, c .records)));
         }
       where
-        next : k + 1 - n ≡ suc (k - n)
+        next : suc k - n ≡ suc (k - n)
         next = omega (arith, c .from)
 
         here : n + (k - n) ≡ k
@@ -262,7 +248,7 @@ module _ (mapped : List ℕ) (n m : ℕ) (old : List ℕ) where
             ∙ drop-written _ k m area old (c .so-far) (c .within)
 
         right : y ≡ getD (drop m old) (slot (recordAt mapped (n + (k - n))) 0) 0
-        right = byte ∙ ap₂ (λ (l : List ℕ) (i : ℕ). getD l i 0) half (e ∙ ap (λ (i : ℕ). slot (recordAt mapped i) 0) (sym here))
+        right = rw (here, ← e, ← half) byte
 
   pub copying-end : (k : ℕ) (area : List ℕ) → Copying mapped n m k area old → (r : ℕ) → r ≡ recordCount mapped → r ≤ k →
       area ≡ (take n old ++ copied mapped (drop m old) n (m - n)) ++ drop m old
@@ -275,14 +261,12 @@ on-older : (m : ℕ) (area : List ℕ) (i : ℕ) → m ≤ length area → on (o
 unfolding older
 on-older m area i h =
     elim (decLt i m) [
-      | yes l ↦
-          ap (λ (x : ℕ). not (eqb x 0)) (getD-tabulate _ m i 0 l)
-          ∙ on-bit (on area i)
-          ∙ ap (λ (x : ℕ). not (eqb x 0)) (sym (getD-take m area i 0 l))
+      | yes l ↦ rw (getD-tabulate (λ i. bit (on area i)) m i 0 l, getD-take m area i 0 l) (on-bit (on area i))
       | no l ↦
-          ap (λ (x : ℕ). not (eqb x 0))
-          (List·getD-eq-default (older m area) 0 (omega (arith, length-older m area))
-          ∙ sym (List·getD-eq-default (take m area) 0 (omega (arith, length-take-le m area h))))
+          rw (
+            List·getD-eq-default (older m area) 0 {n = i} (omega (arith, length-older m area)),
+            List·getD-eq-default (take m area) 0 {n = i} (omega (arith, length-take-le m area h)),
+          )
     ]
 
 renewed-cong : (m : Netlist) (row : List ℕ) (n : ℕ) (a b : List ℕ) → ((i : ℕ) → on a i ≡ on b i) → renewedBelow m row a n ≡ renewedBelow m row b n
@@ -323,11 +307,7 @@ pub stepped-in-place : (mapped row : List ℕ) (n m : ℕ) (old kept new area : 
     area ≡ (take n new ++ copied mapped (drop m new) n (m - n)) ++ drop m new → area ≡ stepped (netlist mapped) row old
 unfolding stepped
 stepped-in-place mapped row n m old kept new area s e h p q r =
-    r
-    ∙ ap₂ (λ (x z : List ℕ). (x ++ copied mapped z n (m - n)) ++ z) (take-written _ n new kept w) (drop-written _ n m new kept w fits)
-    ∙ ap (λ (z : List ℕ). (renewedBelow (netlist mapped) row z n ++ copied mapped z n (m - n)) ++ z) second
-    ∙ ap (λ (l : List ℕ). l ++ older m old) (sym joined ∙ same)
-    ∙ ap (λ (k : ℕ). renewedBelow (netlist mapped) row (take k old) k ++ older k old) e
+    rw (r, take-written _ n new kept w, drop-written _ n m new kept w fits, second, ← joined, same, e)
   where
     fits : n ≤ m
     fits = omega (arith, s .within)
@@ -342,10 +322,7 @@ stepped-in-place mapped row n m old kept new area s e h p q r =
         renewedBelow (netlist mapped) row (older m old) m
         ≡ renewedBelow (netlist mapped) row (older m old) n ++ copied mapped (older m old) n (m - n)
     joined =
-        subst
-        (λ (x : ℕ). renewedBelow (netlist mapped) row (older x old) x ≡ renewedBelow (netlist mapped) row (older x old) n ++ copied mapped (older x old) n (m - n))
-        (add-sub-of-le fits)
-        (renewed-copied mapped row n (m - n) old s (omega arith))
+        rw (add-sub-of-le fits) at (renewed-copied mapped row n (m - n) old s (omega arith))
 
     same : renewedBelow (netlist mapped) row (older m old) m ≡ renewedBelow (netlist mapped) row (take m old) m
     same = renewed-cong (netlist mapped) row m (older m old) (take m old) (λ i. on-older m old i (omega arith))

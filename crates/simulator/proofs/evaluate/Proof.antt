@@ -1,5 +1,6 @@
 -- `evaluate` meets its contract: the area is written where the checks passed, and is as it was where they did not.
-use Rattle.simulator.proofs.Checks.{answer-is, evaluate-source-is, evaluate-room, evaluate-writes, evaluate-keeps}
+use Rattle.simulator.proofs.Checks.{answer-is, evaluate-source-is, evaluate-room, evaluated, area-writes, area-keeps}
+use Rattle.simulator.specs.Evaluate.{evaluateArea}
 use borrow.Author.Needs.{needs}
 use Rattle.simulator.proofs.evaluate.Statement.{statement}
 use Rattle.simulator.proofs.evaluate.Tie as tie
@@ -23,13 +24,15 @@ same-length : tie.Need-same-length
 same-length c = search needs
 
 returns : tie.Need-returns
-returns c = (search answer-is, search evaluate-writes)
+unfolding evaluateArea
+returns c = (search answer-is, search (area-writes, evaluated))
 
 same-length-2 : tie.Need-same-length-2
 same-length-2 c = search needs
 
 returns-2 : tie.Need-returns-2
-returns-2 c = (search answer-is, search evaluate-keeps)
+unfolding evaluateArea
+returns-2 c = (search answer-is, search area-keeps)
 
 pub evaluate-spec : {M : Type 1} → statement M
 evaluate-spec =

@@ -1,5 +1,6 @@
 -- `step` meets its contract: the area is one step on where the checks passed, and is as it was where they did not.
-use Rattle.simulator.proofs.Checks.{answer-is, step-named, step-buffered, step-room, step-writes, step-keeps}
+use Rattle.simulator.proofs.Checks.{answer-is, step-named, step-buffered, step-room, area-writes, area-keeps}
+use Rattle.simulator.specs.Step.{stepArea}
 use borrow.Author.Needs.{needs}
 use Rattle.simulator.proofs.step.Statement.{statement}
 use Rattle.simulator.proofs.step.Tie as tie
@@ -26,13 +27,15 @@ same-length : tie.Need-same-length
 same-length c = search needs
 
 returns : tie.Need-returns
-returns c = (search answer-is, search step-writes)
+unfolding stepArea
+returns c = (search answer-is, search area-writes)
 
 same-length-2 : tie.Need-same-length-2
 same-length-2 c = search needs
 
 returns-2 : tie.Need-returns-2
-returns-2 c = (search answer-is, search step-keeps)
+unfolding stepArea
+returns-2 c = (search answer-is, search area-keeps)
 
 pub step-spec : {M : Type 1} → statement M
 step-spec =

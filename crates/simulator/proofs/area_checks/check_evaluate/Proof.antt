@@ -1,5 +1,6 @@
 -- `check_evaluate` meets its contract: the source is checked first, the areas where it passed.
-use Rattle.simulator.proofs.Checks.{answer-is, evaluate-source, evaluate-areas}
+use Rattle.simulator.proofs.Checks.{answer-is, then-stop, then-go}
+use Rattle.simulator.specs.Evaluate.{evaluateAnswer}
 use borrow.Author.Needs.{needs}
 use Rattle.simulator.proofs.area_checks.check_evaluate.Statement.{statement}
 use Rattle.simulator.proofs.area_checks.check_evaluate.Tie as tie
@@ -17,10 +18,12 @@ enum-known-checked : tie.Need-enum-known-checked
 enum-known-checked c = search needs
 
 returns : tie.Need-returns
-returns c = search evaluate-areas
+unfolding evaluateAnswer
+returns c = search then-go
 
 returns-2 : tie.Need-returns-2
-returns-2 c = search evaluate-source
+unfolding evaluateAnswer
+returns-2 c = search then-stop
 
 pub check-evaluate-spec : {M : Type 1} → statement M
 check-evaluate-spec =

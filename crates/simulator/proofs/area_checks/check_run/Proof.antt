@@ -1,5 +1,6 @@
 -- `check_run` meets its contract: the verifier first, the areas where it accepted.
-use Rattle.simulator.proofs.Checks.{judged-few, run-judged, run-checked}
+use Rattle.simulator.proofs.Checks.{judged-few, then-stop, then-go}
+use Rattle.simulator.specs.Run.{runAnswer}
 use borrow.Author.Needs.{needs}
 use Rattle.simulator.proofs.area_checks.check_run.Statement.{statement}
 use Rattle.simulator.proofs.area_checks.check_run.Tie as tie
@@ -17,10 +18,12 @@ enum-known-judged : tie.Need-enum-known-judged
 enum-known-judged c = search needs
 
 returns : tie.Need-returns
-returns c = search run-checked
+unfolding runAnswer
+returns c = search then-go
 
 returns-2 : tie.Need-returns-2
-returns-2 c = search run-judged
+unfolding runAnswer
+returns-2 c = search then-stop
 
 pub check-run-spec : {M : Type 1} → statement M
 check-run-spec =

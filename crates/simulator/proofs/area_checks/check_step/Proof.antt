@@ -1,5 +1,6 @@
 -- `check_step` meets its contract: the verifier first, the areas where it accepted.
-use Rattle.simulator.proofs.Checks.{judged-few, step-judged, step-checked}
+use Rattle.simulator.proofs.Checks.{judged-few, then-stop, then-go}
+use Rattle.simulator.specs.Step.{stepAnswer}
 use borrow.Author.Needs.{needs}
 use Rattle.simulator.proofs.area_checks.check_step.Statement.{statement}
 use Rattle.simulator.proofs.area_checks.check_step.Tie as tie
@@ -17,10 +18,12 @@ enum-known-judged : tie.Need-enum-known-judged
 enum-known-judged c = search needs
 
 returns : tie.Need-returns
-returns c = search step-checked
+unfolding stepAnswer
+returns c = search then-go
 
 returns-2 : tie.Need-returns-2
-returns-2 c = search step-judged
+unfolding stepAnswer
+returns-2 c = search then-stop
 
 pub check-step-spec : {M : Type 1} → statement M
 check-step-spec =
