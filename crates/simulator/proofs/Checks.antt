@@ -21,13 +21,13 @@ use Rattle.netlist.proofs.Source.{source-passed}
 use Rattle.verifier.specs.Checks.{verifyChecks}
 use Rattle.verifier.proofs.Accepted.{checks-passed}
 use Rattle.simulator.specs.Logic.{values}
-use Rattle.simulator.specs.Evaluate.{bitCheck, bitChecks, badAreas, evaluateChecks, evaluateAnswer, evaluateArea}
+use Rattle.simulator.specs.Evaluate.{bitCheck, bitChecks, badAreas, evaluateAnswer}
 use Rattle.netlist.specs.Source.{IsSource}
 use Rattle.netlist.specs.Balance.{Named}
 use Rattle.netlist.specs.Counts.{isInput, inputs, outputs}
-use Rattle.simulator.specs.Step.{rowLimit, badRows, stepped, stepChecks, stepAnswer, stepArea}
+use Rattle.simulator.specs.Step.{rowLimit, badRows, stepAnswer}
 use Rattle.simulator.specs.PrivateStep.{Buffered}
-use Rattle.simulator.specs.Run.{after, steps, outputRows, badOutputs, runChecks, runAnswer, runArea, runOutputs}
+use Rattle.simulator.specs.Run.{badOutputs, runAnswer}
 use Rattle.simulator.specs.PrivateRun.{IsRun}
 use Rattle.simulator.proofs.Accepted.{evaluate-passed, step-passed, run-passed}
 
@@ -103,9 +103,6 @@ rows-short : (r x n : ℕ) → r ≤ rowLimit → x ≤ n → n ≤ sourceLimit 
 rows-short r x n h k l = mul-le-mul h (le-trans k l)
 
 module _ (source mapped : List ℕ) (r : ℕ) (rows area : List ℕ) where
-  pub rows-many : rowLimit < r → true ≡ badRows (netlist source) (netlist mapped) r rows area
-  rows-many h = rw (lt-ltb rowLimit r h)
-
   module _ (x : ℕ) (e : x ≡ inputs (netlist source)) (h : r ≤ rowLimit) where
     pub product-fits : recordCount source ≤ sourceLimit → r * x < 2 ^ 64
     product-fits l =

@@ -16,13 +16,12 @@ use Rattle.facts.proofs.Areas.{Written, length-written, take-written, drop-writ
 use Rattle.netlist.specs.Kinds.{sourceLimit, output}
 use Rattle.netlist.specs.Records.{netlist, recordAt, recordCount, isOutput}
 use Rattle.netlist.specs.Records
-use Rattle.netlist.specs.Balance.{Named}
 use Rattle.netlist.specs.Counts.{isInput, inputs, outputs}
 use Rattle.netlist.specs.Counts
 use Rattle.simulator.specs.Logic.{outputsBelow, outputRow}
 use Rattle.simulator.specs.Run.{rowAt, after, steps, outputRows}
 use Rattle.simulator.specs.PrivateRun.{OutputRoom, putOutput, Steppable, ShapeOf, Playable, IsRun}
-use Rattle.simulator.specs.Step.{rowLimit, stepped}
+use Rattle.simulator.specs.Step.{stepped}
 use Rattle.simulator.specs.PrivateStep.{Buffered}
 use Rattle.simulator.specs.declared.Shape.{Shape}
 use Rattle.simulator.proofs.Rows.{length-after, length-outputRows}
@@ -75,9 +74,6 @@ module _ (source state : List ℕ) (n : ℕ) (old : List ℕ) where
 
     pub collecting-room : OutputRoom (eqb x output) k row
     collecting-room = record { room = λ t. rw (c .same) (inside (rw e at t)) }
-
-    pub collecting-fits : n < 2 ^ 63 → k < 2 ^ 63
-    collecting-fits l = omega (arith, c .few)
 
     pub collecting-more : (b next : ℕ) (after : List ℕ) → b ≡ getD state i 0 → next ≡ k + bit (eqb x output) →
         after ≡ putOutput (eqb x output) k b row → Collecting source state n next (i + 1) after old
@@ -237,9 +233,6 @@ module _ (source mapped rows : List ℕ) (count : ℕ) where
 
     pub playing-room : t * wide + wide ≤ length outs
     playing-room = rw (c .same) fits
-
-    pub playing-turn : t + deep < 2 ^ 17
-    playing-turn = omega (arith, c .ready .few, c .ready .shape .steps .shallow)
 
     pub playing-more : (row new out : List ℕ) → row ≡ rowAt w rows (t + deep) → new ≡ stepped (netlist mapped) row state →
         out ≡ take (t * wide) outs ++ (outputRow (netlist source) new ++ drop (t * wide + wide) outs) →

@@ -1,14 +1,14 @@
 -- The run is the step over and over: its state area is what R + D one-step calls from zeros leave, none of them refused.
 use Prim.Native.Nat.{ℕ, zero, suc, _+_, _*_, _<_, _≤_}
 use mathlib.Core.Path.{_≡_, refl, sym, _∙_, ap, ap₂}
-use mathlib.Core.Bool.{Bool, true, false, cond, not}
+use mathlib.Core.Bool.{Bool, true, false, cond}
 use mathlib.Core.List.{List, [], _∷_, _++_}
 use native.Mathlib.Omega.{arith}
 use native.Mathlib.Decide.{decLt}
 use native.Mathlib.Nat.{suc-mul, mul-le-mul-right}
 use lib.ListN.{length, take, drop, replicate, length-drop, length-replicate, getD-replicate, drop-of-length-le}
 use lib.Seq.{length-take-le, getD-take, getD-drop, take-nil}
-use lib.Dec.{ltb, eqb}
+use lib.Dec.{ltb}
 use borrow.Author.Tests.{lt-ltb, le-ltb, ltb-true, ne-eqb}
 use Rattle.facts.specs.declared.Checked.{Checked}
 use Rattle.facts.specs.declared.Checked.the-variants.{Passed, Refused}
@@ -64,11 +64,9 @@ module _ (n : Netlist) (m : Netlist) (r : ℕ) (rows area outs : List ℕ) (run 
   row-same : (k i : ℕ) → on (rowOfStep (inputs n) rows r k) i ≡ on (rowAt (inputs n) rows k) i
   row-same k i =
       elim (decLt k r) [
-        | yes l ↦ ap (λ (b : Bool). on (cond b (rowAt (inputs n) rows k) (replicate (inputs n) 0)) i) (lt-ltb k r l)
+        | yes l ↦ rw (lt-ltb k r l)
         | no l ↦
-            ap (λ (b : Bool). on (cond b (rowAt (inputs n) rows k) (replicate (inputs n) 0)) i) (le-ltb k r (omega arith))
-            ∙ ap (λ (x : ℕ). not (eqb x 0)) (getD-replicated (inputs n) i 0)
-            ∙ sym (ap (λ (l : List ℕ). on l i) (rows-spent k (omega arith)))
+            let spent : r ≤ k = omega arith in rw (le-ltb k r spent, getD-replicated (inputs n) i 0, rows-spent k spent)
       ]
 
   -- and is a row

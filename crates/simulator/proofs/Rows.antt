@@ -1,6 +1,6 @@
 -- The phase run: its output row t is plain logic's for row t.
 use Prim.Native.Nat.{ℕ, zero, suc, _+_, _*_, _<_, _≤_}
-use mathlib.Core.Path.{_≡_, refl, sym, _∙_, ap, subst}
+use mathlib.Core.Path.{_≡_, refl, sym, _∙_, ap}
 use mathlib.Core.Bool.{Bool, true, false, cond}
 use mathlib.Core.List.{List, [], _∷_, _++_}
 use native.Mathlib.Omega.{arith}
@@ -66,7 +66,7 @@ module _ (n m : Netlist) (rows : List ℕ) where
         | yes h ↦ rowAt-before (outputs n) (outputRows n m rows r) _ r t (length-outputRows r) h ∙ outputRows-at r t h
         | no h ↦
             (let e : r ≡ t = omega arith in
-            subst (λ (k : ℕ). rowAt (outputs n) (outputRows n m rows (suc r)) k ≡ outputRow n (after m (inputs n) rows (suc (k + depth n)))) e
+            rw (← e)
             (rowAt-last (outputs n) (outputRows n m rows r) _ r (length-outputRows r) (length-outputs n _ (n .size))))
       ]
 

@@ -1,12 +1,10 @@
 -- Laws of one step: its lengths, and what its first half holds.
 use Prim.Native.Nat.{ℕ, _*_, _<_}
-use mathlib.Core.Path.{_≡_, sym, _∙_, ap}
-use mathlib.Core.Bool.{not}
+use mathlib.Core.Path.{_≡_, _∙_}
 use mathlib.Core.List.{List}
 use native.Mathlib.Omega.{arith}
 use lib.ListN.{length, getD, take, length-append}
 use lib.Seq.{take-at, getD-take}
-use lib.Dec.{eqb}
 use Rattle.facts.specs.Sums.{bit}
 use Rattle.facts.proofs.Lists.{length-tabulate, getD-tabulate}
 use Rattle.facts.proofs.Sums.{on-bit}
@@ -37,13 +35,10 @@ module _ (m : Netlist) (row area : List ℕ) where
   pub stepped-at : (i : ℕ) → i < m .size → getD (stepped m row area) i 0 ≡ bit (next m row (on (take (m .size) area)) i)
   unfolding renewedBelow
   stepped-at i l =
-      sym (getD-take (m .size) (stepped m row area) i 0 l)
-      ∙ ap (λ (xs : List ℕ). getD xs i 0) take-stepped
-      ∙ getD-tabulate _ (m .size) i 0 l
+      rw (← getD-take (m .size) (stepped m row area) i 0 l, take-stepped) (getD-tabulate _ (m .size) i 0 l)
 
   -- the step equation
   pub stepped-on : (i : ℕ) → i < m .size →
       on (take (m .size) (stepped m row area)) i ≡ next m row (on (take (m .size) area)) i
   stepped-on i l =
-      ap (λ (x : ℕ). not (eqb x 0)) (getD-take (m .size) (stepped m row area) i 0 l ∙ stepped-at i l)
-      ∙ on-bit (next m row (on (take (m .size) area)) i)
+      rw (getD-take (m .size) (stepped m row area) i 0 l, stepped-at i l) (on-bit (next m row (on (take (m .size) area)) i))

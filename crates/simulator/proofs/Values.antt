@@ -1,5 +1,5 @@
 -- Laws of a record's value, with premises as the code has them.
-use Prim.Native.Nat.{ℕ, zero, suc, _+_, _/_, _%_, _^_, _<_, _≤_}
+use Prim.Native.Nat.{ℕ, zero, suc, _+_, _/_, _^_, _<_, _≤_}
 use mathlib.Core.Path.{_≡_, refl, sym, _∙_, ap}
 use mathlib.Core.Bool.{Bool, true, false, cond, not}
 use mathlib.Core.List.{List}
@@ -23,12 +23,6 @@ use Rattle.simulator.specs.Logic.{on, turned, onesBelow, gate}
 -- past its end an area holds 0
 pub off-past : (area : List ℕ) (i : ℕ) → length area ≤ i → false ≡ on area i
 off-past area i h = sym (ap (λ (x : ℕ). not (eqb x 0)) (List·getD-eq-default area 0 h))
-
-pub turned-odd : (bits : ℕ) (value : Bool) → bits % 2 ≡ 1 → not value ≡ turned bits value
-turned-odd bits value e = rw (eq-eqb (bits % 2) 1 e)
-
-pub turned-even : (bits : ℕ) (value : Bool) → (bits % 2 ≡ 1 → ⊥) → value ≡ turned bits value
-turned-even bits value e = rw (ne-eqb (bits % 2) 1 e)
 
 -- a used slot reads a byte within the end
 module _ (r : Record) (j : ℕ) (h : j < arity (r .kind)) where
@@ -59,16 +53,9 @@ module _ (a b : Bool) (x y : ℕ) (e : x ≡ bit a) (f : y ≡ bit b) where
     pub two-of-three : leb 2 (x + y + z) ≡ leb 2 (bit a + bit b + bit c)
     two-of-three = rw (e, f, g)
 
--- a gate's third value
-module _ (r : Record) (held : List ℕ) where
-  pub third-used : r .kind ≡ majority → 2 < arity (r .kind)
-  third-used e = rw e (omega arith)
-
-  pub third-read : (v : Bool) → r .kind ≡ majority → v ≡ readIn r held 2 → v ≡ thirdIn r held
-  third-read v k e = rw (eq-eqb (r .kind) majority k) e
-
-  pub third-fixed : (r .kind ≡ majority → ⊥) → eqb (r .kind) or ≡ thirdIn r held
-  third-fixed k = rw (ne-eqb (r .kind) majority k)
+-- MAJ uses its third slot
+pub third-used : (r : Record) → r .kind ≡ majority → 2 < arity (r .kind)
+third-used r e = rw e (omega arith)
 
 -- AND and OR are the majority of two values and a constant
 and-two : (a b : Bool) → leb 2 (bit a + bit b + 0) ≡ leb 2 (0 + bit a + bit b)

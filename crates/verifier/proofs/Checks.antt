@@ -18,12 +18,12 @@ use Rattle.facts.proofs.Reflect.{reflect, unlike-none}
 use Rattle.facts.proofs.Sums.{any-none, any-cong}
 use Rattle.facts.proofs.Loops.{NoneYet, any-more, any-found, any-end}
 use Rattle.netlist.specs.declared.Record.{Record}
-use Rattle.netlist.specs.Kinds.{width, slots, unused, topLevel, mappedLimit, output, buffer, arity}
+use Rattle.netlist.specs.Kinds.{width, slots, unused, mappedLimit, output, buffer, arity}
 use Rattle.netlist.specs.Records.{Netlist, netlist, recordCount, recordAt, blank, slot}
 use Rattle.netlist.specs.Source.{IsSource}
 use Rattle.netlist.specs.Checks.{inputChecks}
 use Rattle.netlist.proofs.Source.{input-passed, no-buffer}
-use Rattle.verifier.specs.Checks.{badEmpty, differs, noBuffer, badName, notOneLower, slotChecks, placeChecks, traceCheck, feedCheck, badLength, legalChecks, mappedChecks, verifyChecks}
+use Rattle.verifier.specs.Checks.{badEmpty, differs, badName, notOneLower, slotChecks, placeChecks, traceCheck, feedCheck, badLength, legalChecks, mappedChecks, verifyChecks}
 use Rattle.verifier.specs.PrivateWalking.{Sized, Driven, PlacesPassed}
 use Rattle.verifier.specs.PrivateFeeding.{stop, badFanin, bufferChecks}
 
@@ -58,42 +58,13 @@ empty-as a r h = any-cong (badEmpty (a .kind) blank r) (badEmpty (a .kind) a r) 
     go j true e f = ap (λ (x : ℕ). not (eqb (slot r j) x)) (sym (unlike-none (slot a j) (slot blank j) .0 (rw e at f)))
     go j false e f = refl
 
-module _ (a r : Record) where
-  pub kind-differs : r .kind ≢ a .kind → true ≡ differs a r
-  kind-differs h = rw (ne-eqb (r .kind) (a .kind) h)
-
-  module _ (kind : r .kind ≡ a .kind) where
-    pub inversion-differs : r .inversion ≢ a .inversion → true ≡ differs a r
-    inversion-differs h = rw (eq-eqb (r .kind) (a .kind) kind, ne-eqb (r .inversion) (a .inversion) h)
-
-    module _ (inversion : r .inversion ≡ a .inversion) where
-      pub level-differs : r .level ≢ a .level → true ≡ differs a r
-      level-differs h =
-          rw (eq-eqb (r .kind) (a .kind) kind, eq-eqb (r .inversion) (a .inversion) inversion, ne-eqb (r .level) (a .level) h)
-
-      pub slots-differ :
-          (b : Bool) → r .level ≡ a .level → any (badEmpty (a .kind) blank a) slots ≡ false →
-          b ≡ any (badEmpty (a .kind) blank r) slots → b ≡ differs a r
-      slots-differ b h g e =
-          e
-          ∙ empty-as a r g
-          ∙ rw (eq-eqb (r .kind) (a .kind) kind, eq-eqb (r .inversion) (a .inversion) inversion, eq-eqb (r .level) (a .level) h)
-
-module _ (r : Record) where
-  pub kind-no-buffer : r .kind ≢ buffer → true ≡ noBuffer r
-  kind-no-buffer h = rw (ne-eqb (r .kind) buffer h)
-
-  module _ (kind : r .kind ≡ buffer) where
-    pub inversion-no-buffer : r .inversion ≢ 0 → true ≡ noBuffer r
-    inversion-no-buffer h = rw (eq-eqb (r .kind) buffer kind, ne-eqb (r .inversion) 0 h)
-
-    module _ (inversion : r .inversion ≡ 0) where
-      pub level-no-buffer : topLevel < r .level → true ≡ noBuffer r
-      level-no-buffer h = rw (eq-eqb (r .kind) buffer kind, eq-eqb (r .inversion) 0 inversion, lt-ltb topLevel (r .level) h)
-
-      pub slots-no-buffer : (b : Bool) → r .level ≤ topLevel → b ≡ any (badEmpty buffer blank r) slots → b ≡ noBuffer r
-      slots-no-buffer b h e =
-          e ∙ rw (eq-eqb (r .kind) buffer kind, eq-eqb (r .inversion) 0 inversion, le-ltb topLevel (r .level) h)
+pub slots-differ :
+    (a r : Record) (b : Bool) → r .kind ≡ a .kind → r .inversion ≡ a .inversion → r .level ≡ a .level →
+    any (badEmpty (a .kind) blank a) slots ≡ false → b ≡ any (badEmpty (a .kind) blank r) slots → b ≡ differs a r
+slots-differ a r b kind inversion level g e =
+    e
+    ∙ empty-as a r g
+    ∙ rw (eq-eqb (r .kind) (a .kind) kind, eq-eqb (r .inversion) (a .inversion) inversion, eq-eqb (r .level) (a .level) level)
 
 module _ (m : Netlist) (r : Record) (j x : ℕ) (e : x ≡ slot r j) where
   pub name-past : (n : ℕ) → n ≡ m .size → n ≤ x → true ≡ badName m r j
@@ -132,16 +103,12 @@ module _ (m : Netlist) (k : ℕ) (r : Record) where
         go false u =
             absurd (true-false (any (badFanin m r) (arity (r .kind))) some (slots-passed (rw (← p, ← any-end (badName m r) n j i l, u))))
 
-module _ (records : ℕ) (bytes : List ℕ) where
-  pub length-ragged : length bytes % width ≢ 0 → true ≡ badLength records bytes
-  length-ragged h = rw (ne-eqb (length bytes % width) 0 h)
+module _ (records : ℕ) (bytes : List ℕ) (whole : length bytes % width ≡ 0) (m : ℕ) (e : m ≡ recordCount bytes) where
+  pub length-short : m < records → true ≡ badLength records bytes
+  length-short h = rw (whole, lt-ltb (recordCount bytes) records (rw e at h))
 
-  module _ (whole : length bytes % width ≡ 0) (m : ℕ) (e : m ≡ recordCount bytes) where
-    pub length-short : m < records → true ≡ badLength records bytes
-    length-short h = rw (whole, lt-ltb (recordCount bytes) records (rw e at h))
-
-    pub length-long : records ≤ m → ltb mappedLimit m ≡ badLength records bytes
-    length-long h = rw (whole, le-ltb (recordCount bytes) records (rw e at h), e)
+  pub length-long : records ≤ m → ltb mappedLimit m ≡ badLength records bytes
+  length-long h = rw (whole, le-ltb (recordCount bytes) records (rw e at h), e)
 
 -- an accepted source's unused slots name nothing
 pub source-empty : (source : List ℕ) (k : ℕ) (a : Record) → IsSource (netlist source) → k < recordCount source → a ≡ recordAt source k → any (badEmpty (a .kind) blank a) slots ≡ false

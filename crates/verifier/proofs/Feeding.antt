@@ -6,7 +6,7 @@ use native.Mathlib.Numerals.{add-one}
 use mathlib.Core.Path.{_≡_, refl, sym, ap, _∙_}
 use mathlib.Core.Bool.{Bool, true, false, cond}
 use mathlib.Core.List.{List}
-use lib.ListN.{length, getD, set, replicate, length-set, length-replicate, getD-replicate}
+use lib.ListN.{length, getD, replicate, length-set, length-replicate, getD-replicate}
 use lib.Seq.{set-getD, getD-set-same, getD-set-other}
 use lib.Dec.{ltb, eqb}
 use borrow.Author.Tests.{lt-ltb, le-ltb, ltb-true, ltb-false, eqb-true, eqb-false, ne-eqb, not-false}
@@ -28,12 +28,8 @@ use Rattle.verifier.specs.PrivateWalking.{Sized, PlacesPassed}
 use Rattle.verifier.specs.PrivateFeeding.{stop, more, fedOnce, fedBy, tally, badFanin, bufferChecks, Fed, FedAtMost, Tallied, TalliedIfPassed, capacityAt, countCheck}
 use Rattle.verifier.proofs.Checks.{slots-good, slots-passed, kept-bad, kept-slots, placed, placed-driven, legal-places, legal-traces, legal-feeds}
 
-module _ (counts : List ℕ) (x : ℕ) where
-  pub feed-full : stop ≤ getD counts x 0 → counts ≡ fedOnce counts x
-  feed-full h = sym (rw (le-ltb (getD counts x 0) stop h) (set-getD counts x 0))
-
-  pub feed-more : getD counts x 0 < stop → set counts x (getD counts x 0 + 1) ≡ fedOnce counts x
-  feed-more h = rw (lt-ltb (getD counts x 0) stop h)
+pub feed-full : (counts : List ℕ) (x : ℕ) → stop ≤ getD counts x 0 → counts ≡ fedOnce counts x
+feed-full counts x h = sym (rw (le-ltb (getD counts x 0) stop h) (set-getD counts x 0))
 
 -- feeding keeps the number of counts
 once-length : (counts : List ℕ) (x : ℕ) → length (fedOnce counts x) ≡ length counts
@@ -168,14 +164,14 @@ module _ (m : Netlist) where
   -- a record whose slots decide
   module _ (right : Checked) (k : ℕ) (r : Record) (here : r ≡ m .at k) (decides : right ≡ slotChecks m k (m .at k))
       (b : Bool) (before after : List ℕ) (f : Fed m r (arity (r .kind)) b before after) where
-    slots-counted : Tallied m k before → b ≡ true → TalliedIfPassed Passed right m (k + 1) after
+    pub slots-counted : Tallied m k before → b ≡ true → TalliedIfPassed Passed right m (k + 1) after
     slots-counted t e =
         record {
           answer = sym (decides ∙ rw (← here) (slots-good m k r b (f .good) e));
           tallied = λ p. tallied-more k before after t (f .counted e ∙ rw here);
         }
 
-    slots-refused : (a : Checked) → b ≡ false → a ≡ slotChecks m k r → TalliedIfPassed a right m (k + 1) after
+    pub slots-refused : (a : Checked) → b ≡ false → a ≡ slotChecks m k r → TalliedIfPassed a right m (k + 1) after
     slots-refused a e g =
         record {
           answer = g ∙ rw here (sym decides);
@@ -195,19 +191,8 @@ module _ (source mapped : List ℕ) (k : ℕ) (a r : Record) (p : a ≡ recordAt
   record-differs next counts t =
       tallied-refused (netlist mapped) _ 12 k next counts (kept-bad (netlist source) (netlist mapped) k l (rw (← p, ← q, ← e) t))
 
-  module _ (same : b ≡ false) (c : Bool) (before after : List ℕ) (f : Fed (netlist mapped) r (arity (r .kind)) c before after) where
-    decides : placeChecks (netlist source) (netlist mapped) k ≡ slotChecks (netlist mapped) k (recordAt mapped k)
-    decides = kept-slots (netlist source) (netlist mapped) k l (rw (← p, ← q, ← e) same)
-
-    pub record-counted :
-        Tallied (netlist mapped) k before → c ≡ true →
-        TalliedIfPassed Passed (placeChecks (netlist source) (netlist mapped) k) (netlist mapped) (k + 1) after
-    record-counted t g = slots-counted (netlist mapped) _ k r q decides c before after f t g
-
-    pub record-refused :
-        (x : Checked) → c ≡ false → x ≡ slotChecks (netlist mapped) k r →
-        TalliedIfPassed x (placeChecks (netlist source) (netlist mapped) k) (netlist mapped) (k + 1) after
-    record-refused x g h = slots-refused (netlist mapped) _ k r q decides c before after f x g h
+  pub record-decides : b ≡ false → placeChecks (netlist source) (netlist mapped) k ≡ slotChecks (netlist mapped) k (recordAt mapped k)
+  record-decides same = kept-slots (netlist source) (netlist mapped) k l (rw (← p, ← q, ← e) same)
 
 -- and from there on
 pub buffer-kind : (r : Record) (b : Bool) → b ≡ noBuffer r → b ≡ false → r .kind ≡ buffer
@@ -223,21 +208,19 @@ module _ (mapped : List ℕ) (k : ℕ) (r : Record) (q : r ≡ recordAt mapped k
   pub buffer-differs : (next : ℕ) (counts : List ℕ) → b ≡ true → TalliedIfPassed (Refused 13 k) (bufferChecks (netlist mapped) k) (netlist mapped) next counts
   buffer-differs next counts t = tallied-refused (netlist mapped) _ 13 k next counts (rw (foreign, t))
 
-  module _ (same : b ≡ false) (used : ℕ) (u : used ≡ arity buffer) (c : Bool) (before after : List ℕ) (f : Fed (netlist mapped) r used c before after) where
-    settles : bufferChecks (netlist mapped) k ≡ slotChecks (netlist mapped) k (recordAt mapped k)
-    settles = rw (foreign, same)
+  pub buffer-decides : b ≡ false → bufferChecks (netlist mapped) k ≡ slotChecks (netlist mapped) k (recordAt mapped k)
+  buffer-decides same = rw (foreign, same)
 
-    whole : Fed (netlist mapped) r (arity (r .kind)) c before after
-    whole = rw (← buffer-uses r b used e same u) f
+  pub buffer-fed :
+      (used : ℕ) (c : Bool) (before after : List ℕ) → b ≡ false → used ≡ arity buffer → Fed (netlist mapped) r used c before after →
+      Fed (netlist mapped) r (arity (r .kind)) c before after
+  buffer-fed used c before after same u f = rw (← buffer-uses r b used e same u) f
 
-    pub buffer-counted :
-        Tallied (netlist mapped) k before → c ≡ true → TalliedIfPassed Passed (bufferChecks (netlist mapped) k) (netlist mapped) (k + 1) after
-    buffer-counted t g = slots-counted (netlist mapped) _ k r q settles c before after whole t g
-
-    pub buffer-refused :
-        (x : Checked) → c ≡ false → x ≡ slotChecks (netlist mapped) k r →
-        TalliedIfPassed x (bufferChecks (netlist mapped) k) (netlist mapped) (k + 1) after
-    buffer-refused x g h = slots-refused (netlist mapped) _ k r q settles c before after whole x g h
+  pub buffer-refused :
+      (used : ℕ) (c : Bool) (before after : List ℕ) (x : Checked) → b ≡ false → used ≡ arity buffer → Fed (netlist mapped) r used c before after →
+      c ≡ false → x ≡ slotChecks (netlist mapped) k r → TalliedIfPassed x (bufferChecks (netlist mapped) k) (netlist mapped) (k + 1) after
+  buffer-refused used c before after x same u f =
+      slots-refused (netlist mapped) _ k r q (buffer-decides same) c before after (buffer-fed used c before after same u f) x
 
 -- the answer from k on is the answer, and the first k records are counted
 pub record Tallying (n m : Netlist) (records : ℕ) (counts : List ℕ) (k : ℕ) : Type 0 where
@@ -338,14 +321,6 @@ module _ (n m : Netlist) (records size : ℕ) (sized : Sized n m records size) (
         feeds-decide s b f below e =
             legal-feeds n s m (sym (c .answer) ∙ p) b (sym q ∙ f)
             (counts-feeds n m s records size sized places-placed below counts (c .tallied p) b e)
-
--- what a record may feed, as the code has it
-module _ (s n k c : ℕ) where
-  pub capacity-driver : k < n → c ≡ driverCapacity → c ≡ capacityAt s n k
-  capacity-driver l e = e ∙ rw (lt-ltb k n l)
-
-  pub capacity-buffer : n ≤ k → c ≡ s → c ≡ capacityAt s n k
-  capacity-buffer l e = e ∙ rw (le-ltb k n l)
 
 -- one record more by the counts
 module _ (s n : ℕ) (counts : List ℕ) (size k : ℕ) (i : Scanning (countCheck s n counts) size k) (l : k < size)

@@ -1,13 +1,12 @@
 -- The refusals of checks 11 to 17 are exact: each test is its condition, and the checks stand in the table's order. The trace of
 -- check 16 is that of specification 3.3 because 14 and 15 have passed.
-use Prim.Native.Nat.{ℕ, suc, _%_, _<_, _≤_}
+use Prim.Native.Nat.{ℕ, _%_, _<_, _≤_}
 use native.Mathlib.Omega.{arith}
 use mathlib.Core.Path.{_≡_, sym, _∙_}
 use mathlib.Core.Logic.{⊎-elim, _↔_, _≢_}
 use mathlib.Core.Bool.{true, not}
 use mathlib.Core.List.{List}
 use lib.ListN.{length, getD-replicate}
-use lib.Dec.{ltb, leb, eqb}
 use Rattle.facts.specs.declared.Checked.{Checked}
 use Rattle.facts.specs.declared.Checked.the-variants.{Passed, Refused as Failed}
 use Rattle.facts.specs.Checks.{outcome}
@@ -19,14 +18,13 @@ use Rattle.facts.proofs.Refusals.{InRow, UpTo, Within, After, rows-before, one-
 use Rattle.netlist.specs.declared.Record.{Record}
 use Rattle.netlist.specs.Kinds.{width, slots, unused, topLevel, mappedLimit, output, buffer, arity}
 use Rattle.netlist.specs.Records.{Netlist, netlist, recordCount, blank, slot, fanin, feeds}
-use Rattle.netlist.specs.Checks.{ragged}
 use Rattle.netlist.specs.Balance.{capacityOf}
 use Rattle.netlist.specs.Counts.{bufferCount}
 use Rattle.netlist.proofs.Refusals.{input-first, input-rows}
 use Rattle.verifier.specs.declared.Verified.the-variants.{Buffers, Refused}
 use Rattle.verifier.specs.PrivateWalking.{PlacesPassed}
 use Rattle.verifier.specs.Trace.{driver}
-use Rattle.verifier.specs.Checks.{badLength, badEmpty, differs, noBuffer, changed, foreign, badName, notOneLower, strays, placeChecks, traceCheck, feedCheck, legalChecks, mappedChecks, verifyChecks}
+use Rattle.verifier.specs.Checks.{badLength, badEmpty, differs, changed, foreign, badName, notOneLower, strays, placeChecks, traceCheck, feedCheck, legalChecks, mappedChecks, verifyChecks}
 use Rattle.verifier.specs.Refusals.{BadLength, Changed, Foreign, BadNames, Unbalanced, Strays, KeepFails, SlotsFail, PlaceFails, TraceFails, FeedFails, LegalFails, MappedFails, VerifyFails, RefusedExactly}
 use Rattle.verifier.proofs.Trace.{driver-traces, traces-driver}
 use Rattle.verifier.proofs.Checks.{placed}

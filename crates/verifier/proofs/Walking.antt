@@ -45,10 +45,6 @@ keep m drivers x d k l e =
           ];
     }
 
--- there is an entry for every record
-pub entry-room : (m : Netlist) (drivers : List ℕ) (size x : ℕ) → Known m drivers → size ≡ m .size → x < size → x < length drivers
-entry-room m drivers size x k e l = omega (arith, k .room)
-
 known-none : (m : Netlist) (entries : ℕ) → m .size ≤ entries → Known m (replicate entries unknown)
 known-none m entries l =
     record {
@@ -64,27 +60,17 @@ fresh n m first all entries s sized below l =
     let h : m .size ≤ entries = omega (arith, sized .size) in
     (sized, (below, (tallied-start m entries h, known-none m entries h)))
 
-module _ (n : ℕ) (drivers : List ℕ) (x : ℕ) where
-  pub known-driver : x < n → x ≡ knownDriver n drivers x
-  known-driver l = rw (lt-ltb x n l)
-
-  pub known-buffer : n ≤ x → getD drivers x 0 ≡ knownDriver n drivers x
-  known-buffer l = rw (le-ltb x n l)
-
-  -- what is known is right
-  known-right : (m : Netlist) (d : ℕ) → Known m drivers → Driven n m → x < m .size → d ≡ knownDriver n drivers x → d ≢ unknown → d ≡ driver m x
-  known-right m d k i l e h = elim (decLt x n) [
-    | yes b ↦ rw e (rw (lt-ltb x n b) (sym (walk-here m (m .at x .level) x (i .driver x b))))
-    | no b ↦ (
-        let g : d ≡ getD drivers x 0 = e ∙ rw (le-ltb x n (let c : n ≤ x = omega arith in c)) in
-        g ∙ k .right x l (λ u. h (g ∙ u)))
-  ]
+-- what is known is right
+known-right : (n : ℕ) (drivers : List ℕ) (x : ℕ) (m : Netlist) (d : ℕ) → Known m drivers → Driven n m → x < m .size → d ≡ knownDriver n drivers x → d ≢ unknown → d ≡ driver m x
+known-right n drivers x m d k i l e h = elim (decLt x n) [
+  | yes b ↦ rw e (rw (lt-ltb x n b) (sym (walk-here m (m .at x .level) x (i .driver x b))))
+  | no b ↦ (
+      let g : d ≡ getD drivers x 0 = e ∙ rw (le-ltb x n (let c : n ≤ x = omega arith in c)) in
+      g ∙ k .right x l (λ u. h (g ∙ u)))
+]
 
 -- a buffer that passes 13 to 15 has its fanin's driver
 module _ (m : Netlist) (drivers : List ℕ) (known : Known m drivers) (n k : ℕ) (i : Buffering n m k) where
-  pub buffer-room : k < length drivers
-  buffer-room = omega (arith, i .here, known .room)
-
   module _ (r : Record) (x : ℕ) (p : x ≡ slot r 0) (used : ℕ) (u : used ≡ arity buffer) (c : Bool) (before after : List ℕ) (f : Fed m r used c before after) (g : c ≡ true) where
     fine : badFanin m r 0 ≡ false
     fine = any-none (badFanin m r) used .0 (not-true (any (badFanin m r) used) (sym (f .good) ∙ g)) 0 (omega (arith, u))
@@ -112,9 +98,6 @@ buffer-known m drivers n k d x used r b c before after h p q e t u f g known i =
     )
 
 module _ (n : ℕ) (m : Netlist) (drivers : List ℕ) (level x : ℕ) (w : Traceable n m drivers level x) where
-  pub walk-room : x < length drivers
-  walk-room = omega (arith, w .here, w .known .room)
-
   pub walk-stays : x < n → Traced m x x drivers
   walk-stays l =
       record { ends = sym (walk-here m (m .at x .level) x (w .walkable .driven .driver x l)); known = w .known }
@@ -122,9 +105,6 @@ module _ (n : ℕ) (m : Netlist) (drivers : List ℕ) (level x : ℕ) (w : Trace
   pub walk-found : getD drivers x 0 ≢ unknown → Traced m x (getD drivers x 0) drivers
   walk-found h =
       record { ends = w .known .right x (w .here) h; known = w .known }
-
-  pub walk-on : (t : ℕ) → level + level + 1 ≡ t → level + level < t
-  walk-on t h = omega arith
 
   module _ (l : n ≤ x) where
     is-buffer : m .at x .kind ≡ buffer

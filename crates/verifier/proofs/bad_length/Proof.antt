@@ -1,11 +1,12 @@
 -- `bad_length` meets its contract: each return follows from the tests that led there.
+use borrow.Author.Tests.{eq-eqb, ne-eqb}
 use borrow.Author.Needs.{needs}
-use Rattle.verifier.proofs.Checks.{length-ragged, length-short, length-long}
+use Rattle.verifier.proofs.Checks.{length-short, length-long}
 use Rattle.verifier.proofs.bad_length.Statement.{statement}
 use Rattle.verifier.proofs.bad_length.Tie as tie
 
 returns : tie.Need-returns
-returns c = search length-ragged
+returns c = search (eq-eqb, ne-eqb)
 
 record-count-requires : tie.Need-record-count-requires
 record-count-requires c κs = search needs

@@ -1,11 +1,12 @@
 -- `bad_rows` meets its contract: each return follows from the tests that led there.
-use Rattle.simulator.proofs.Checks.{rows-many, rows-long, rows-state, product-fits}
+use Rattle.simulator.proofs.Checks.{rows-long, rows-state, product-fits}
+use borrow.Author.Tests.{lt-ltb}
 use borrow.Author.Needs.{needs}
 use Rattle.simulator.proofs.area_checks.bad_rows.Statement.{statement}
 use Rattle.simulator.proofs.area_checks.bad_rows.Tie as tie
 
 returns : tie.Need-returns
-returns c = search rows-many
+returns c = search lt-ltb
 
 count-kind-requires : tie.Need-count-kind-requires
 count-kind-requires c κs = search needs

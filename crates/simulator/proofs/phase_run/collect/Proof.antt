@@ -1,7 +1,7 @@
 -- `collect` meets its contract: the output bytes of the first i records are written, in index order.
 use borrow.Author.Needs.{needs}
 use Prim.Native.Nat.{_-_}
-use Rattle.simulator.proofs.Playing.{Collecting, collecting-start, collecting-room, collecting-fits, collecting-more, collecting-end}
+use Rattle.simulator.proofs.Playing.{Collecting, collecting-start, collecting-room, collecting-more, collecting-end}
 use Rattle.simulator.proofs.phase_run.collect.Statement.{statement}
 use Rattle.simulator.proofs.phase_run.collect.Tie as tie
 
@@ -24,7 +24,7 @@ byte-at-requires : tie.Need-byte-at-requires Inv-loop μ-loop
 byte-at-requires c κs = search needs
 
 put-output-requires : tie.Need-put-output-requires Inv-loop μ-loop
-put-output-requires c κs = (search collecting-room, search (needs, collecting-fits))
+put-output-requires c κs = (search collecting-room, search needs)
 
 add-i : tie.Need-add-i Inv-loop μ-loop
 add-i c = search needs

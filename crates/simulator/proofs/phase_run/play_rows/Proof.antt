@@ -1,7 +1,7 @@
 -- `play_rows` meets its contract: after turn t the state area is D + t steps on and t output rows are written.
 use borrow.Author.Needs.{needs}
 use Prim.Native.Nat.{_-_}
-use Rattle.simulator.proofs.Playing.{Playing, playing-start, playing-turn, playing-room, playing-more, playing-state, playing-outs}
+use Rattle.simulator.proofs.Playing.{Playing, playing-start, playing-room, playing-more, playing-state, playing-outs}
 use Rattle.simulator.proofs.phase_run.play_rows.Statement.{statement}
 use Rattle.simulator.proofs.phase_run.play_rows.Tie as tie
 
@@ -18,7 +18,7 @@ add-row-at : tie.Need-add-row-at Inv-loop μ-loop
 add-row-at c = search needs
 
 row-at-requires : tie.Need-row-at-requires Inv-loop μ-loop
-row-at-requires c κs = search (needs, playing-turn)
+row-at-requires c κs = search needs
 
 advance-requires : tie.Need-advance-requires Inv-loop μ-loop
 advance-requires c κs = search needs

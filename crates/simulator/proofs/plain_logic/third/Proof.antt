@@ -1,6 +1,7 @@
 -- `third` meets its contract: MAJ uses three slots.
+use borrow.Author.Tests.{eq-eqb, ne-eqb}
 use borrow.Author.Needs.{needs}
-use Rattle.simulator.proofs.Values.{third-used, third-read, third-fixed}
+use Rattle.simulator.proofs.Values.{third-used}
 use Rattle.simulator.proofs.plain_logic.third.Statement.{statement}
 use Rattle.simulator.proofs.plain_logic.third.Tie as tie
 
@@ -8,10 +9,10 @@ read-slot-requires : tie.Need-read-slot-requires
 read-slot-requires c κs = search (needs, third-used)
 
 returns : tie.Need-returns
-returns c = search third-read
+returns c = search eq-eqb
 
 returns-2 : tie.Need-returns-2
-returns-2 c = search third-fixed
+returns-2 c = search ne-eqb
 
 pub third-spec : {M : Type 1} → statement M
 third-spec = tie.close (tie.spec read-slot-requires returns returns-2)

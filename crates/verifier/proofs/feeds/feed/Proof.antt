@@ -1,6 +1,7 @@
 -- `feed` meets its contract: at the stop nothing changes.
+use borrow.Author.Tests.{lt-ltb}
 use borrow.Author.Needs.{needs}
-use Rattle.verifier.proofs.Feeding.{feed-full, feed-more}
+use Rattle.verifier.proofs.Feeding.{feed-full}
 use Rattle.verifier.proofs.feeds.feed.Statement.{statement}
 use Rattle.verifier.proofs.feeds.feed.Tie as tie
 
@@ -17,7 +18,7 @@ same-length : tie.Need-same-length
 same-length c = search needs
 
 returns : tie.Need-returns
-returns c = search feed-more
+returns c = search lt-ltb
 
 returns-2 : tie.Need-returns-2
 returns-2 c = search feed-full

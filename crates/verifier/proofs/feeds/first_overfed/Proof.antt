@@ -1,10 +1,11 @@
 -- `first_overfed` meets its contract: the answer from k on is the answer.
+use borrow.Author.Tests.{lt-ltb, le-ltb}
 use borrow.Author.Needs.{needs}
 use Prim.Native.Nat.{_-_}
 use mathlib.Core.Logic.{⊎-elim}
 use Rattle.facts.proofs.Loops.{Scanning, scan-start, scan-end}
 use Rattle.verifier.specs.PrivateFeeding.{countCheck}
-use Rattle.verifier.proofs.Feeding.{capacity-driver, capacity-buffer, count-more, count-stop}
+use Rattle.verifier.proofs.Feeding.{count-more, count-stop}
 use Rattle.verifier.proofs.feeds.first_overfed.Statement.{statement}
 use Rattle.verifier.proofs.feeds.first_overfed.Tie as tie
 
@@ -30,7 +31,7 @@ cast-if2 : tie.Need-cast-if2 Inv-loop μ-loop
 cast-if2 c = search needs
 
 returns : tie.Need-returns Inv-loop μ-loop
-returns c = ⊎-elim (λ w. search (count-stop, capacity-driver)) (λ w. search (count-stop, capacity-buffer)) (c .before .if1 .came)
+returns c = ⊎-elim (λ w. search (count-stop, lt-ltb)) (λ w. search (count-stop, le-ltb)) (c .before .if1 .came)
 
 add-k : tie.Need-add-k Inv-loop μ-loop
 add-k c = search needs
@@ -39,7 +40,7 @@ loop-less : tie.Need-loop-less Inv-loop μ-loop
 loop-less c = search needs
 
 loop-again : tie.Need-loop-again Inv-loop μ-loop
-loop-again c = ⊎-elim (λ w. search (count-more, capacity-driver)) (λ w. search (count-more, capacity-buffer)) (c .before .if1 .came)
+loop-again c = ⊎-elim (λ w. search (count-more, lt-ltb)) (λ w. search (count-more, le-ltb)) (c .before .if1 .came)
 
 returns-2 : tie.Need-returns-2 Inv-loop μ-loop
 returns-2 c = search scan-end

@@ -1,7 +1,7 @@
 -- `check_buffer` meets its contract: 13 first, then the slot; a buffer has its fanin's driver.
 use borrow.Author.Needs.{needs}
-use Rattle.verifier.proofs.Feeding.{buffer-uses, unfed, buffer-differs, buffer-counted, buffer-refused}
-use Rattle.verifier.proofs.Walking.{fanin-room, buffer-room, buffer-known}
+use Rattle.verifier.proofs.Feeding.{buffer-uses, unfed, buffer-differs, slots-counted, buffer-decides, buffer-fed, buffer-refused}
+use Rattle.verifier.proofs.Walking.{fanin-room, buffer-known}
 use Rattle.verifier.proofs.places.check_buffer.Statement.{statement}
 use Rattle.verifier.proofs.places.check_buffer.Tie as tie
 
@@ -30,7 +30,7 @@ mul-drivers : tie.Need-mul-drivers
 mul-drivers c = search needs
 
 slice-write-drivers : tie.Need-slice-write-drivers
-slice-write-drivers c = search buffer-room
+slice-write-drivers c = search needs
 
 same-length : tie.Need-same-length
 same-length c = search needs
@@ -39,7 +39,7 @@ same-length-2 : tie.Need-same-length-2
 same-length-2 c = search needs
 
 returns-2 : tie.Need-returns-2
-returns-2 c = (search buffer-counted, search buffer-known)
+returns-2 c = (search (slots-counted, buffer-decides, buffer-fed), search buffer-known)
 
 refuse-slots-requires : tie.Need-refuse-slots-requires
 refuse-slots-requires c κs = search (needs, unfed, buffer-uses)

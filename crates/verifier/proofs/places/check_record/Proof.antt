@@ -1,7 +1,7 @@
 -- `check_record` meets its contract: 12 first, then the slots.
 use borrow.Author.Needs.{needs}
 use Rattle.verifier.proofs.Checks.{source-empty}
-use Rattle.verifier.proofs.Feeding.{unfed, record-differs, record-counted, record-refused}
+use Rattle.verifier.proofs.Feeding.{unfed, record-differs, slots-counted, slots-refused, record-decides}
 use Rattle.verifier.proofs.places.check_record.Statement.{statement}
 use Rattle.verifier.proofs.places.check_record.Tie as tie
 
@@ -24,7 +24,7 @@ same-length : tie.Need-same-length
 same-length c = search needs
 
 returns-2 : tie.Need-returns-2
-returns-2 c = search record-counted
+returns-2 c = search (slots-counted, record-decides)
 
 refuse-slots-requires : tie.Need-refuse-slots-requires
 refuse-slots-requires c κs = search unfed
@@ -33,7 +33,7 @@ same-length-2 : tie.Need-same-length-2
 same-length-2 c = search needs
 
 returns-3 : tie.Need-returns-3
-returns-3 c = search record-refused
+returns-3 c = search (slots-refused, record-decides)
 
 pub check-record-spec : {M : Type 1} → statement M
 check-record-spec =

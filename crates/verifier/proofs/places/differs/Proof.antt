@@ -1,17 +1,18 @@
 -- `differs` meets its contract: each return follows from the tests that led there.
+use borrow.Author.Tests.{eq-eqb, ne-eqb}
 use borrow.Author.Needs.{needs}
-use Rattle.verifier.proofs.Checks.{kind-differs, inversion-differs, level-differs, slots-differ}
+use Rattle.verifier.proofs.Checks.{slots-differ}
 use Rattle.verifier.proofs.places.differs.Statement.{statement}
 use Rattle.verifier.proofs.places.differs.Tie as tie
 
 returns : tie.Need-returns
-returns c = search kind-differs
+returns c = search (eq-eqb, ne-eqb)
 
 returns-2 : tie.Need-returns-2
-returns-2 c = search inversion-differs
+returns-2 c = search (eq-eqb, ne-eqb)
 
 returns-3 : tie.Need-returns-3
-returns-3 c = search level-differs
+returns-3 c = search (eq-eqb, ne-eqb)
 
 any-bad-empty-requires : tie.Need-any-bad-empty-requires
 any-bad-empty-requires c κs = search needs

@@ -1,6 +1,6 @@
 -- The proof of the cycle of calls {walk, walk_back}. The measure is twice the level, and one more before a walk goes on; the level falls at each walk.
 use borrow.Author.Needs.{needs}
-use Rattle.verifier.proofs.Walking.{walk-room, walk-found, walk-stays, walk-on, walk-level, walk-falls, walk-next, walk-keeps}
+use Rattle.verifier.proofs.Walking.{walk-found, walk-stays, walk-level, walk-falls, walk-next, walk-keeps}
 use Prim.Native.Nat.{ℕ, _+_, _<_}
 use borrow.Fn.Kinds.{In}
 use borrow.Fn.PlainCycle.{Measures, is, falls, and}
@@ -49,14 +49,14 @@ walk-mul-found :
 walk-mul-found t c = search needs
 
 walk-slice-read-found : (t : ℕ) → walk-lts.Need-slice-read-found (claims t) (walk-at t) walk.Post
-walk-slice-read-found t c = search (needs, walk-room)
+walk-slice-read-found t c = search needs
 
 walk-returns-2 :
     (t : ℕ) → walk-lts.Need-returns-2 (claims t) (walk-at t) walk.Post
 walk-returns-2 t c = search walk-found
 
 walk-walk-back-requires : (t : ℕ) → walk-lts.Need-walk-back-requires (claims t) (walk-at t) walk.Post
-walk-walk-back-requires t c κs = search (needs, walk-on)
+walk-walk-back-requires t c κs = search needs
 
 walk-same-length :
     (t : ℕ) → walk-lts.Need-same-length (claims t) (walk-at t) walk.Post
@@ -79,7 +79,7 @@ walk-back-mul-drivers : (t : ℕ) → walk-back-lts.Need-mul-drivers (back-claim
 walk-back-mul-drivers t c = search needs
 
 walk-back-slice-write-drivers : (t : ℕ) → walk-back-lts.Need-slice-write-drivers (back-claims t) (walk-back-at t) walk-back.Post
-walk-back-slice-write-drivers t c = search (needs, walk-room)
+walk-back-slice-write-drivers t c = search needs
 
 walk-back-same-length : (t : ℕ) → walk-back-lts.Need-same-length (back-claims t) (walk-back-at t) walk-back.Post
 walk-back-same-length t c = search needs

@@ -6,7 +6,7 @@ use mathlib.Core.Logic.{⊎-elim}
 use lib.ListN.{length}
 use Rattle.netlist.specs.Records.{netlist}
 use Rattle.verifier.specs.PrivateWalking.{Known}
-use Rattle.verifier.proofs.Walking.{buffer-traceable, entry-room}
+use Rattle.verifier.proofs.Walking.{buffer-traceable}
 use Rattle.verifier.proofs.traces.walk_buffers.Statement.{statement}
 use Rattle.verifier.proofs.traces.walk_buffers.Tie as tie
 
@@ -26,7 +26,7 @@ mul-if1 : tie.Need-mul-if1 Inv-loop μ-loop
 mul-if1 c = search needs
 
 slice-read-if1 : tie.Need-slice-read-if1 Inv-loop μ-loop
-slice-read-if1 c = search entry-room
+slice-read-if1 c = search needs
 
 cast-level-at : tie.Need-cast-level-at Inv-loop μ-loop
 cast-level-at c = search needs
