@@ -27,7 +27,7 @@ use Rattle.netlist.specs.Balance.{Named}
 use Rattle.netlist.specs.Counts.{isInput, inputs, outputs}
 use Rattle.simulator.specs.Step.{rowLimit, badRows, stepAnswer}
 use Rattle.simulator.specs.PrivateStep.{Buffered}
-use Rattle.simulator.specs.Run.{badOutputs, runAnswer}
+use Rattle.simulator.specs.Run.{runAnswer}
 use Rattle.simulator.specs.PrivateRun.{IsRun}
 use Rattle.simulator.proofs.Accepted.{evaluate-passed, step-passed, run-passed}
 
@@ -157,13 +157,9 @@ module _ (source : List ℕ) (s : ℕ) (mapped row area : List ℕ) (a : Checked
   pub step-room : (m : ℕ) → m ≡ recordCount mapped → length area ≡ 2 * m
   step-room m q = step-passed source s mapped row area .0 (sym e ∙ h) .2 ∙ ap (λ (k : ℕ). 2 * k) (sym q)
 
-module _ (source : List ℕ) (r : ℕ) (outs : List ℕ) (x : ℕ) (e : x ≡ outputs (netlist source)) where
-  pub outs-fit : recordCount source ≤ sourceLimit → r ≤ rowLimit → r * x < 2 ^ 64
-  outs-fit l h =
-      omega (arith, rows-short r x (recordCount source) h (rw e (count-le (isOutput (netlist source)) (recordCount source))) l)
-
-  pub outs-bad : not (eqb (length outs) (r * x)) ≡ badOutputs (netlist source) r outs
-  outs-bad = rw e
+pub outs-fit : (source : List ℕ) (r x : ℕ) → x ≡ outputs (netlist source) → recordCount source ≤ sourceLimit → r ≤ rowLimit → r * x < 2 ^ 64
+outs-fit source r x e l h =
+    omega (arith, rows-short r x (recordCount source) h (rw e (count-le (isOutput (netlist source)) (recordCount source))) l)
 
 -- the judged rows are few
 pub few-rows : (source mapped : List ℕ) (r : ℕ) (rows area : List ℕ) (b : Bool) → b ≡ badRows (netlist source) (netlist mapped) r rows area → b ≡ false → r ≤ rowLimit

@@ -7,7 +7,7 @@ use native.Mathlib.Omega.{arith}
 use native.Mathlib.Nat.{add-zero, zero-add}
 use mir.Val.{Fits}
 use mir.Syntax.{w8}
-use lib.ListN.{length, getD, List·getD-eq-default}
+use lib.ListN.{length, List·getD-eq-default}
 use lib.Dec.{leb, eqb}
 use borrow.Author.Tests.{leb-true, eq-eqb, ne-eqb}
 use Rattle.facts.specs.Sums.{bit, sum, count}
@@ -35,9 +35,6 @@ module _ (r : Record) (j : ℕ) (h : j < arity (r .kind)) where
   pub slot-inside : (n x : ℕ) → Wired r n → x ≡ slot r j → x < n
   slot-inside n x w e = rw e (w .below j h)
 
-pub reading-is : (r : Record) (held : List ℕ) (j x y : ℕ) (v : Bool) → x ≡ slot r j → y ≡ getD held x 0 → v ≡ turned (r .inversion / 2 ^ j) (not (eqb y 0)) → v ≡ readIn r held j
-reading-is r held j x y v e f g = g ∙ rw (f, e)
-
 pub wired-same : (r q : Record) (n : ℕ) → r ≡ q → Wired q n → Wired r n
 wired-same r q n e w = rw e w
 
@@ -46,12 +43,8 @@ module _ (a b : Bool) (x y : ℕ) (e : x ≡ bit a) (f : y ≡ bit b) where
   pub two-fit : x + y < 2 ^ 64
   two-fit = omega (arith, bit-le a, bit-le b)
 
-  module _ (c : Bool) (z : ℕ) (g : z ≡ bit c) where
-    pub three-fit : x + y + z < 2 ^ 64
-    three-fit = omega (arith, bit-le a, bit-le b, bit-le c)
-
-    pub two-of-three : leb 2 (x + y + z) ≡ leb 2 (bit a + bit b + bit c)
-    two-of-three = rw (e, f, g)
+  pub three-fit : (c : Bool) (z : ℕ) → z ≡ bit c → x + y + z < 2 ^ 64
+  three-fit c z g = omega (arith, bit-le a, bit-le b, bit-le c)
 
 -- MAJ uses its third slot
 pub third-used : (r : Record) → r .kind ≡ majority → 2 < arity (r .kind)

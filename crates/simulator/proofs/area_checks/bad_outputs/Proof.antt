@@ -1,5 +1,5 @@
 -- `bad_outputs` meets its contract: R × outputs fits, and is compared.
-use Rattle.simulator.proofs.Checks.{outs-fit, outs-bad}
+use Rattle.simulator.proofs.Checks.{outs-fit}
 use borrow.Author.Needs.{needs}
 use Rattle.simulator.proofs.area_checks.bad_outputs.Statement.{statement}
 use Rattle.simulator.proofs.area_checks.bad_outputs.Tie as tie
@@ -11,7 +11,7 @@ mul-result : tie.Need-mul-result
 mul-result c = record { fits = search outs-fit }
 
 returns : tie.Need-returns
-returns c = search outs-bad
+returns c = cc
 
 pub bad-outputs-spec : {M : Type 1} → statement M
 bad-outputs-spec = tie.close (tie.spec count-kind-requires mul-result returns)

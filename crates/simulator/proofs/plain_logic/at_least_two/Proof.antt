@@ -1,5 +1,5 @@
 -- `at_least_two` meets its contract: the values that are 1 are counted.
-use Rattle.simulator.proofs.Values.{two-fit, three-fit, two-of-three}
+use Rattle.simulator.proofs.Values.{two-fit, three-fit}
 use borrow.Author.Needs.{needs}
 use Rattle.simulator.proofs.plain_logic.at_least_two.Statement.{statement}
 use Rattle.simulator.proofs.plain_logic.at_least_two.Tie as tie
@@ -20,7 +20,7 @@ add-result-2 : tie.Need-add-result-2
 add-result-2 c = record { fits = search three-fit }
 
 returns : tie.Need-returns
-returns c = search two-of-three
+returns c = cc
 
 pub at-least-two-spec : {M : Type 1} → statement M
 at-least-two-spec =

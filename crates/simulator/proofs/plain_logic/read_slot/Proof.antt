@@ -1,6 +1,6 @@
 -- `read_slot` meets its contract: a used slot names a byte of the area.
 use borrow.Author.Needs.{needs}
-use Rattle.simulator.proofs.Values.{shift-fits, shift-short, slot-inside, reading-is}
+use Rattle.simulator.proofs.Values.{shift-fits, shift-short, slot-inside}
 use Rattle.simulator.proofs.plain_logic.read_slot.Statement.{statement}
 use Rattle.simulator.proofs.plain_logic.read_slot.Tie as tie
 
@@ -23,7 +23,7 @@ turn-requires : tie.Need-turn-requires
 turn-requires c κs = search needs
 
 returns : tie.Need-returns
-returns c = search reading-is
+returns c = cc
 
 pub read-slot-spec : {M : Type 1} → statement M
 read-slot-spec =
