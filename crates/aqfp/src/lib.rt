@@ -5,6 +5,7 @@ ghost use lib.ListN.{length};
 ghost use Rattle.facts.specs.Checks.{checkedNumbers};
 ghost use Rattle.facts.specs.Bytes.{four};
 ghost use Rattle.facts.specs.Areas.{put};
+ghost use Rattle.netlist.specs.Capacities.{capacitiesOf};
 ghost use Rattle.fanout.specs.Answer.{countAnswer, countNumbers};
 ghost use Rattle.mapper.specs.Answer.{mapAnswer, mapArea, mappingNumbers};
 ghost use Rattle.verifier.specs.Checks.{verifyAnswer, verifiedNumbers};
@@ -14,6 +15,7 @@ ghost use Rattle.simulator.specs.Run.{runAnswer, runArea, runOutputs};
 ghost use Rattle.aqfp.specs.Answers.{Answered};
 use facts::Checked;
 use fanout::Count;
+use netlist::Capacities;
 use verifier::Verified;
 
 // What stands for no tree in the count's answer.
@@ -63,10 +65,10 @@ pub extern "C" fn aqfp_map(
     mapped: &mut [u8],
     answer: &mut [u8; 28],
 ) -> u32
-    ensures answer { λ r. ⌜ Answered r (now (answer .exit)) (mappingNumbers (mapAnswer (now (source .entry)) capacity (now (mapped .entry)))) ⌝ }
-    ensures area { λ _. ⌜ now (mapped .exit) ≡ mapArea (now (source .entry)) capacity (now (mapped .entry)) ⌝ }
+    ensures answer { λ r. ⌜ Answered r (now (answer .exit)) (mappingNumbers (mapAnswer (now (source .entry)) (capacitiesOf capacity) (now (mapped .entry)))) ⌝ }
+    ensures area { λ _. ⌜ now (mapped .exit) ≡ mapArea (now (source .entry)) (capacitiesOf capacity) (now (mapped .entry)) ⌝ }
 {
-    let mapping = mapper::map_netlist(source, capacity, mapped);
+    let mapping = mapper::map_netlist(source, Capacities { buffer: capacity }, mapped);
     write_answer(
         answer,
         &[
@@ -89,9 +91,9 @@ pub extern "C" fn aqfp_count(
     record: u32,
     answer: &mut [u8; 12],
 ) -> u32
-    ensures { λ r. ⌜ Answered r (now (answer .exit)) (countNumbers (countAnswer capacity (now (source .entry)) «record»)) ⌝ }
+    ensures { λ r. ⌜ Answered r (now (answer .exit)) (countNumbers (countAnswer (now (source .entry)) (capacitiesOf capacity) «record»)) ⌝ }
 {
-    let count = fanout::count_net(source, capacity, record);
+    let count = fanout::count_net(source, Capacities { buffer: capacity }, record);
     match count {
         Count::Fewest(buffers) => write_answer(answer, &[0, 0, buffers]),
         Count::NoTree => write_answer(answer, &[0, 0, NO_TREE]),
@@ -107,9 +109,9 @@ pub extern "C" fn aqfp_verify(
     mapped: &[u8],
     answer: &mut [u8; 12],
 ) -> u32
-    ensures { λ r. ⌜ Answered r (now (answer .exit)) (verifiedNumbers (verifyAnswer (now (source .entry)) capacity (now (mapped .entry)))) ⌝ }
+    ensures { λ r. ⌜ Answered r (now (answer .exit)) (verifiedNumbers (verifyAnswer (now (source .entry)) (capacitiesOf capacity) (now (mapped .entry)))) ⌝ }
 {
-    let verified = verifier::verify(source, capacity, mapped);
+    let verified = verifier::verify(source, Capacities { buffer: capacity }, mapped);
     match verified {
         Verified::Buffers(buffers) => write_answer(answer, &[0, 0, buffers]),
         Verified::Refused(number, place) => write_answer(answer, &[number, place, 0]),
@@ -140,12 +142,12 @@ pub extern "C" fn aqfp_step(
     state: &mut [u8],
     answer: &mut [u8; 8],
 ) -> u32
-    ensures answer { λ r. ⌜ Answered r (now (answer .exit)) (checkedNumbers (stepAnswer (now (source .entry)) capacity (now (mapped .entry)) (now (row .entry)) (now (state .entry)))) ⌝ }
-    ensures area { λ _. ⌜ now (state .exit) ≡ stepArea (now (source .entry)) capacity (now (mapped .entry)) (now (row .entry)) (now (state .entry)) ⌝ }
+    ensures answer { λ r. ⌜ Answered r (now (answer .exit)) (checkedNumbers (stepAnswer (now (source .entry)) (capacitiesOf capacity) (now (mapped .entry)) (now (row .entry)) (now (state .entry)))) ⌝ }
+    ensures area { λ _. ⌜ now (state .exit) ≡ stepArea (now (source .entry)) (capacitiesOf capacity) (now (mapped .entry)) (now (row .entry)) (now (state .entry)) ⌝ }
 {
     answer_checked(
         answer,
-        simulator::step(source, capacity, mapped, row, state),
+        simulator::step(source, Capacities { buffer: capacity }, mapped, row, state),
     )
 }
 
@@ -161,12 +163,20 @@ pub extern "C" fn aqfp_run(
     outputs: &mut [u8],
     answer: &mut [u8; 8],
 ) -> u32
-    ensures answer { λ r. ⌜ Answered r (now (answer .exit)) (checkedNumbers (runAnswer (now (source .entry)) capacity (now (mapped .entry)) «row_count» (now (rows .entry)) (now (state .entry)) (now (outputs .entry)))) ⌝ }
-    ensures area { λ _. ⌜ now (state .exit) ≡ runArea (now (source .entry)) capacity (now (mapped .entry)) «row_count» (now (rows .entry)) (now (state .entry)) (now (outputs .entry)) ⌝ }
-    ensures outputs { λ _. ⌜ now (outputs .exit) ≡ runOutputs (now (source .entry)) capacity (now (mapped .entry)) «row_count» (now (rows .entry)) (now (state .entry)) (now (outputs .entry)) ⌝ }
+    ensures answer { λ r. ⌜ Answered r (now (answer .exit)) (checkedNumbers (runAnswer (now (source .entry)) (capacitiesOf capacity) (now (mapped .entry)) «row_count» (now (rows .entry)) (now (state .entry)) (now (outputs .entry)))) ⌝ }
+    ensures area { λ _. ⌜ now (state .exit) ≡ runArea (now (source .entry)) (capacitiesOf capacity) (now (mapped .entry)) «row_count» (now (rows .entry)) (now (state .entry)) (now (outputs .entry)) ⌝ }
+    ensures outputs { λ _. ⌜ now (outputs .exit) ≡ runOutputs (now (source .entry)) (capacitiesOf capacity) (now (mapped .entry)) «row_count» (now (rows .entry)) (now (state .entry)) (now (outputs .entry)) ⌝ }
 {
     answer_checked(
         answer,
-        simulator::run(source, capacity, mapped, row_count, rows, state, outputs),
+        simulator::run(
+            source,
+            Capacities { buffer: capacity },
+            mapped,
+            row_count,
+            rows,
+            state,
+            outputs,
+        ),
     )
 }

@@ -13,7 +13,9 @@ use Rattle.facts.specs.Checks.{outcome}
 use Rattle.facts.specs.Refusals.{rowOf, First, FirstAt}
 use Rattle.facts.proofs.Refusals.{exact, rows-before, one-row, first-check, first-after}
 use Rattle.facts.proofs.Reflect.{check-passed, then-passed}
+use Rattle.netlist.specs.declared.Capacities.{Capacities}
 use Rattle.netlist.specs.Kinds.{isDriver}
+use Rattle.netlist.specs.Capacities.{capacityOf}
 use Rattle.netlist.specs.Records.{netlist, recordAt, recordCount}
 use Rattle.netlist.specs.Checks.{inputChecks}
 use Rattle.netlist.specs.Source.{Source}
@@ -22,14 +24,14 @@ use Rattle.netlist.proofs.Records.{record-past}
 use Rattle.netlist.proofs.Source.{input-passed, is-output}
 use Rattle.netlist.proofs.Refusals.{input-rows, input-first}
 use Rattle.netlist.specs.PrivateInput.{Input}
-use Rattle.netlist.specs.Balance.{driverCapacity}
 use Rattle.fanout.specs.declared.Count.{Count}
 use Rattle.fanout.specs.declared.Count.the-variants.{Fewest, NoTree, Refused}
 use Rattle.fanout.specs.Nets.{row}
 use Rattle.fanout.specs.Trees.{Net, netOf}
-use Rattle.fanout.specs.Answer.{treeCount, countChecks, countAnswer}
+use Rattle.fanout.specs.Answer.{netCount, countChecks, countAnswer}
 use Rattle.fanout.specs.Promises.{
   Says,
+  NetSays,
   Asked,
   NoTreeExactly,
   FewestExactly,
@@ -47,40 +49,38 @@ tree-refused n p e = let z : _≡_ {A = ℕ} 0 1 = cc in omega arith
 fewest-refused : (k n p : ℕ) → Fewest k ≡ Refused n p → ⊥
 fewest-refused k n p e = let z : _≡_ {A = ℕ} 0 1 = cc in omega arith
 
-module _ (s : ℕ) (source : List ℕ) (d : ℕ) where
+module _ (source : List ℕ) (caps : Capacities) (d : ℕ) where
   abbrev counted : Count
-  counted = treeCount driverCapacity s (row (netlist source) d)
-
-  abbrev net : Net
-  net = netOf (netlist source) d
+  counted = netCount (netlist source) caps d
 
   -- the checks pass exactly if a driver is asked for
-  asked : (countChecks s source d ≡ checked.Passed) → Asked s source d
+  asked : (countChecks source caps d ≡ checked.Passed) → Asked source caps d
   asked e =
-      let h = then-passed (inputChecks s source) _ .0 e in
+      let h = then-passed (inputChecks source caps) _ .0 e in
       record { passed = h .0; driver = not-false _ (check-passed 20 d _ .0 (h .1)) }
 
-  passes : Asked s source d → countChecks s source d ≡ checked.Passed
+  passes : Asked source caps d → countChecks source caps d ≡ checked.Passed
   passes a =
-      then-passed (inputChecks s source) _ .1 (a .passed, check-passed 20 d _ .1 (ap not (a .driver)))
+      then-passed (inputChecks source caps) _ .1 (a .passed, check-passed 20 d _ .1 (ap not (a .driver)))
 
   -- the answer, by the checks
-  by-checks : (c : Checked) → countChecks s source d ≡ c → countAnswer s source d ≡ outcome c counted Refused
+  by-checks : (c : Checked) → countChecks source caps d ≡ c → countAnswer source caps d ≡ outcome c counted Refused
   unfolding countAnswer
   by-checks c e = ap (λ (x : Checked). outcome x counted Refused) e
 
   -- what is counted is true of the net
-  true-of : Asked s source d → Says driverCapacity s net counted
+  true-of : Asked source caps d → NetSays (netlist source) caps d counted
   true-of a =
-      let i = input-passed s source (a .passed) in
-      count-true driverCapacity s net (row (netlist source) d) (omega (arith, i .low))
+      let i = input-passed source caps (a .passed) in
+      count-true (capacityOf caps (recordAt source d .kind)) (caps .buffer) (netOf (netlist source) d) (row (netlist source) d)
+      (omega (arith, i .allowed .low))
       (row-of-net (netlist source) d (i .isSource .isSource))
 
   -- an answer other than a refusal is asked for, counted, and true of the net
-  answered : (c : Checked) → countChecks s source d ≡ c → (a : Count) → ((n p : ℕ) → a ≡ Refused n p → ⊥) →
-      countAnswer s source d ≡ a → Asked s source d × Says driverCapacity s net a
+  answered : (c : Checked) → countChecks source caps d ≡ c → (a : Count) → ((n p : ℕ) → a ≡ Refused n p → ⊥) →
+      countAnswer source caps d ≡ a → Asked source caps d × NetSays (netlist source) caps d a
   answered checked.Passed e a other h =
-      (asked e, subst (Says driverCapacity s net) (sym (by-checks checked.Passed e) ∙ h) (true-of (asked e)))
+      (asked e, subst (NetSays (netlist source) caps d) (sym (by-checks checked.Passed e) ∙ h) (true-of (asked e)))
   answered (checked.Refused n p) e a other h = absurd (other n p (sym h ∙ by-checks (checked.Refused n p) e))
 
 -- two answers that are true of one net are one
@@ -95,22 +95,22 @@ says-once c s net NoTree (Refused n p) x y = absurd y
 says-once c s net (Refused n p) b x y = absurd x
 
 -- asked for a driver, the call gives the one answer that is true of its net
-gives : (s : ℕ) (source : List ℕ) (d : ℕ) (a : Count) →
-    Asked s source d → Says driverCapacity s (netOf (netlist source) d) a → countAnswer s source d ≡ a
-gives s source d a q says =
-    by-checks s source d checked.Passed (passes s source d q)
-    ∙ says-once driverCapacity s (netOf (netlist source) d) (counted s source d) a (true-of s source d q) says
+gives : (source : List ℕ) (caps : Capacities) (d : ℕ) (a : Count) →
+    Asked source caps d → NetSays (netlist source) caps d a → countAnswer source caps d ≡ a
+gives source caps d a q says =
+    by-checks source caps d checked.Passed (passes source caps d q)
+    ∙ says-once _ _ _ (counted source caps d) a (true-of source caps d q) says
 
 pub no-tree-exactly : NoTreeExactly
-no-tree-exactly s source d = (
-  answered s source d (countChecks s source d) refl NoTree tree-refused,
-  λ x. gives s source d NoTree (x .0) (x .1),
+no-tree-exactly source caps d = (
+  answered source caps d (countChecks source caps d) refl NoTree tree-refused,
+  λ x. gives source caps d NoTree (x .0) (x .1),
 )
 
 pub fewest-exactly : FewestExactly
-fewest-exactly s source d n = (
-  answered s source d (countChecks s source d) refl (Fewest n) (fewest-refused n),
-  λ x. gives s source d (Fewest n) (x .0) (x .1),
+fewest-exactly source caps d n = (
+  answered source caps d (countChecks source caps d) refl (Fewest n) (fewest-refused n),
+  λ x. gives source caps d (Fewest n) (x .0) (x .1),
 )
 
 -- in a source 20 is answered exactly for a record that is absent or an output
@@ -125,46 +125,46 @@ driver-is source d h =
           | no g ↦ inl (omega arith)
         ]
 
-count-first : (s : ℕ) (source : List ℕ) (d : ℕ) → First (CountFails s source d) (countChecks s source d)
-count-first s source d =
-    first-after (rows-before (rowOf 7) (input-rows s source) (λ n p f. omega (arith, one-row 20 d (NoDriver source d) n p f)))
-    (input-first s source)
-    (λ e. first-check 20 d (driver-is source d (input-passed s source e .isSource)))
+count-first : (source : List ℕ) (caps : Capacities) (d : ℕ) → First (CountFails source caps d) (countChecks source caps d)
+count-first source caps d =
+    first-after (rows-before (rowOf 7) (input-rows source caps) (λ n p f. omega (arith, one-row 20 d (NoDriver source d) n p f)))
+    (input-first source caps)
+    (λ e. first-check 20 d (driver-is source d (input-passed source caps e .isSource)))
 
 pub count-exact : CountExact
-count-exact s source d = exact (count-first s source d)
+count-exact source caps d = exact (count-first source caps d)
 
 pub refused-exactly : RefusedExactly
-refused-exactly s source d number place = (there (countChecks s source d) refl, back)
+refused-exactly source caps d number place = (there (countChecks source caps d) refl, back)
   where
-    there : (c : Checked) → countChecks s source d ≡ c → countAnswer s source d ≡ Refused number place →
-        FirstAt (CountFails s source d) number place
+    there : (c : Checked) → countChecks source caps d ≡ c → countAnswer source caps d ≡ Refused number place →
+        FirstAt (CountFails source caps d) number place
     there checked.Passed e h =
         absurd
-        (subst (Says driverCapacity s (netOf (netlist source) d)) (sym (by-checks s source d checked.Passed e) ∙ h)
-        (true-of s source d (asked s source d e)))
+        (subst (NetSays (netlist source) caps d) (sym (by-checks source caps d checked.Passed e) ∙ h)
+        (true-of source caps d (asked source caps d e)))
     there (checked.Refused n p) e h =
-        count-first s source d .fails number place (cc (by-checks s source d (checked.Refused n p) e))
+        count-first source caps d .fails number place (cc (by-checks source caps d (checked.Refused n p) e))
 
-    back : FirstAt (CountFails s source d) number place → countAnswer s source d ≡ Refused number place
+    back : FirstAt (CountFails source caps d) number place → countAnswer source caps d ≡ Refused number place
     back f =
-        by-checks s source d (checked.Refused number place) (count-exact s source d .refused number place .1 f)
+        by-checks source caps d (checked.Refused number place) (count-exact source caps d .refused number place .1 f)
 
 -- the call's answer, with premises as the code has them
-module _ (s : ℕ) (source : List ℕ) (d : ℕ) (c : Checked) (e : c ≡ inputChecks s source) where
-  pub call-input : c ≡ checked.Passed → Input s source
-  call-input p = input-passed s source (sym e ∙ p)
+module _ (source : List ℕ) (caps : Capacities) (d : ℕ) (c : Checked) (e : c ≡ inputChecks source caps) where
+  pub call-input : c ≡ checked.Passed → Input source caps
+  call-input p = input-passed source caps (sym e ∙ p)
 
-  pub call-refused : (number place : ℕ) → c ≡ checked.Refused number place → Refused number place ≡ countAnswer s source d
+  pub call-refused : (number place : ℕ) → c ≡ checked.Refused number place → Refused number place ≡ countAnswer source caps d
   unfolding countAnswer
   call-refused number place p = rw (← e, p)
 
   module _ (kind : ℕ) (b : Bool) (k : kind ≡ recordAt source d .kind) (q : b ≡ isDriver kind) where
     pub call-counted : (a : Count) → c ≡ checked.Passed → b ≡ true →
-        a ≡ treeCount driverCapacity s (row (netlist source) d) → a ≡ countAnswer s source d
+        a ≡ netCount (netlist source) caps d → a ≡ countAnswer source caps d
     unfolding countAnswer
     call-counted a p t h = h ∙ rw (← e, p, ← k, ← q, t)
 
-    pub call-no-driver : c ≡ checked.Passed → b ≡ false → Refused 20 d ≡ countAnswer s source d
+    pub call-no-driver : c ≡ checked.Passed → b ≡ false → Refused 20 d ≡ countAnswer source caps d
     unfolding countAnswer
     call-no-driver p t = rw (← e, p, ← k, ← q, t)

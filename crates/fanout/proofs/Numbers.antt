@@ -5,15 +5,16 @@ use mathlib.Core.List.{List}
 use mathlib.Core.Logic.{⊎-elim}
 use native.Mathlib.Omega.{arith}
 use Rattle.facts.specs.Refusals.{FirstAt}
-use Rattle.netlist.specs.Records.{netlist}
-use Rattle.netlist.specs.Balance.{driverCapacity}
+use Rattle.netlist.specs.Records.{netlist, recordAt}
+use Rattle.netlist.specs.declared.Capacities.{Capacities}
+use Rattle.netlist.specs.Capacities.{capacityOf}
 use Rattle.netlist.proofs.Source.{input-passed}
 use Rattle.fanout.specs.declared.Count.{Count}
 use Rattle.fanout.specs.declared.Count.the-variants.{Fewest, NoTree, Refused}
 use Rattle.fanout.specs.Nets.{row, fewest}
 use Rattle.fanout.specs.Trees.{Net, netOf}
 use Rattle.fanout.specs.Answer.{noTree, countNumbers, countAnswer}
-use Rattle.fanout.specs.Promises.{LeastTree, Asked, CountFails, NumbersExactly}
+use Rattle.fanout.specs.Promises.{LeastNetTree, Asked, CountFails, NumbersExactly}
 use Rattle.fanout.proofs.Rows.{row-of-net}
 use Rattle.fanout.proofs.Walking.{fewest-small}
 use Rattle.fanout.proofs.Promises.{tree-exactly, fewest-attained}
@@ -37,26 +38,28 @@ tell (Refused n p) (Fewest m) x y e = let z : n ≡ 0 = cc in absurd (omega arit
 tell (Refused n p) NoTree x y e = let z : n ≡ 0 = cc in absurd (omega arith)
 tell (Refused m q) (Refused n p) x y e = cc
 
-module _ (s : ℕ) (source : List ℕ) (d : ℕ) where
+module _ (source : List ℕ) (caps : Capacities) (d : ℕ) where
   -- a least tree is smaller than what stands for no tree
-  least-small : (n : ℕ) → Asked s source d → LeastTree driverCapacity s (netOf (netlist source) d) n → n < noTree
+  least-small : (n : ℕ) → Asked source caps d → LeastNetTree (netlist source) caps d n → n < noTree
   least-small n q t =
-      let i = input-passed s source (q .passed) in
-      let pos : 0 < s = omega (arith, i .low) in
+      let i = input-passed source caps (q .passed) in
+      let c : ℕ = capacityOf caps (recordAt source d .kind) in
+      let s : ℕ = caps .buffer in
+      let pos : 0 < s = omega (arith, i .allowed .low) in
       let counts = row-of-net (netlist source) d (i .isSource .isSource) in
       let r : List ℕ = row (netlist source) d in
       let net : Net = netOf (netlist source) d in
-      let has = tree-exactly driverCapacity s net r pos counts .0 (t .tree, t .legal) in
-      let a = fewest-attained driverCapacity s net r pos counts has in
+      let has = tree-exactly c s net r pos counts .0 (t .tree, t .legal) in
+      let a = fewest-attained c s net r pos counts has in
       omega (
         arith,
         t .least (a .tree) (a .legal),
         a .inAll,
-        fewest-small (netlist source) s d (i .isSource .isSource) (i .low),
+        fewest-small (netlist source) s d (i .isSource .isSource) (i .allowed .low),
       )
 
   -- refusals are numbered from 1 on
-  refused-positive : (number place : ℕ) → FirstAt (CountFails s source d) number place → 0 < number
+  refused-positive : (number place : ℕ) → FirstAt (CountFails source caps d) number place → 0 < number
   refused-positive number place f =
       ⊎-elim
       (⊎-elim
@@ -67,25 +70,25 @@ module _ (s : ℕ) (source : List ℕ) (d : ℕ) where
       (λ x. omega arith)
       (f .0)
 
-  valid : (a : Count) → countAnswer s source d ≡ a → Valid a
-  valid (Fewest n) e = let x = fewest-exactly s source d n .0 e in least-small n (x .0) (x .1)
+  valid : (a : Count) → countAnswer source caps d ≡ a → Valid a
+  valid (Fewest n) e = let x = fewest-exactly source caps d n .0 e in least-small n (x .0) (x .1)
   valid NoTree e = tt
-  valid (Refused number place) e = refused-positive number place (refused-exactly s source d number place .0 e)
+  valid (Refused number place) e = refused-positive number place (refused-exactly source caps d number place .0 e)
 
 pub numbers-exactly : NumbersExactly
-numbers-exactly s source d =
+numbers-exactly source caps d =
     record {
       noTrees = (
-        λ e. no-tree-exactly s source d .0 (tell (countAnswer s source d) NoTree (valid s source d _ refl) tt e),
-        λ x. ap countNumbers (no-tree-exactly s source d .1 x),
+        λ e. no-tree-exactly source caps d .0 (tell (countAnswer source caps d) NoTree (valid source caps d _ refl) tt e),
+        λ x. ap countNumbers (no-tree-exactly source caps d .1 x),
       );
       fewest = λ n. (
-        λ e. fewest-exactly s source d n .0 (tell (countAnswer s source d) (Fewest n) (valid s source d _ refl) (e .1) (e .0)),
-        λ x. (ap countNumbers (fewest-exactly s source d n .1 x), least-small s source d n (x .0) (x .1)),
+        λ e. fewest-exactly source caps d n .0 (tell (countAnswer source caps d) (Fewest n) (valid source caps d _ refl) (e .1) (e .0)),
+        λ x. (ap countNumbers (fewest-exactly source caps d n .1 x), least-small source caps d n (x .0) (x .1)),
       );
       refused = λ number place. (
-        λ e. refused-exactly s source d number place .0
-            (tell (countAnswer s source d) (Refused number place) (valid s source d _ refl) (e .1) (e .0)),
-        λ f. (ap countNumbers (refused-exactly s source d number place .1 f), refused-positive s source d number place f),
+        λ e. refused-exactly source caps d number place .0
+            (tell (countAnswer source caps d) (Refused number place) (valid source caps d _ refl) (e .1) (e .0)),
+        λ f. (ap countNumbers (refused-exactly source caps d number place .1 f), refused-positive source caps d number place f),
       );
     }

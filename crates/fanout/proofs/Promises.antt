@@ -1,11 +1,14 @@
 -- The promises about trees, from the bound (Least) and the built tree (Built).
+use Prim.Native.Nat.{ℕ, _<_}
 use mathlib.Core.Path.{_≡_, refl}
+use mathlib.Core.List.{List}
 use mathlib.Core.Bool.{Bool, true, false, cond}
 use Rattle.facts.proofs.Bools.{true-false}
 use borrow.Author.Tests.{leb-true, le-leb}
 use Rattle.fanout.specs.Nets.{sinks, nodesAt, hasTree, fewest}
 use Rattle.fanout.specs.declared.Count.the-variants.{Fewest, NoTree}
-use Rattle.fanout.specs.Promises.{TreeExactly, LeastAtEach, LeastInAll, FewestAttained, CountTrue, Says, RowTrue, RowOfNet}
+use Rattle.fanout.specs.Promises.{TreeExactly, LeastAtEach, LeastInAll, FewestAttained, LeastTree, CountTrue, Says, RowTrue, RowOfNet}
+use Rattle.fanout.specs.Trees.{Net, RowOf}
 use Rattle.netlist.specs.Records.{netlist}
 use Rattle.fanout.proofs.Nets.{row-at}
 use Rattle.fanout.proofs.Rows as rows
@@ -27,13 +30,17 @@ tree-exactly c s net r pos counts = (
   λ e. let a = fewest-attained c s net r pos counts e in (a .tree, a .legal),
 )
 
+-- a net with a tree has one with the counted buffers, and none with fewer
+pub least-tree : (c s : ℕ) (net : Net) (r : List ℕ) → 0 < s → RowOf net r → hasTree c s r ≡ true → LeastTree c s net (fewest s r)
+least-tree c s net r pos counts e =
+    let a = fewest-attained c s net r pos counts e in
+    record { tree = a .tree; legal = a .legal; size = a .inAll; least = least-in-all c s net r pos counts }
+
 pub count-true : CountTrue
 count-true c s net r pos counts = go (hasTree c s r) refl
   where
     go : (b : Bool) → hasTree c s r ≡ b → Says c s net (cond b (Fewest (fewest s r)) NoTree)
-    go true e =
-        let a = fewest-attained c s net r pos counts e in
-        record { tree = a .tree; legal = a .legal; size = a .inAll; least = least-in-all c s net r pos counts }
+    go true e = least-tree c s net r pos counts e
     go false e = λ t legal. true-false (hasTree c s r) (tree-exactly c s net r pos counts .0 (t, legal)) e
 
 pub row-true : RowTrue

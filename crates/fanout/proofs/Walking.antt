@@ -14,14 +14,15 @@ use lib.Seq.{getD-set-same, getD-set-other, getD-drop}
 use borrow.Author.Tests.{le-leb, lt-leb}
 use Rattle.facts.proofs.Lists.{zeros}
 use Rattle.netlist.specs.Kinds.{topLevel}
-use Rattle.netlist.specs.Records.{Netlist, netlist}
+use Rattle.netlist.specs.Records.{Netlist, netlist, recordAt}
 use Rattle.netlist.specs.Source.{IsSource}
 use Rattle.netlist.specs.PrivateInput.{Input}
-use Rattle.netlist.specs.Balance.{driverCapacity}
+use Rattle.netlist.specs.declared.Capacities.{Capacities}
+use Rattle.netlist.specs.Capacities.{capacityOf, Allowed}
 use Rattle.fanout.specs.declared.TreeTotals.{TreeTotals}
 use Rattle.fanout.specs.declared.Count.the-variants.{Fewest, NoTree}
 use Rattle.fanout.specs.Nets.{sinkLimit, row, up, nodes, buffers, nodesAt, buffersAt, fewest}
-use Rattle.fanout.specs.Answer.{treeCount}
+use Rattle.fanout.specs.Answer.{treeCount, netCount}
 use Rattle.fanout.specs.declared.Reach.{Reach}
 use Rattle.fanout.specs.PrivateStretches.{InStretches, NextSinks, NextDistance}
 use Rattle.fanout.specs.PrivateWalk.{nodeLimit, Filled, Walkable, Walked}
@@ -253,21 +254,21 @@ walked-clear s counts after t w = zeros (suc topLevel) after (w .size) (λ x. at
     at x (no m) = let e : x ≡ 0 = omega arith in rw e (w .apart)
 
 -- the count that the walk gives
-module _ (s : ℕ) (counts after : List ℕ) (keep : Bool) (t : TreeTotals) (w : Walked s counts keep after t) where
-  walked-tree : t .nodes ≤ driverCapacity → Fewest (t .buffers) ≡ treeCount driverCapacity s counts
+module _ (s : ℕ) (counts after : List ℕ) (keep : Bool) (t : TreeTotals) (c : ℕ) (w : Walked s counts keep after t) where
+  walked-tree : t .nodes ≤ c → Fewest (t .buffers) ≡ treeCount c s counts
   walked-tree h =
-      rw (le-leb (nodesAt s counts 1) driverCapacity (omega (arith, w .nodes))) (ap Fewest (w .buffers))
+      rw (le-leb (nodesAt s counts 1) c (omega (arith, w .nodes))) (ap Fewest (w .buffers))
 
-  walked-none : driverCapacity < t .nodes → NoTree ≡ treeCount driverCapacity s counts
-  walked-none h = rw (lt-leb (nodesAt s counts 1) driverCapacity (omega (arith, w .nodes))) refl
+  walked-none : c < t .nodes → NoTree ≡ treeCount c s counts
+  walked-none h = rw (lt-leb (nodesAt s counts 1) c (omega (arith, w .nodes))) refl
 
 -- the row of a source's driver can be walked
-pub walkable : (n : Netlist) (s d : ℕ) (counts : List ℕ) (reach : Reach) → IsSource n → (2 ≤ s) × (s ≤ 4) → Filled n d counts (reach .far) →
-    InStretches counts (suc topLevel) (reach .stretches) → Walkable s counts reach
-walkable n s d counts reach i c f m =
+pub walkable : (n : Netlist) (caps : Capacities) (d : ℕ) (counts : List ℕ) (reach : Reach) → IsSource n → Allowed caps →
+    Filled n d counts (reach .far) → InStretches counts (suc topLevel) (reach .stretches) → Walkable (caps .buffer) counts reach
+walkable n caps d counts reach i a f m =
     record {
-      low = c .0;
-      high = c .1;
+      low = a .low;
+      high = a .high;
       size = ap length (f .counted) ∙ row-length n d;
       near = f .near;
       apart = ap (λ (r : List ℕ). getD r 0 0) (f .counted) ∙ row-apart n d i;
@@ -276,15 +277,19 @@ walkable n s d counts reach i c f m =
       within = m;
     }
 
-module _ (s : ℕ) (source : List ℕ) (d far : ℕ) (counts : List ℕ) (f : Filled (netlist source) d counts far) where
-  pub input-walkable : Input s source → Walkable s counts (record { far = far; stretches = 2 ^ 64 - 1 })
+module _ (source : List ℕ) (caps : Capacities) (d far : ℕ) (counts : List ℕ) (f : Filled (netlist source) d counts far) where
+  pub input-walkable : Input source caps → Walkable (caps .buffer) counts (record { far = far; stretches = 2 ^ 64 - 1 })
   input-walkable i =
-      walkable (netlist source) s d counts _ (i .isSource .isSource) (i .low, i .high) f
+      walkable (netlist source) caps d counts _ (i .isSource .isSource) (i .allowed) f
       (stretches-all counts (ap length (f .counted) ∙ row-length (netlist source) d))
 
-  module _ (after : List ℕ) (t : TreeTotals) (w : Walked s counts false after t) where
-    pub counted-tree : t .nodes ≤ driverCapacity → Fewest (t .buffers) ≡ treeCount driverCapacity s (row (netlist source) d)
-    counted-tree h = walked-tree s counts after false t w h ∙ ap (treeCount driverCapacity s) (f .counted)
+  module _ (after : List ℕ) (t : TreeTotals) (w : Walked (caps .buffer) counts false after t) (kind most : ℕ)
+      (k : kind ≡ recordAt source d .kind) (q : most ≡ capacityOf caps kind) where
+    net-count : treeCount most (caps .buffer) counts ≡ netCount (netlist source) caps d
+    net-count = rw (q, k, f .counted)
 
-    pub counted-none : driverCapacity < t .nodes → NoTree ≡ treeCount driverCapacity s (row (netlist source) d)
-    counted-none h = walked-none s counts after false t w h ∙ ap (treeCount driverCapacity s) (f .counted)
+    pub counted-tree : t .nodes ≤ most → Fewest (t .buffers) ≡ netCount (netlist source) caps d
+    counted-tree h = walked-tree (caps .buffer) counts after false t most w h ∙ net-count
+
+    pub counted-none : most < t .nodes → NoTree ≡ netCount (netlist source) caps d
+    counted-none h = walked-none (caps .buffer) counts after false t most w h ∙ net-count

@@ -7,7 +7,7 @@ use lib.Dec.{ltb}
 use borrow.Author.Tests.{ltb-true}
 use Rattle.facts.proofs.Bools.{and-l, and-r}
 use Rattle.fanout.specs.declared.Count.{Count}
-use Rattle.netlist.specs.Balance.{driverCapacity}
+use Rattle.netlist.specs.Capacities.{driverCapacity}
 use Rattle.fanout.specs.Answer.{treeCount}
 use Rattle.fanout.specs.Nets.{nodes, buffers}
 use Rattle.fanout.specs.Trees.{Net, netAt}

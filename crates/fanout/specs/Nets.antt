@@ -6,7 +6,9 @@ use lib.ListN.{getD, set, drop}
 use lib.Dec.{leb, eqb}
 use Rattle.facts.specs.Sums.{count₂, sum}
 use Rattle.facts.specs.Lists.{tabulate}
+use Rattle.netlist.specs.declared.Capacities.{Capacities}
 use Rattle.netlist.specs.Kinds.{slots, topLevel, sourceLimit}
+use Rattle.netlist.specs.Capacities.{capacityOf}
 use Rattle.netlist.specs.Records.{Netlist, names}
 
 -- slot j of record i is a sink of driver d, and stands x levels above it
@@ -58,9 +60,13 @@ hasTree c s r = leb (nodesAt s r 1) c
 abbrev pub fewest : ℕ → List ℕ → ℕ
 fewest s r = buffers s (drop 1 r)
 
--- the fewest buffers of d's net, and of all nets; no slot of a source names an output, so an output adds none
-abbrev pub treeSize : Netlist → ℕ → ℕ → ℕ
-treeSize m s d = fewest s (row m d)
+-- d's net has a tree: its driver feeds what its kind may
+abbrev pub netHasTree : Netlist → Capacities → ℕ → Bool
+netHasTree m caps d = hasTree (capacityOf caps (m .at d .kind)) (caps .buffer) (row m d)
 
-abbrev pub fewestInAll : Netlist → ℕ → ℕ
-fewestInAll m s = sum (treeSize m s) (m .size)
+-- the fewest buffers of d's net, and of all nets; no slot of a source names an output, so an output adds none
+abbrev pub treeSize : Netlist → Capacities → ℕ → ℕ
+treeSize m caps d = fewest (caps .buffer) (row m d)
+
+abbrev pub fewestInAll : Netlist → Capacities → ℕ
+fewestInAll m caps = sum (treeSize m caps) (m .size)

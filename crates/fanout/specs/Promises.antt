@@ -9,12 +9,13 @@ use lib.Dec.{eqb}
 use Rattle.facts.specs.declared.Checked.the-variants.{Passed}
 use Rattle.facts.specs.Sums.{count₂}
 use Rattle.facts.specs.Refusals.{Conditions, Fails, _or_, FirstAt, Exact}
+use Rattle.netlist.specs.declared.Capacities.{Capacities}
 use Rattle.netlist.specs.Kinds.{slots, topLevel, output, isDriver}
-use Rattle.netlist.specs.Records.{netlist, recordAt, recordCount, names}
+use Rattle.netlist.specs.Capacities.{driverCapacity, capacityOf}
+use Rattle.netlist.specs.Records.{Netlist, netlist, recordAt, recordCount, names}
 use Rattle.netlist.specs.Source.{Source}
 use Rattle.netlist.specs.Checks.{inputChecks}
 use Rattle.netlist.specs.Refusals.{InputFails}
-use Rattle.netlist.specs.Balance.{driverCapacity}
 use Rattle.fanout.specs.declared.Count.{Count}
 use Rattle.fanout.specs.declared.Count.the-variants.{Fewest, NoTree, Refused}
 use Rattle.fanout.specs.Nets.{row, hasTree, buffersAt, fewest}
@@ -102,51 +103,62 @@ Every P (w ∷ ws) = P w × Every P ws
 abbrev pub WorkedTrue : Type 0
 WorkedTrue = Every Holds worked
 
--- what a count is asked of: capacity and source pass 1 to 7, and the record is a driver
-pub record Asked (s : ℕ) (source : List ℕ) (d : ℕ) : Type 0 where
-  pub passed : inputChecks s source ≡ Passed
+-- what an answer says of d's net, whose driver feeds what its kind may
+abbrev pub NetSays : Netlist → Capacities → ℕ → Count → Type 0
+NetSays m caps d answer = Says (capacityOf caps (m .at d .kind)) (caps .buffer) (netOf m d) answer
+
+-- no tree of d's net is legal; a legal one has n buffers, and none has fewer
+abbrev pub NoNetTree : Netlist → Capacities → ℕ → Type 0
+NoNetTree m caps d = NetSays m caps d NoTree
+
+abbrev pub LeastNetTree : Netlist → Capacities → ℕ → ℕ → Type 0
+LeastNetTree m caps d n = NetSays m caps d (Fewest n)
+
+-- what a count is asked of: source and capacities pass 1 to 7, and the record is a driver
+pub record Asked (source : List ℕ) (caps : Capacities) (d : ℕ) : Type 0 where
+  pub passed : inputChecks source caps ≡ Passed
   pub driver : isDriver (recordAt source d .kind) ≡ true
 
 -- the call says 'no tree' exactly if it is asked of a driver for whose net no legal tree exists
 abbrev pub NoTreeExactly : Type 0
 NoTreeExactly =
-    (s : ℕ) (source : List ℕ) (d : ℕ) →
-    (countAnswer s source d ≡ NoTree)
-    ↔ (Asked s source d × NoLegalTree driverCapacity s (netOf (netlist source) d))
+    (source : List ℕ) (caps : Capacities) (d : ℕ) →
+    (countAnswer source caps d ≡ NoTree)
+    ↔ (Asked source caps d × NoNetTree (netlist source) caps d)
 
 -- and 'fewest n' exactly if a legal tree with n buffers exists and none with fewer
 abbrev pub FewestExactly : Type 0
 FewestExactly =
-    (s : ℕ) (source : List ℕ) (d n : ℕ) →
-    (countAnswer s source d ≡ Fewest n)
-    ↔ (Asked s source d × LeastTree driverCapacity s (netOf (netlist source) d) n)
+    (source : List ℕ) (caps : Capacities) (d n : ℕ) →
+    (countAnswer source caps d ≡ Fewest n)
+    ↔ (Asked source caps d × LeastNetTree (netlist source) caps d n)
 
 -- 20: the record is absent or an output
 abbrev pub NoDriver : List ℕ → ℕ → Type 0
 NoDriver source d = (recordCount source ≤ d) ⊎ (recordAt source d .kind ≡ output)
 
 -- 1 to 7, then 20
-abbrev pub CountFails : ℕ → List ℕ → ℕ → Conditions
-CountFails s source d = InputFails s source or Fails 20 d (NoDriver source d)
+abbrev pub CountFails : List ℕ → Capacities → ℕ → Conditions
+CountFails source caps d = InputFails source caps or Fails 20 d (NoDriver source d)
 
 -- each of 1 to 7 and 20 fails exactly where its condition is the first that holds, and all pass exactly if none does
 abbrev pub CountExact : Type 0
-CountExact = (s : ℕ) (source : List ℕ) (d : ℕ) → Exact (CountFails s source d) (countChecks s source d)
+CountExact = (source : List ℕ) (caps : Capacities) (d : ℕ) → Exact (CountFails source caps d) (countChecks source caps d)
 
 -- and the call refuses exactly by the first whose condition holds
 abbrev pub RefusedExactly : Type 0
 RefusedExactly =
-    (s : ℕ) (source : List ℕ) (d number place : ℕ) →
-    (countAnswer s source d ≡ Refused number place) ↔ FirstAt (CountFails s source d) number place
+    (source : List ℕ) (caps : Capacities) (d number place : ℕ) →
+    (countAnswer source caps d ≡ Refused number place) ↔ FirstAt (CountFails source caps d) number place
 
 -- the same of the answer's numbers: they tell the three cases apart
-pub record Numbers (s : ℕ) (source : List ℕ) (d : ℕ) (numbers : List ℕ) : Type 0 where
-  pub noTrees : (numbers ≡ countNumbers NoTree) ↔ (Asked s source d × NoLegalTree driverCapacity s (netOf (netlist source) d))
+pub record Numbers (source : List ℕ) (caps : Capacities) (d : ℕ) (numbers : List ℕ) : Type 0 where
+  pub noTrees : (numbers ≡ countNumbers NoTree) ↔ (Asked source caps d × NoNetTree (netlist source) caps d)
   pub fewest : (n : ℕ) →
       ((numbers ≡ countNumbers (Fewest n)) × (n < noTree))
-      ↔ (Asked s source d × LeastTree driverCapacity s (netOf (netlist source) d) n)
+      ↔ (Asked source caps d × LeastNetTree (netlist source) caps d n)
   pub refused : (number place : ℕ) →
-      ((numbers ≡ countNumbers (Refused number place)) × (0 < number)) ↔ FirstAt (CountFails s source d) number place
+      ((numbers ≡ countNumbers (Refused number place)) × (0 < number)) ↔ FirstAt (CountFails source caps d) number place
 
 abbrev pub NumbersExactly : Type 0
-NumbersExactly = (s : ℕ) (source : List ℕ) (d : ℕ) → Numbers s source d (countNumbers (countAnswer s source d))
+NumbersExactly = (source : List ℕ) (caps : Capacities) (d : ℕ) → Numbers source caps d (countNumbers (countAnswer source caps d))

@@ -5,15 +5,14 @@ ghost use mathlib.Core.Bool.{cond};
 ghost use Rattle.netlist.specs.Records.{netlist};
 ghost use Rattle.netlist.specs.Kinds.{topLevel};
 ghost use Rattle.netlist.specs.PrivateInput.{Input};
-ghost use Rattle.netlist.specs.Balance.{driverCapacity};
-ghost use Rattle.fanout.specs.Nets.{added, row};
+ghost use Rattle.fanout.specs.Nets.{added};
 ghost use Rattle.fanout.specs.Nets;
-ghost use Rattle.fanout.specs.Answer.{treeCount, countAnswer};
+ghost use Rattle.fanout.specs.Answer.{netCount, countAnswer};
 ghost use Rattle.fanout.specs.PrivateFilling.{RowSoFar, RowAtRecord, Empty, SinkRoom, Slot, rowWith, farWith};
 ghost use Rattle.fanout.specs.PrivateStretches.{InStretches, NextDistance};
 ghost use Rattle.fanout.specs.PrivateWalk.{nodeLimit, Filled, Walkable, Walked};
 use facts::Checked;
-use netlist::DRIVER_CAPACITY;
+use netlist::Capacities;
 use netlist::Record;
 
 pub mod stretches;
@@ -179,9 +178,9 @@ pub fn walk(s: u32, reach: Reach, keep: bool, row: &mut [u32; DISTANCES]) -> Tre
 }
 
 // The count of a driver's net.
-fn count_driver(source: &[u8], s: u32, driver: usize) -> Count
-    requires { ⌜ Input s (now source) ⌝ }
-    ensures { λ r. ⌜ r ≡ treeCount driverCapacity s (row (netlist (now (source .entry))) driver) ⌝ }
+fn count_driver(source: &[u8], capacities: Capacities, driver: usize) -> Count
+    requires { ⌜ Input (now source) capacities ⌝ }
+    ensures { λ r. ⌜ r ≡ netCount (netlist (now (source .entry))) capacities driver ⌝ }
 {
     let mut row = [0u32; DISTANCES];
     let far = fill(source, &mut row, driver);
@@ -189,8 +188,9 @@ fn count_driver(source: &[u8], s: u32, driver: usize) -> Count
         far,
         stretches: u64::MAX,
     };
-    let tree = walk(s, reach, false, &mut row);
-    if tree.nodes <= DRIVER_CAPACITY {
+    let tree = walk(capacities.buffer, reach, false, &mut row);
+    let most = netlist::capacity_of(capacities, netlist::kind_at(source, driver));
+    if tree.nodes <= most {
         Count::Fewest(tree.buffers)
     } else {
         Count::NoTree
@@ -198,15 +198,15 @@ fn count_driver(source: &[u8], s: u32, driver: usize) -> Count
 }
 
 // The count of one net: checks 1 to 7, then 20, then the fewest buffers or no tree.
-pub fn count_net(source: &[u8], capacity: u32, record: u32) -> Count
-    ensures { λ r. ⌜ r ≡ countAnswer capacity (now (source .entry)) «record» ⌝ }
+pub fn count_net(source: &[u8], capacities: Capacities, record: u32) -> Count
+    ensures { λ r. ⌜ r ≡ countAnswer (now (source .entry)) capacities «record» ⌝ }
 {
-    let checked = netlist::check_input(capacity, source);
+    let checked = netlist::check_input(source, capacities);
     match checked {
         Checked::Passed => {
             let driver = record as usize;
             if netlist::is_driver(netlist::kind_at(source, driver)) {
-                count_driver(source, capacity, driver)
+                count_driver(source, capacities, driver)
             } else {
                 Count::Refused(20, record)
             }

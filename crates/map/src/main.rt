@@ -1,9 +1,11 @@
 // The program `map`: standard input is one byte for the capacity, then the source; the mapper's seven numbers go to standard output.
 ghost use mathlib.Core.Path.{_≡_};
 ghost use lib.ListN.{drop, getD};
+ghost use Rattle.netlist.specs.Capacities.{capacitiesOf};
 ghost use Rattle.mapper.specs.Answer.{mapAnswer};
 use libc::STDIN_FILENO;
 use libc::STDOUT_FILENO;
+use netlist::Capacities;
 
 // One byte, and a source of one record more than the longest.
 const INPUT_LIMIT: usize = 1 + netlist::WIDTH * (netlist::SOURCE_LIMIT + 1);
@@ -38,13 +40,13 @@ fn print_line(m: mapper::Mapping) {
 
 // The mapping of an input: its first byte is the capacity, a missing one counts as 0.
 fn map_input(input: &[u8], area: &mut [u8]) -> mapper::Mapping
-    ensures { λ r. ⌜ r ≡ mapAnswer (drop 1 (now (input .entry))) (getD (now (input .entry)) 0 0) (now (area .entry)) ⌝ }
+    ensures { λ r. ⌜ r ≡ mapAnswer (drop 1 (now (input .entry))) (capacitiesOf (getD (now (input .entry)) 0 0)) (now (area .entry)) ⌝ }
 {
     if input.len() == 0 {
-        return mapper::map_netlist(input, 0, area);
+        return mapper::map_netlist(input, Capacities { buffer: 0 }, area);
     }
     let capacity = facts::wide(input[0]) as u32;
-    mapper::map_netlist(&input[1..], capacity, area)
+    mapper::map_netlist(&input[1..], Capacities { buffer: capacity }, area)
 }
 
 fn main() {

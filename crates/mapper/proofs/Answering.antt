@@ -14,6 +14,7 @@ use Rattle.facts.specs.Checks.{check, _andThen_}
 use Rattle.facts.specs.Areas.{onto}
 use Rattle.facts.proofs.Sums.{count-le}
 use Rattle.facts.proofs.Reflect.{check-passed, scan-passed}
+use Rattle.netlist.specs.declared.Capacities.{Capacities}
 use Rattle.netlist.specs.Kinds.{width, sourceLimit, mappedLimit, isGate}
 use Rattle.netlist.specs.Records.{Netlist, netlist, recordCount, depth}
 use Rattle.netlist.specs.Checks.{inputChecks}
@@ -28,7 +29,7 @@ use Rattle.nets.specs.Checks.{treeCheck, treeChecks, noTree}
 use Rattle.nets.specs.declared.trees.Sizing.{Sizing}
 use Rattle.nets.specs.declared.trees.Sizing.the-variants.{Total, Stops}
 use Rattle.nets.specs.PrivateChains.{Chained, sizingOf}
-use Rattle.nets.proofs.TreeCounts.{total-small, refusing, counting, input-source, input-capacity}
+use Rattle.nets.proofs.TreeCounts.{total-small, refusing, counting, input-source, input-allowed}
 
 -- the share, where the whole is 0 and where it is not
 pub share-none : (part whole : ℕ) → whole ≡ 0 → 0 ≡ share part whole
@@ -65,54 +66,54 @@ module _ (n : Netlist) (N bs g : ℕ) (size : N ≡ n .size) (few : N ≤ source
   accepted D part f h = cc
 
 -- no sink hangs yet
-pub parents-none : (n : Netlist) (s : ℕ) (first next : List ℕ) (end : ℕ) → Chained n first next 0 end → ParentsSet n s first next 0 end
-parents-none n s first next end h = record { chained = h; at = λ y a b c. absurd (omega arith) }
+pub parents-none : (n : Netlist) (caps : Capacities) (first next : List ℕ) (end : ℕ) → Chained n first next 0 end → ParentsSet n caps first next 0 end
+parents-none n caps first next end h = record { chained = h; at = λ y a b c. absurd (omega arith) }
 
 -- the answer and the area that the checks leave
-module _ (bytes : List ℕ) (s : ℕ) (area : List ℕ) where
-  answer-is : (a : Checked) → mapChecks bytes s area ≡ a → answerOf a (netlist bytes) s ≡ mapAnswer bytes s area
+module _ (bytes : List ℕ) (caps : Capacities) (area : List ℕ) where
+  answer-is : (a : Checked) → mapChecks bytes caps area ≡ a → answerOf a (netlist bytes) caps ≡ mapAnswer bytes caps area
   unfolding mapAnswer
-  answer-is a e = ap (λ (a : Checked). answerOf a (netlist bytes) s) (sym e)
+  answer-is a e = ap (λ (a : Checked). answerOf a (netlist bytes) caps) (sym e)
 
-  area-is : (a : Checked) → mapChecks bytes s area ≡ a → areaOf a (netlist bytes) s area ≡ mapArea bytes s area
+  area-is : (a : Checked) → mapChecks bytes caps area ≡ a → areaOf a (netlist bytes) caps area ≡ mapArea bytes caps area
   unfolding mapArea
-  area-is a e = ap (λ (a : Checked). areaOf a (netlist bytes) s area) (sym e)
+  area-is a e = ap (λ (a : Checked). areaOf a (netlist bytes) caps area) (sym e)
 
   -- 1 to 7
-  input-refuses : (number place : ℕ) → inputChecks s bytes ≡ Refused number place → mapChecks bytes s area ≡ Refused number place
+  input-refuses : (number place : ℕ) → inputChecks bytes caps ≡ Refused number place → mapChecks bytes caps area ≡ Refused number place
   unfolding mapChecks sourceMaps
   input-refuses number place e = rw e refl
 
-  pub refused-input : (number place : ℕ) (a : Checked) (r : Mapping) → a ≡ inputChecks s bytes → a ≡ Refused number place → r ≡ refusal number place →
-      r ≡ mapAnswer bytes s area
+  pub refused-input : (number place : ℕ) (a : Checked) (r : Mapping) → a ≡ inputChecks bytes caps → a ≡ Refused number place → r ≡ refusal number place →
+      r ≡ mapAnswer bytes caps area
   refused-input number place a r e f g = g ∙ answer-is (Refused number place) (input-refuses number place (sym e ∙ f))
 
-  pub kept-input : (number place : ℕ) (a : Checked) → a ≡ inputChecks s bytes → a ≡ Refused number place → area ≡ mapArea bytes s area
+  pub kept-input : (number place : ℕ) (a : Checked) → a ≡ inputChecks bytes caps → a ≡ Refused number place → area ≡ mapArea bytes caps area
   kept-input number place a e f = area-is (Refused number place) (input-refuses number place (sym e ∙ f))
 
-  module _ (i : inputChecks s bytes ≡ Passed) where
+  module _ (i : inputChecks bytes caps ≡ Passed) where
     -- 8
-    trees-refuse : (number place : ℕ) → treeChecks (netlist bytes) s ≡ Refused number place → mapChecks bytes s area ≡ Refused number place
+    trees-refuse : (number place : ℕ) → treeChecks (netlist bytes) caps ≡ Refused number place → mapChecks bytes caps area ≡ Refused number place
     unfolding mapChecks sourceMaps
     trees-refuse number place e = rw (i, e) refl
 
-    pub refused-tree : (number place total : ℕ) (z : Sizing) (r : Mapping) → z ≡ sizingOf (treeChecks (netlist bytes) s) total →
-        z ≡ Stops number place → r ≡ refusal number place → r ≡ mapAnswer bytes s area
+    pub refused-tree : (number place total : ℕ) (z : Sizing) (r : Mapping) → z ≡ sizingOf (treeChecks (netlist bytes) caps) total →
+        z ≡ Stops number place → r ≡ refusal number place → r ≡ mapAnswer bytes caps area
     refused-tree number place total z r e f g =
-        g ∙ answer-is (Refused number place) (trees-refuse number place (refusing (netlist bytes) s number place total z e f))
+        g ∙ answer-is (Refused number place) (trees-refuse number place (refusing (netlist bytes) caps number place total z e f))
 
-    pub kept-tree : (number place total : ℕ) (z : Sizing) → z ≡ sizingOf (treeChecks (netlist bytes) s) total →
-        z ≡ Stops number place → area ≡ mapArea bytes s area
+    pub kept-tree : (number place total : ℕ) (z : Sizing) → z ≡ sizingOf (treeChecks (netlist bytes) caps) total →
+        z ≡ Stops number place → area ≡ mapArea bytes caps area
     kept-tree number place total z e f =
-        area-is (Refused number place) (trees-refuse number place (refusing (netlist bytes) s number place total z e f))
+        area-is (Refused number place) (trees-refuse number place (refusing (netlist bytes) caps number place total z e f))
 
 -- what 1 to 8 show
-module _ (bytes : List ℕ) (s : ℕ) (i : inputChecks s bytes ≡ Passed) (N : ℕ) (size : N ≡ recordCount bytes) where
-  pub counted-all : (total : ℕ) (z : Sizing) → z ≡ sizingOf (treeChecks (netlist bytes) s) (fewestInAll (netlist bytes) s) →
+module _ (bytes : List ℕ) (caps : Capacities) (i : inputChecks bytes caps ≡ Passed) (N : ℕ) (size : N ≡ recordCount bytes) where
+  pub counted-all : (total : ℕ) (z : Sizing) → z ≡ sizingOf (treeChecks (netlist bytes) caps) (fewestInAll (netlist bytes) caps) →
       z ≡ Total total → (first next : List ℕ) (end : ℕ) → Chained (netlist bytes) first next 0 end →
-      Counted bytes s N first next end total
+      Counted bytes caps N first next end total
   counted-all total z e f first next end l =
-      let c = counting (netlist bytes) s (recordCount bytes) total z e f in
+      let c = counting (netlist bytes) caps (recordCount bytes) total z e f in
       record {
         input = i;
         trees = c .0;
@@ -122,21 +123,20 @@ module _ (bytes : List ℕ) (s : ℕ) (i : inputChecks s bytes ≡ Passed) (N : 
       }
 
 -- what 1 to 9 show
-pub passed-ready : (bytes : List ℕ) (s : ℕ) → inputChecks s bytes ≡ Passed → treeChecks (netlist bytes) s ≡ Passed →
-    mappedSize (netlist bytes) s ≤ mappedLimit → Ready (netlist bytes) s
-passed-ready bytes s i t l =
+pub passed-ready : (bytes : List ℕ) (caps : Capacities) → inputChecks bytes caps ≡ Passed → treeChecks (netlist bytes) caps ≡ Passed →
+    mappedSize (netlist bytes) caps ≤ mappedLimit → Ready (netlist bytes) caps
+passed-ready bytes caps i t l =
     record {
-      source = input-source bytes s i;
-      low = input-capacity bytes s i .0;
-      high = input-capacity bytes s i .1;
+      source = input-source bytes caps i;
+      allowed = input-allowed bytes caps i;
       trees = λ d b.
           not-false _
-          (check-passed 8 d (noTree (netlist bytes) s d) .0 (scan-passed (treeCheck (netlist bytes) s) (recordCount bytes) .0 t d b));
+          (check-passed 8 d (noTree (netlist bytes) caps d) .0 (scan-passed (treeCheck (netlist bytes) caps) (recordCount bytes) .0 t d b));
       fits = l;
     }
 
 -- 9, 10 and acceptance
-module _ (bytes : List ℕ) (s N : ℕ) (first next : List ℕ) (end total : ℕ) (h : Counted bytes s N first next end total) where
+module _ (bytes : List ℕ) (caps : Capacities) (N : ℕ) (first next : List ℕ) (end total : ℕ) (h : Counted bytes caps N first next end total) where
   -- the total of all trees cannot overflow
   pub total-fits : Fits w64 (N + total)
   total-fits =
@@ -144,64 +144,64 @@ module _ (bytes : List ℕ) (s N : ℕ) (first next : List ℕ) (end total : ℕ
         arith,
         h .records,
         h .buffers,
-        total-small (netlist bytes) s (input-source bytes s (h .input)) (input-capacity bytes s (h .input) .0),
-        input-source bytes s (h .input) .few,
+        total-small (netlist bytes) caps (input-source bytes caps (h .input)) (input-allowed bytes caps (h .input) .low),
+        input-source bytes caps (h .input) .few,
       )
 
-  pub counted-ready : N + total ≤ mappedLimit → Ready (netlist bytes) s
-  counted-ready l = passed-ready bytes s (h .input) (h .trees) (omega (arith, h .records, h .buffers))
+  pub counted-ready : N + total ≤ mappedLimit → Ready (netlist bytes) caps
+  counted-ready l = passed-ready bytes caps (h .input) (h .trees) (omega (arith, h .records, h .buffers))
 
   module _ (area : List ℕ) where
-    late : mapChecks bytes s area
-        ≡ (check 9 0 (tooLarge (netlist bytes) s) andThen check 10 0 (tooShort (netlist bytes) s area))
+    late : mapChecks bytes caps area
+        ≡ (check 9 0 (tooLarge (netlist bytes) caps) andThen check 10 0 (tooShort (netlist bytes) caps area))
     unfolding mapChecks sourceMaps
     late = rw (h .input, h .trees) refl
 
     -- 9
-    large : mappedLimit < N + total → mapChecks bytes s area ≡ Refused 9 0
+    large : mappedLimit < N + total → mapChecks bytes caps area ≡ Refused 9 0
     large l =
         late
-        ∙ ap (λ (b : Bool). check 9 0 b andThen check 10 0 (tooShort (netlist bytes) s area))
-        (lt-ltb mappedLimit (mappedSize (netlist bytes) s) (omega (arith, h .records, h .buffers)))
+        ∙ ap (λ (b : Bool). check 9 0 b andThen check 10 0 (tooShort (netlist bytes) caps area))
+        (lt-ltb mappedLimit (mappedSize (netlist bytes) caps) (omega (arith, h .records, h .buffers)))
 
-    pub refused-large : (r : Mapping) → mappedLimit < N + total → r ≡ refusal 9 0 → r ≡ mapAnswer bytes s area
-    refused-large r l e = e ∙ answer-is bytes s area (Refused 9 0) (large l)
+    pub refused-large : (r : Mapping) → mappedLimit < N + total → r ≡ refusal 9 0 → r ≡ mapAnswer bytes caps area
+    refused-large r l e = e ∙ answer-is bytes caps area (Refused 9 0) (large l)
 
-    pub kept-large : mappedLimit < N + total → area ≡ mapArea bytes s area
-    kept-large l = area-is bytes s area (Refused 9 0) (large l)
+    pub kept-large : mappedLimit < N + total → area ≡ mapArea bytes caps area
+    kept-large l = area-is bytes caps area (Refused 9 0) (large l)
 
     module _ (l : N + total ≤ mappedLimit) where
-      small : mapChecks bytes s area ≡ check 10 0 (tooShort (netlist bytes) s area)
+      small : mapChecks bytes caps area ≡ check 10 0 (tooShort (netlist bytes) caps area)
       small =
           late
-          ∙ ap (λ (b : Bool). check 9 0 b andThen check 10 0 (tooShort (netlist bytes) s area))
-          (le-ltb mappedLimit (mappedSize (netlist bytes) s) (omega (arith, h .records, h .buffers)))
+          ∙ ap (λ (b : Bool). check 9 0 b andThen check 10 0 (tooShort (netlist bytes) caps area))
+          (le-ltb mappedLimit (mappedSize (netlist bytes) caps) (omega (arith, h .records, h .buffers)))
 
       -- 10
-      short : length area < width * (N + total) → mapChecks bytes s area ≡ Refused 10 0
+      short : length area < width * (N + total) → mapChecks bytes caps area ≡ Refused 10 0
       short b =
           small
           ∙ ap (check 10 0)
-          (lt-ltb (length area) (width * mappedSize (netlist bytes) s) (omega (arith, h .records, h .buffers)))
+          (lt-ltb (length area) (width * mappedSize (netlist bytes) caps) (omega (arith, h .records, h .buffers)))
 
-      pub refused-short : (r : Mapping) → length area < width * (N + total) → r ≡ refusal 10 0 → r ≡ mapAnswer bytes s area
-      refused-short r b e = e ∙ answer-is bytes s area (Refused 10 0) (short b)
+      pub refused-short : (r : Mapping) → length area < width * (N + total) → r ≡ refusal 10 0 → r ≡ mapAnswer bytes caps area
+      refused-short r b e = e ∙ answer-is bytes caps area (Refused 10 0) (short b)
 
-      pub kept-short : length area < width * (N + total) → area ≡ mapArea bytes s area
-      kept-short b = area-is bytes s area (Refused 10 0) (short b)
+      pub kept-short : length area < width * (N + total) → area ≡ mapArea bytes caps area
+      kept-short b = area-is bytes caps area (Refused 10 0) (short b)
 
       module _ (b : width * (N + total) ≤ length area) where
-        passes : mapChecks bytes s area ≡ Passed
+        passes : mapChecks bytes caps area ≡ Passed
         passes =
             small
             ∙ ap (check 10 0)
-            (le-ltb (length area) (width * mappedSize (netlist bytes) s) (omega (arith, h .records, h .buffers)))
+            (le-ltb (length area) (width * mappedSize (netlist bytes) caps) (omega (arith, h .records, h .buffers)))
 
-        pub mapped-room : width * mappedSize (netlist bytes) s ≤ length area
+        pub mapped-room : width * mappedSize (netlist bytes) caps ≤ length area
         mapped-room = omega (arith, h .records, h .buffers)
 
-        pub mapped-answer : (r : Mapping) → r ≡ figures (netlist bytes) total → r ≡ mapAnswer bytes s area
-        mapped-answer r e = e ∙ ap (figures (netlist bytes)) (h .buffers) ∙ answer-is bytes s area Passed passes
+        pub mapped-answer : (r : Mapping) → r ≡ figures (netlist bytes) total → r ≡ mapAnswer bytes caps area
+        mapped-answer r e = e ∙ ap (figures (netlist bytes)) (h .buffers) ∙ answer-is bytes caps area Passed passes
 
-        pub mapped-area : (after : List ℕ) → after ≡ onto (bytesOf (mapped (netlist bytes) s)) area → after ≡ mapArea bytes s area
-        mapped-area after e = e ∙ area-is bytes s area Passed passes
+        pub mapped-area : (after : List ℕ) → after ≡ onto (bytesOf (mapped (netlist bytes) caps)) area → after ≡ mapArea bytes caps area
+        mapped-area after e = e ∙ area-is bytes caps area Passed passes

@@ -9,6 +9,7 @@ use lib.ListN.{length, getD, set, length-set}
 use lib.Seq.{getD-set-same, getD-set-other}
 use borrow.Author.Tests.{eq-eqb, ne-eqb}
 use Rattle.facts.proofs.Bools.{and-i, true-false}
+use Rattle.netlist.specs.declared.Capacities.{Capacities}
 use Rattle.netlist.specs.Kinds.{mappedLimit}
 use Rattle.netlist.specs.Records.{Netlist}
 use Rattle.nets.specs.PrivateChains.{slotEnd, usedSlot, faninSlot, namesSlot, nextSink, slotDistance, Chained}
@@ -99,9 +100,9 @@ unfolding onLine
 line-parent-is n d start p k v e f = f ∙ ap (lineParent d start) e
 
 -- once d's sinks hang on their parents, those of all drivers up to d do
-pub parents-next-driver : (n : Netlist) (s d : ℕ) (first before after : List ℕ) (end : ℕ) →
-    ParentsSet n s first before d end → ParentsWritten n d (onParent n s) before after → ParentsSet n s first after (d + 1) end
-parents-next-driver n s d first before after end h k =
+pub parents-next-driver : (n : Netlist) (caps : Capacities) (d : ℕ) (first before after : List ℕ) (end : ℕ) →
+    ParentsSet n caps first before d end → ParentsWritten n d (onParent n caps) before after → ParentsSet n caps first after (d + 1) end
+parents-next-driver n caps d first before after end h k =
     record {
       chained =
           record {

@@ -1,4 +1,4 @@
--- How many slots each record of the mapped netlist feeds: the nodes that hang on it, and so at most one for a driver and s for a buffer.
+-- How many slots each record of the mapped netlist feeds: the nodes that hang on it, and so at most as many as its kind may.
 use Prim.Native.Nat.{ℕ, zero, suc, _+_, _≤_, _<_, _/_}
 use mathlib.Core.Path.{_≡_, refl, sym, _∙_, ap, ap₂, subst⁻¹, subst, subst₂}
 use mathlib.Core.Bool.{Bool, true, false, _&&_}
@@ -9,9 +9,10 @@ use borrow.Author.Tests.{lt-ltb, ltb-true, leb-true, eq-eqb, eqb-true}
 use Rattle.facts.specs.Sums.{bit, sum, count, count₂}
 use Rattle.facts.proofs.Bools.{and-l, and-r, and-i}
 use Rattle.facts.proofs.Sums.{sum-none, sum-single-le, sum-cong, sum-add, sum-append, count-append, count₂-cong, count-none, count-all, count-le, count-mono, count₂-none, count-div, fibres}
+use Rattle.netlist.specs.declared.Capacities.{Capacities}
 use Rattle.netlist.specs.Kinds.{slots, topLevel, buffer, arity}
 use Rattle.netlist.specs.Records.{Netlist, used, fanin, names, feeds}
-use Rattle.netlist.specs.Balance.{driverCapacity}
+use Rattle.netlist.specs.Capacities.{capacityOf}
 use Rattle.netlist.proofs.Source.{no-buffer}
 use Rattle.fanout.specs.Nets.{sinks, sinkAt, nodesAt, treeSize, row}
 use Rattle.mapper.specs.Mapped.{buffersOf, mappedSize, place, parent, bufferRecord, rank, distance, sinkNumber, sinkParent, mappedAt, mapped}
@@ -27,48 +28,48 @@ both false true f g = g refl
 both false false f g = refl
 
 -- the nodes of d's tree at distance k that hang on x
-abbrev pub hangsOn : Netlist → ℕ → ℕ → ℕ → ℕ → ℕ → Bool
-hangsOn n s x d k q = eqb (parent n s d k q) x
+abbrev pub hangsOn : Netlist → Capacities → ℕ → ℕ → ℕ → ℕ → Bool
+hangsOn n caps x d k q = eqb (parent n caps d k q) x
 
-module _ (n : Netlist) (s : ℕ) (r : Ready n s) (x : ℕ) where
+module _ (n : Netlist) (caps : Capacities) (r : Ready n caps) (x : ℕ) where
   -- the slots of one buffer
-  buffer-names : (d k j : ℕ) → d < n .size → k ≤ topLevel → j < buffersOf n s d k →
-      count (names (mapped n s) x (place n s d k j)) slots ≡ bit (hangsOn n s x d k j)
+  buffer-names : (d k j : ℕ) → d < n .size → k ≤ topLevel → j < buffersOf n caps d k →
+      count (names (mapped n caps) x (place n caps d k j)) slots ≡ bit (hangsOn n caps x d k j)
   unfolding count sum bufferRecord
-  buffer-names d k j ld l b = rw (at-place n s (pos n s r) d k j ld l b) (omega arith)
+  buffer-names d k j ld l b = rw (at-place n caps (pos n caps r) d k j ld l b) (omega arith)
 
   -- the slots of all buffers
-  buffers-name : sum (λ y. count (names (mapped n s) x (n .size + y)) slots) (sum (treeSize n s) (n .size))
-      ≡ sum (λ d. sum (λ k. count (hangsOn n s x d k) (buffersOf n s d k)) (suc topLevel)) (n .size)
+  buffers-name : sum (λ y. count (names (mapped n caps) x (n .size + y)) slots) (sum (treeSize n caps) (n .size))
+      ≡ sum (λ d. sum (λ k. count (hangsOn n caps x d k) (buffersOf n caps d k)) (suc topLevel)) (n .size)
   unfolding count
   buffers-name =
-      sum-blocks g (treeSize n s) (n .size)
+      sum-blocks g (treeSize n caps) (n .size)
       ∙ sum-cong _ _ (n .size) (λ d ld.
-      ap (sum (λ z. g (sum (treeSize n s) d + z))) (tree-sum n s (pos n s r) d)
-      ∙ sum-blocks (λ z. g (sum (treeSize n s) d + z)) (buffersOf n s d) (suc topLevel)
+      ap (sum (λ z. g (sum (treeSize n caps) d + z))) (tree-sum n caps (pos n caps r) d)
+      ∙ sum-blocks (λ z. g (sum (treeSize n caps) d + z)) (buffersOf n caps d) (suc topLevel)
       ∙ sum-cong _ _ (suc topLevel) (λ k lk.
-      sum-cong _ _ (buffersOf n s d k) (λ j b.
-      ap f (sym (add-assoc (n .size) (sum (treeSize n s) d) _)) ∙ buffer-names d k j ld (omega arith) b)))
+      sum-cong _ _ (buffersOf n caps d k) (λ j b.
+      ap f (sym (add-assoc (n .size) (sum (treeSize n caps) d) _)) ∙ buffer-names d k j ld (omega arith) b)))
     where
       f : ℕ → ℕ
-      f i = count (names (mapped n s) x i) slots
+      f i = count (names (mapped n caps) x i) slots
 
       g : ℕ → ℕ
       g y = f (n .size + y)
 
   -- a used slot of the source hangs on x
   abbrev goes : ℕ → ℕ → Bool
-  goes i j = used n i j && eqb (sinkParent n s i j) x
+  goes i j = used n i j && eqb (sinkParent n caps i j) x
 
-  source-goes : (i j : ℕ) → i < n .size → names (mapped n s) x i j ≡ goes i j
+  source-goes : (i j : ℕ) → i < n .size → names (mapped n caps) x i j ≡ goes i j
   source-goes i j l =
-      both (names (mapped n s) x i j) (goes i j)
+      both (names (mapped n caps) x i j) (goes i j)
       (λ e.
-      let u : j < arity (n .at i .kind) = subst (λ (k : ℕ). j < arity k) (kind-kept n s r i l) (ltb-true j _ (and-l (used (mapped n s) i j) _ e)) in
-      and-i (used n i j) _ (lt-ltb j _ u) (eq-eqb _ x (sym (slot-used n s r i j l u) ∙ eqb-true _ x (and-r (used (mapped n s) i j) _ e))))
+      let u : j < arity (n .at i .kind) = subst (λ (k : ℕ). j < arity k) (kind-kept n caps r i l) (ltb-true j _ (and-l (used (mapped n caps) i j) _ e)) in
+      and-i (used n i j) _ (lt-ltb j _ u) (eq-eqb _ x (sym (slot-used n caps r i j l u) ∙ eqb-true _ x (and-r (used (mapped n caps) i j) _ e))))
       (λ e.
       let u : j < arity (n .at i .kind) = ltb-true j _ (and-l (used n i j) _ e) in
-      and-i (used (mapped n s) i j) _ (lt-ltb j _ (rw (kind-kept n s r i l) u)) (eq-eqb _ x (slot-used n s r i j l u ∙ eqb-true _ x (and-r (used n i j) _ e))))
+      and-i (used (mapped n caps) i j) _ (lt-ltb j _ (rw (kind-kept n caps r i l) u)) (eq-eqb _ x (slot-used n caps r i j l u ∙ eqb-true _ x (and-r (used n i j) _ e))))
 
   -- those of d's net
   abbrev ofNet : ℕ → ℕ → ℕ → Bool
@@ -77,7 +78,7 @@ module _ (n : Netlist) (s : ℕ) (r : Ready n s) (x : ℕ) where
   -- those of d's net at distance k
   source-hangs : (d k i j : ℕ) → i < n .size →
       (ofNet d i j && eqb (distance n i j) k)
-      ≡ (sinkAt n d k i j && hangsOn n s x d k (buffersOf n s d k + rank (sinkAt n d k) i j))
+      ≡ (sinkAt n d k i j && hangsOn n caps x d k (buffersOf n caps d k + rank (sinkAt n d k) i j))
   unfolding sinkNumber
   source-hangs d k i j l =
       both _ _
@@ -86,7 +87,7 @@ module _ (n : Netlist) (s : ℕ) (r : Ready n s) (x : ℕ) where
       let u : j < arity (n .at i .kind) = ltb-true j _ (and-l (used n i j) _ g) in
       let a : fanin n i j ≡ d = eqb-true _ d (and-r (goes i j) _ (and-l (ofNet d i j) _ e)) in
       let b : distance n i j ≡ k = eqb-true _ k (and-r (ofNet d i j) _ e) in
-      and-i (sinkAt n d k i j) _ (is-sink n d k i j (subst₂ (λ (d k : ℕ). IsSink n d k i j) a b (source-sink n s r i j l u)))
+      and-i (sinkAt n d k i j) _ (is-sink n d k i j (subst₂ (λ (d k : ℕ). IsSink n d k i j) a b (source-sink n caps r i j l u)))
       (eq-eqb _ x (sym (ap₂ hangsOn a b) ∙ eqb-true _ x (and-r (used n i j) _ g))))
       (λ e.
       let h = sink-facts n d k i j (and-l (sinkAt n d k i j) _ e) in
@@ -98,11 +99,11 @@ module _ (n : Netlist) (s : ℕ) (r : Ready n s) (x : ℕ) where
       (eq-eqb _ d (h .driver))) (eq-eqb _ k b))
     where
       hangsOn : ℕ → ℕ → ℕ
-      hangsOn d k = parent n s d k (buffersOf n s d k + rank (sinkAt n d k) i j)
+      hangsOn d k = parent n caps d k (buffersOf n caps d k + rank (sinkAt n d k) i j)
 
   -- the slots of the source's records
-  sources-name : count₂ (names (mapped n s) x) slots (n .size)
-      ≡ sum (λ d. sum (λ k. count (λ y. hangsOn n s x d k (buffersOf n s d k + y)) (sinks n d k)) (suc topLevel)) (n .size)
+  sources-name : count₂ (names (mapped n caps) x) slots (n .size)
+      ≡ sum (λ d. sum (λ k. count (λ y. hangsOn n caps x d k (buffersOf n caps d k + y)) (sinks n d k)) (suc topLevel)) (n .size)
   unfolding sinks
   sources-name =
       count₂-cong _ goes slots (n .size) (λ i j l b. source-goes i j l)
@@ -112,23 +113,23 @@ module _ (n : Netlist) (s : ℕ) (r : Ready n s) (x : ℕ) where
       fibres (ofNet d) (distance n) slots (n .size) (suc topLevel) (λ i j l b e. omega (arith, r .source .levels i l))
       ∙ sum-cong _ _ (suc topLevel) (λ k lk.
       count₂-cong _ _ slots (n .size) (λ i j l b. source-hangs d k i j l)
-      ∙ count₂-rank (sinkAt n d k) (λ y. hangsOn n s x d k (buffersOf n s d k + y)) (n .size)))
+      ∙ count₂-rank (sinkAt n d k) (λ y. hangsOn n caps x d k (buffersOf n caps d k + y)) (n .size)))
 
   -- a record feeds the nodes that hang on it, buffers and sinks of each net at each distance
-  pub feeds-nodes : feeds (mapped n s) x
-      ≡ sum (λ d. sum (λ k. count (hangsOn n s x d k) (buffersOf n s d k + sinks n d k)) (suc topLevel)) (n .size)
+  pub feeds-nodes : feeds (mapped n caps) x
+      ≡ sum (λ d. sum (λ k. count (hangsOn n caps x d k) (buffersOf n caps d k + sinks n d k)) (suc topLevel)) (n .size)
   unfolding feeds count₂
   feeds-nodes =
-      sum-append (λ i. count (names (mapped n s) x i) slots) (n .size) (sum (treeSize n s) (n .size))
+      sum-append (λ i. count (names (mapped n caps) x i) slots) (n .size) (sum (treeSize n caps) (n .size))
       ∙ ap₂ _+_ sources-name buffers-name
       ∙ sym (sum-add _ _ (n .size))
       ∙ sum-cong _ _ (n .size) (λ d ld.
       sym (sum-add _ _ (suc topLevel))
       ∙ sum-cong _ _ (suc topLevel) (λ k lk.
-      omega (arith, count-append (hangsOn n s x d k) (buffersOf n s d k) (sinks n d k))))
+      omega (arith, count-append (hangsOn n caps x d k) (buffersOf n caps d k) (sinks n d k))))
 
 -- how many slots a record may feed
-module _ (n : Netlist) (s : ℕ) (r : Ready n s) where
+module _ (n : Netlist) (caps : Capacities) (r : Ready n caps) where
   -- a sink stands above its driver
   none-level : (d : ℕ) → sinks n d 0 ≡ 0
   unfolding sinks
@@ -139,14 +140,14 @@ module _ (n : Netlist) (s : ℕ) (r : Ready n s) where
       omega (arith, h .level, r .source .lower i j l (h .inUse), ap (λ (x : ℕ). n .at x .level) (h .driver)))
 
   -- what is counted of a net at a distance are nodes
-  counted-node : (d k q : ℕ) → d < n .size → k ≤ topLevel → q < buffersOf n s d k + sinks n d k → IsNode n s r d k q
+  counted-node : (d k q : ℕ) → d < n .size → k ≤ topLevel → q < buffersOf n caps d k + sinks n d k → IsNode n caps r d k q
   unfolding buffersOf
   counted-node d zero q ld l b = absurd (omega (arith, none-level d))
   counted-node d (suc k) q ld l b =
-      record { driver = ld; above = omega arith; near = l; number = omega (arith, nodes-split n s r d k l) }
+      record { driver = ld; above = omega arith; near = l; number = omega (arith, nodes-split n caps r d k l) }
 
   -- only the nodes at distance 1 of x's own net hang on a driver x
-  on-driver : (x d k q : ℕ) → x < n .size → IsNode n s r d k q → parent n s d k q ≡ x → (d ≡ x) × (k ≡ 1)
+  on-driver : (x d k q : ℕ) → x < n .size → IsNode n caps r d k q → parent n caps d k q ≡ x → (d ≡ x) × (k ≡ 1)
   unfolding parent
   on-driver x d zero q l h e = absurd (omega (arith, h .above))
   on-driver x d (suc zero) q l h e = (e, refl)
@@ -154,75 +155,75 @@ module _ (n : Netlist) (s : ℕ) (r : Ready n s) where
 
   -- where all nodes that hang on x are of one net and distance, x feeds at most those
   feeds-single : (x d₀ k₀ : ℕ) → d₀ < n .size →
-      ((d k q : ℕ) → IsNode n s r d k q → parent n s d k q ≡ x → (d ≡ d₀) × (k ≡ k₀)) →
-      feeds (mapped n s) x ≤ count (hangsOn n s x d₀ k₀) (buffersOf n s d₀ k₀ + sinks n d₀ k₀)
+      ((d k q : ℕ) → IsNode n caps r d k q → parent n caps d k q ≡ x → (d ≡ d₀) × (k ≡ k₀)) →
+      feeds (mapped n caps) x ≤ count (hangsOn n caps x d₀ k₀) (buffersOf n caps d₀ k₀ + sinks n d₀ k₀)
   feeds-single x d₀ k₀ ld₀ only =
       omega (
         arith,
-        feeds-nodes n s r x,
+        feeds-nodes n caps r x,
         sum-single-le (λ d. sum (λ k. at d k) (suc topLevel)) d₀ (n .size)
             (λ d ld ne.
             sum-none _ (suc topLevel)
             (λ k lk.
-            count-none (hangsOn n s x d k) _
+            count-none (hangsOn n caps x d k) _
             (λ q b e. ne (only d k q (counted-node d k q ld (omega arith) b) (eqb-true _ x e) .0)))),
         sum-single-le (at d₀) k₀ (suc topLevel)
             (λ k lk ne.
-            count-none (hangsOn n s x d₀ k) _
+            count-none (hangsOn n caps x d₀ k) _
             (λ q b e. ne (only d₀ k q (counted-node d₀ k q ld₀ (omega arith) b) (eqb-true _ x e) .1))),
       )
     where
       at : ℕ → ℕ → ℕ
-      at d k = count (hangsOn n s x d k) (buffersOf n s d k + sinks n d k)
+      at d k = count (hangsOn n caps x d k) (buffersOf n caps d k + sinks n d k)
 
-  pub driver-feeds : (x : ℕ) → x < n .size → feeds (mapped n s) x ≤ driverCapacity
+  pub driver-feeds : (x : ℕ) → x < n .size → feeds (mapped n caps) x ≤ capacityOf caps (n .at x .kind)
   driver-feeds x l =
       omega (
         arith,
         feeds-single x x 1 l (λ d k q h e. on-driver x d k q l h e),
-        count-le (hangsOn n s x x 1) (buffersOf n s x 1 + sinks n x 1),
-        nodes-split n s r x 0 (omega arith),
-        leb-true (nodesAt s (row n x) 1) driverCapacity (r .trees x l),
+        count-le (hangsOn n caps x x 1) (buffersOf n caps x 1 + sinks n x 1),
+        nodes-split n caps r x 0 (omega arith),
+        leb-true (nodesAt (caps .buffer) (row n x) 1) (capacityOf caps (n .at x .kind)) (r .trees x l),
       )
 
   -- a buffer at distance k carries nodes of its own net at distance k + 1, s at most
-  on-buffer : (d₀ k₀ j₀ d k q : ℕ) → d₀ < n .size → k₀ ≤ topLevel → j₀ < buffersOf n s d₀ k₀ → IsNode n s r d k q →
-      parent n s d k q ≡ place n s d₀ k₀ j₀ → (d ≡ d₀) × (k ≡ suc k₀)
+  on-buffer : (d₀ k₀ j₀ d k q : ℕ) → d₀ < n .size → k₀ ≤ topLevel → j₀ < buffersOf n caps d₀ k₀ → IsNode n caps r d k q →
+      parent n caps d k q ≡ place n caps d₀ k₀ j₀ → (d ≡ d₀) × (k ≡ suc k₀)
   unfolding parent
   on-buffer d₀ k₀ j₀ d zero q ld l b h e = absurd (omega (arith, h .above))
   on-buffer d₀ k₀ j₀ d (suc zero) q ld l b h e = absurd (omega (arith, h .driver))
   on-buffer d₀ k₀ j₀ d (suc (suc k)) q ld l b h e =
       let f =
-      place-driver n s (pos n s r) d (suc k) (q / s) d₀ k₀ j₀ (h .driver) (omega (arith, h .near)) (hangs n s r d k q h) ld l b e in (
+      place-driver n caps (pos n caps r) d (suc k) (q / (caps .buffer)) d₀ k₀ j₀ (h .driver) (omega (arith, h .near)) (hangs n caps r d k q h) ld l b e in (
         f,
         ap suc
-            (place-distance n s (pos n s r) d (suc k) (q / s) k₀ j₀ (omega (arith, h .near)) (hangs n s r d k q h) l
-            (subst⁻¹ (λ (y : ℕ). j₀ < buffersOf n s y k₀) f b) (e ∙ ap (λ (y : ℕ). place n s y k₀ j₀) (sym f))),
+            (place-distance n caps (pos n caps r) d (suc k) (q / (caps .buffer)) k₀ j₀ (omega (arith, h .near)) (hangs n caps r d k q h) l
+            (subst⁻¹ (λ (y : ℕ). j₀ < buffersOf n caps y k₀) f b) (e ∙ ap (λ (y : ℕ). place n caps y k₀ j₀) (sym f))),
       )
 
-  pub buffer-feeds : (d k j : ℕ) → d < n .size → k ≤ topLevel → j < buffersOf n s d k → feeds (mapped n s) (place n s d k j) ≤ s
+  pub buffer-feeds : (d k j : ℕ) → d < n .size → k ≤ topLevel → j < buffersOf n caps d k → feeds (mapped n caps) (place n caps d k j) ≤ caps .buffer
   unfolding buffersOf parent
   buffer-feeds d zero j ld l b = absurd (omega arith)
   buffer-feeds d (suc k) j ld l b =
       omega (
         arith,
-        feeds-single (place n s d (suc k) j) d (suc (suc k)) ld (λ d′ k′ q h e. on-buffer d (suc k) j d′ k′ q ld l b h e),
-        count-mono (hangsOn n s (place n s d (suc k) j) d (suc (suc k))) (λ q. eqb (q / s) j) (buffersOf n s d (suc (suc k)) + sinks n d (suc (suc k)))
-            (λ q m e. eq-eqb (q / s) j (omega (arith, eqb-true _ (place n s d (suc k) j) e))),
-        count-div s j (buffersOf n s d (suc (suc k)) + sinks n d (suc (suc k))) (pos n s r),
+        feeds-single (place n caps d (suc k) j) d (suc (suc k)) ld (λ d′ k′ q h e. on-buffer d (suc k) j d′ k′ q ld l b h e),
+        count-mono (hangsOn n caps (place n caps d (suc k) j) d (suc (suc k))) (λ q. eqb (q / (caps .buffer)) j) (buffersOf n caps d (suc (suc k)) + sinks n d (suc (suc k)))
+            (λ q m e. eq-eqb (q / (caps .buffer)) j (omega (arith, eqb-true _ (place n caps d (suc k) j) e))),
+        count-div (caps .buffer) j (buffersOf n caps d (suc (suc k)) + sinks n d (suc (suc k))) (pos n caps r),
       )
 
   -- the records of kind 5 are the M - N buffers of all trees
-  pub buffer-count : count (λ i. eqb (mappedAt n s i .kind) buffer) (mappedSize n s) ≡ sum (treeSize n s) (n .size)
+  pub buffer-count : count (λ i. eqb (mappedAt n caps i .kind) buffer) (mappedSize n caps) ≡ sum (treeSize n caps) (n .size)
   buffer-count =
-      count-append isBuffer (n .size) (sum (treeSize n s) (n .size))
+      count-append isBuffer (n .size) (sum (treeSize n caps) (n .size))
       ∙ omega (
         arith,
         count-none isBuffer (n .size)
-            (λ i l e. no-buffer n (r .source) i l (kind-kept n s r i l) (eqb-true (mappedAt n s i .kind) buffer e)),
-        count-all (λ y. isBuffer (n .size + y)) (sum (treeSize n s) (n .size))
-            (λ y l. eq-eqb _ buffer (buffer-kind n s r (n .size + y) (omega arith) (omega arith))),
+            (λ i l e. no-buffer n (r .source) i l (kind-kept n caps r i l) (eqb-true (mappedAt n caps i .kind) buffer e)),
+        count-all (λ y. isBuffer (n .size + y)) (sum (treeSize n caps) (n .size))
+            (λ y l. eq-eqb _ buffer (buffer-kind n caps r (n .size + y) (omega arith) (omega arith))),
       )
     where
       isBuffer : ℕ → Bool
-      isBuffer i = eqb (mappedAt n s i .kind) buffer
+      isBuffer i = eqb (mappedAt n caps i .kind) buffer

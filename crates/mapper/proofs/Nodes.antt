@@ -12,6 +12,7 @@ use borrow.Author.Tests.{lt-ltb, le-ltb, ltb-true, eq-eqb, eqb-true}
 use Rattle.facts.proofs.Bools.{and-l, and-r, and-i}
 use Rattle.facts.proofs.Sums.{count₂-none}
 use Rattle.facts.proofs.Lists.{getD-replicated, getD-tabulate}
+use Rattle.netlist.specs.declared.Capacities.{Capacities}
 use Rattle.netlist.specs.declared.Record.{Record}
 use Rattle.netlist.specs.Kinds.{slots, unused, topLevel, output, buffer, arity, isDriver}
 use Rattle.netlist.specs.Records.{Netlist, slot, used, fanin, names}
@@ -42,62 +43,62 @@ pub is-sink : (n : Netlist) (d k i j : ℕ) → IsSink n d k i j → sinkAt n d 
 is-sink n d k i j h =
     and-i (names n d i j) _ (and-i (used n i j) _ (lt-ltb j _ (h .inUse)) (eq-eqb _ d (h .driver))) (eq-eqb _ _ (h .level))
 
-module _ (n : Netlist) (s : ℕ) (r : Ready n s) where
-  pub pos : 0 < s
-  pos = omega (arith, r .low)
+module _ (n : Netlist) (caps : Capacities) (r : Ready n caps) where
+  pub pos : 0 < caps .buffer
+  pos = omega (arith, r .allowed .low)
 
   -- the nodes at a distance: its buffers and its sinks
-  pub nodes-split : (d k : ℕ) → suc k ≤ topLevel → nodesAt s (row n d) (suc k) ≡ buffersOf n s d (suc k) + sinks n d (suc k)
+  pub nodes-split : (d k : ℕ) → suc k ≤ topLevel → nodesAt (caps .buffer) (row n d) (suc k) ≡ buffersOf n caps d (suc k) + sinks n d (suc k)
   unfolding buffersOf
-  nodes-split d k l = omega (arith, nodes-at s (row n d) (suc k) pos, row-at n d (suc k) l)
+  nodes-split d k l = omega (arith, nodes-at (caps .buffer) (row n d) (suc k) pos, row-at n d (suc k) l)
 
   -- a node of d's tree at distance k
   pub record IsNode (d k q : ℕ) : Type 0 where
     pub driver : d < n .size
     pub above : 1 ≤ k
     pub near : k ≤ topLevel
-    pub number : q < nodesAt s (row n d) k
+    pub number : q < nodesAt (caps .buffer) (row n d) k
 
   -- node q at a distance from 2 on hangs on a buffer
-  pub hangs : (d k q : ℕ) → IsNode d (suc (suc k)) q → q / s < buffersOf n s d (suc k)
+  pub hangs : (d k q : ℕ) → IsNode d (suc (suc k)) q → q / (caps .buffer) < buffersOf n caps d (suc k)
   unfolding buffersOf
-  hangs d k q h = div-up s q _ pos (h .number)
+  hangs d k q h = div-up (caps .buffer) q _ pos (h .number)
 
   -- a parent stands one level nearer
-  pub parent-level : (d k q : ℕ) → IsNode d k q → n .at d .level + k ≡ suc (mappedAt n s (parent n s d k q) .level)
+  pub parent-level : (d k q : ℕ) → IsNode d k q → n .at d .level + k ≡ suc (mappedAt n caps (parent n caps d k q) .level)
   unfolding parent rewired bufferRecord
   parent-level d zero q h = absurd (omega (arith, h .above))
-  parent-level d (suc zero) q h = rw (at-source n s pos d (h .driver)) (omega arith)
+  parent-level d (suc zero) q h = rw (at-source n caps pos d (h .driver)) (omega arith)
   parent-level d (suc (suc k)) q h =
-      rw (at-place n s pos d (suc k) (q / s) (h .driver) (omega (arith, h .near)) (hangs d k q h)) (omega arith)
+      rw (at-place n caps pos d (suc k) (q / (caps .buffer)) (h .driver) (omega (arith, h .near)) (hangs d k q h)) (omega arith)
 
-  pub parent-inside : (d k q : ℕ) → IsNode d k q → parent n s d k q < mappedSize n s
+  pub parent-inside : (d k q : ℕ) → IsNode d k q → parent n caps d k q < mappedSize n caps
   unfolding parent
   parent-inside d zero q h = absurd (omega (arith, h .above))
   parent-inside d (suc zero) q h = omega (arith, h .driver)
-  parent-inside d (suc (suc k)) q h = place-inside n s pos d (suc k) (q / s) (h .driver) (omega (arith, h .near)) (hangs d k q h)
+  parent-inside d (suc (suc k)) q h = place-inside n caps pos d (suc k) (q / (caps .buffer)) (h .driver) (omega (arith, h .near)) (hangs d k q h)
 
-  pub parent-kind : (d k q : ℕ) → IsNode d k q → n .at d .kind ≢ output → mappedAt n s (parent n s d k q) .kind ≢ output
+  pub parent-kind : (d k q : ℕ) → IsNode d k q → n .at d .kind ≢ output → mappedAt n caps (parent n caps d k q) .kind ≢ output
   unfolding parent rewired bufferRecord
   parent-kind d zero q h g = absurd (omega (arith, h .above))
-  parent-kind d (suc zero) q h g = rw (at-source n s pos d (h .driver)) g
+  parent-kind d (suc zero) q h g = rw (at-source n caps pos d (h .driver)) g
   parent-kind d (suc (suc k)) q h g =
-      rw (at-place n s pos d (suc k) (q / s) (h .driver) (omega (arith, h .near)) (hangs d k q h)) (omega arith)
+      rw (at-place n caps pos d (suc k) (q / (caps .buffer)) (h .driver) (omega (arith, h .near)) (hangs d k q h)) (omega arith)
 
   -- whatever holds of the driver, and of a buffer where it holds of the buffer's fanin, holds of every parent in its tree
   pub parent-traced : (P : ℕ → Type 0) (d k q : ℕ) → IsNode d k q → P d →
-      ((x : ℕ) → mappedAt n s x .kind ≡ buffer → P (slot (mappedAt n s x) 0) → P x) → P (parent n s d k q)
+      ((x : ℕ) → mappedAt n caps x .kind ≡ buffer → P (slot (mappedAt n caps x) 0) → P x) → P (parent n caps d k q)
   unfolding parent bufferRecord
   parent-traced P d zero q h p back = p
   parent-traced P d (suc zero) q h p back = p
   parent-traced P d (suc (suc k)) q h p back =
-      back (place n s d (suc k) (q / s)) (ap (λ (x : Record). x .kind) e)
-      (subst⁻¹ P (ap (λ (x : Record). slot x 0) e) (parent-traced P d (suc k) (q / s) inner p back))
+      back (place n caps d (suc k) (q / (caps .buffer))) (ap (λ (x : Record). x .kind) e)
+      (subst⁻¹ P (ap (λ (x : Record). slot x 0) e) (parent-traced P d (suc k) (q / (caps .buffer)) inner p back))
     where
-      e : mappedAt n s (place n s d (suc k) (q / s)) ≡ bufferRecord n s d (suc k) (q / s)
-      e = at-place n s pos d (suc k) (q / s) (h .driver) (omega (arith, h .near)) (hangs d k q h)
+      e : mappedAt n caps (place n caps d (suc k) (q / (caps .buffer))) ≡ bufferRecord n caps d (suc k) (q / (caps .buffer))
+      e = at-place n caps pos d (suc k) (q / (caps .buffer)) (h .driver) (omega (arith, h .near)) (hangs d k q h)
 
-      inner : IsNode d (suc k) (q / s)
+      inner : IsNode d (suc k) (q / (caps .buffer))
       inner =
           record {
             driver = h .driver;
@@ -107,26 +108,26 @@ module _ (n : Netlist) (s : ℕ) (r : Ready n s) where
           }
 
   -- a buffer is a node of its tree
-  pub buffer-node : (d k j : ℕ) → d < n .size → k ≤ topLevel → j < buffersOf n s d k → IsNode d k j
+  pub buffer-node : (d k j : ℕ) → d < n .size → k ≤ topLevel → j < buffersOf n caps d k → IsNode d k j
   unfolding buffersOf
   buffer-node d zero j ld l b = absurd (omega arith)
   buffer-node d (suc k) j ld l b =
       record { driver = ld; above = omega arith; near = l; number = omega (arith, nodes-split d k l) }
 
   -- without sinks from a distance on there are no nodes
-  none-from : (d k : ℕ) → ((x : ℕ) → k ≤ x → sinks n d x ≡ 0) → nodesAt s (row n d) k ≡ 0
+  none-from : (d k : ℕ) → ((x : ℕ) → k ≤ x → sinks n d x ≡ 0) → nodesAt (caps .buffer) (row n d) k ≡ 0
   none-from d k z =
-      nodes-none s (drop k (row n d)) pos (λ x. getD-drop k (row n d) x 0 ∙ row-none n d (k + x) (z (k + x) (omega arith)))
+      nodes-none (caps .buffer) (drop k (row n d)) pos (λ x. getD-drop k (row n d) x 0 ∙ row-none n d (k + x) (z (k + x) (omega arith)))
 
   -- an output has no buffer
-  pub buffer-drives : (d k j : ℕ) → j < buffersOf n s d k → n .at d .kind ≢ output
+  pub buffer-drives : (d k j : ℕ) → j < buffersOf n caps d k → n .at d .kind ≢ output
   unfolding buffersOf
   buffer-drives d zero j b e = omega arith
   buffer-drives d (suc k) j b e =
       omega (
         arith,
-        ap (up s) (none-from d (suc (suc k)) (λ x l. no-sinks n d (r .source) (ap isDriver e) x)),
-        up-zero s pos,
+        ap (up (caps .buffer)) (none-from d (suc (suc k)) (λ x l. no-sinks n d (r .source) (ap isDriver e) x)),
+        up-zero (caps .buffer) pos,
       )
 
   -- no sink stands above the top level
@@ -137,12 +138,12 @@ module _ (n : Netlist) (s : ℕ) (r : Ready n s) where
       (λ i j a b t. omega (arith, sink-facts n d x i j t .level, r .source .levels i a))
 
   -- a buffer stands on a level: some sink stands further on
-  pub buffer-level : (d k j : ℕ) → j < buffersOf n s d k → n .at d .level + k ≤ topLevel
+  pub buffer-level : (d k j : ℕ) → j < buffersOf n caps d k → n .at d .level + k ≤ topLevel
   unfolding buffersOf
   buffer-level d zero j b = absurd (omega arith)
   buffer-level d (suc k) j b =
       elim (decLt topLevel (n .at d .level + suc k)) [
-        | yes h ↦ absurd (omega (arith, ap (up s) (none-from d (suc (suc k)) (λ x l. sinks-far d x (omega arith))), up-zero s pos))
+        | yes h ↦ absurd (omega (arith, ap (up (caps .buffer)) (none-from d (suc (suc k)) (λ x l. sinks-far d x (omega arith))), up-zero (caps .buffer) pos))
         | no h ↦ omega arith
       ]
 
@@ -153,15 +154,15 @@ module _ (n : Netlist) (s : ℕ) (r : Ready n s) where
     pub q : ℕ
     pub node : IsNode d k q
     pub drives : n .at d .kind ≢ output
-    pub level : mappedAt n s i .level ≡ n .at d .level + k
-    pub fanin : slot (mappedAt n s i) j ≡ parent n s d k q
+    pub level : mappedAt n caps i .level ≡ n .at d .level + k
+    pub fanin : slot (mappedAt n caps i) j ≡ parent n caps d k q
 
   -- a source's used slot is a sink of its fanin, at its distance
   pub source-sink : (i j : ℕ) → i < n .size → j < arity (n .at i .kind) → IsSink n (fanin n i j) (distance n i j) i j
   source-sink i j l b =
       record { inUse = b; driver = refl; level = omega (arith, r .source .lower i j l b) }
 
-  pub source-node : (i j : ℕ) → i < n .size → j < arity (n .at i .kind) → IsNode (fanin n i j) (distance n i j) (sinkNumber n s i j)
+  pub source-node : (i j : ℕ) → i < n .size → j < arity (n .at i .kind) → IsNode (fanin n i j) (distance n i j) (sinkNumber n caps i j)
   unfolding sinkNumber sinks
   source-node i j l b = record {
     driver = omega (arith, r .source .earlier i j l b);
@@ -171,8 +172,8 @@ module _ (n : Netlist) (s : ℕ) (r : Ready n s) where
   }
     where
       go : (k : ℕ) → k ≡ distance n i j →
-          buffersOf n s (fanin n i j) (distance n i j) + rank (sinkAt n (fanin n i j) (distance n i j)) i j
-          < nodesAt s (row n (fanin n i j)) (distance n i j)
+          buffersOf n caps (fanin n i j) (distance n i j) + rank (sinkAt n (fanin n i j) (distance n i j)) i j
+          < nodesAt (caps .buffer) (row n (fanin n i j)) (distance n i j)
       go zero e = absurd (omega (arith, r .source .lower i j l b))
       go (suc k) e = rw (← e) (omega (
         arith,
@@ -182,41 +183,41 @@ module _ (n : Netlist) (s : ℕ) (r : Ready n s) where
 
   -- the slots of a source's record in the mapped netlist
   slot-at : (i j : ℕ) → i < n .size → j < slots →
-      slot (mappedAt n s i) j ≡ cond (used n i j) (sinkParent n s i j) (fanin n i j)
+      slot (mappedAt n caps i) j ≡ cond (used n i j) (sinkParent n caps i j) (fanin n i j)
   unfolding rewired
-  slot-at i j l b = rw (at-source n s pos i l) (getD-tabulate (λ j. cond (used n i j) (sinkParent n s i j) (fanin n i j)) slots j unused b)
+  slot-at i j l b = rw (at-source n caps pos i l) (getD-tabulate (λ j. cond (used n i j) (sinkParent n caps i j) (fanin n i j)) slots j unused b)
 
-  pub slot-used : (i j : ℕ) → i < n .size → j < arity (n .at i .kind) → slot (mappedAt n s i) j ≡ sinkParent n s i j
+  pub slot-used : (i j : ℕ) → i < n .size → j < arity (n .at i .kind) → slot (mappedAt n caps i) j ≡ sinkParent n caps i j
   slot-used i j l b =
       slot-at i j l (omega (arith, arity-slots (n .at i .kind)))
-      ∙ ap (λ (c : Bool). cond c (sinkParent n s i j) (fanin n i j)) (lt-ltb j (arity (n .at i .kind)) b)
+      ∙ ap (λ (c : Bool). cond c (sinkParent n caps i j) (fanin n i j)) (lt-ltb j (arity (n .at i .kind)) b)
 
-  pub slot-kept : (i j : ℕ) → i < n .size → arity (n .at i .kind) ≤ j → j < slots → slot (mappedAt n s i) j ≡ fanin n i j
+  pub slot-kept : (i j : ℕ) → i < n .size → arity (n .at i .kind) ≤ j → j < slots → slot (mappedAt n caps i) j ≡ fanin n i j
   slot-kept i j l a b =
       slot-at i j l b
-      ∙ ap (λ (c : Bool). cond c (sinkParent n s i j) (fanin n i j)) (le-ltb j (arity (n .at i .kind)) a)
+      ∙ ap (λ (c : Bool). cond c (sinkParent n caps i j) (fanin n i j)) (le-ltb j (arity (n .at i .kind)) a)
 
   -- outside its used slots a source's record is kept
-  pub kind-kept : (i : ℕ) → i < n .size → mappedAt n s i .kind ≡ n .at i .kind
+  pub kind-kept : (i : ℕ) → i < n .size → mappedAt n caps i .kind ≡ n .at i .kind
   unfolding rewired
-  kind-kept i l = rw (at-source n s pos i l) refl
+  kind-kept i l = rw (at-source n caps pos i l) refl
 
-  pub inversion-kept : (i : ℕ) → i < n .size → mappedAt n s i .inversion ≡ n .at i .inversion
+  pub inversion-kept : (i : ℕ) → i < n .size → mappedAt n caps i .inversion ≡ n .at i .inversion
   unfolding rewired
-  inversion-kept i l = rw (at-source n s pos i l) refl
+  inversion-kept i l = rw (at-source n caps pos i l) refl
 
-  pub level-kept : (i : ℕ) → i < n .size → mappedAt n s i .level ≡ n .at i .level
+  pub level-kept : (i : ℕ) → i < n .size → mappedAt n caps i .level ≡ n .at i .level
   unfolding rewired
-  level-kept i l = rw (at-source n s pos i l) refl
+  level-kept i l = rw (at-source n caps pos i l) refl
 
   -- a record that has a place is the buffer of that place
-  pub at-placed : (i : ℕ) (p : Placed n s pos i) → mappedAt n s i ≡ bufferRecord n s (p .d) (p .k) (p .j)
-  at-placed i p = ap (mappedAt n s) (p .index) ∙ at-place n s pos (p .d) (p .k) (p .j) (p .driver) (p .near) (p .number)
+  pub at-placed : (i : ℕ) (p : Placed n caps pos i) → mappedAt n caps i ≡ bufferRecord n caps (p .d) (p .k) (p .j)
+  at-placed i p = ap (mappedAt n caps) (p .index) ∙ at-place n caps pos (p .d) (p .k) (p .j) (p .driver) (p .near) (p .number)
 
   -- every used slot of the mapped netlist is a node
-  pub slot-node : (i j : ℕ) → i < mappedSize n s → j < arity (mappedAt n s i .kind) → SlotNode i j
+  pub slot-node : (i j : ℕ) → i < mappedSize n caps → j < arity (mappedAt n caps i .kind) → SlotNode i j
   unfolding bufferRecord
-  slot-node i j l b = elim (decLt i (n .size)) [ yes h ↦ below h | no h ↦ from (placed n s pos i (omega arith) l) ]
+  slot-node i j l b = elim (decLt i (n .size)) [ yes h ↦ below h | no h ↦ from (placed n caps pos i (omega arith) l) ]
     where
       below : i < n .size → SlotNode i j
       below h =
@@ -224,17 +225,17 @@ module _ (n : Netlist) (s : ℕ) (r : Ready n s) where
           record {
             d = fanin n i j;
             k = distance n i j;
-            q = sinkNumber n s i j;
+            q = sinkNumber n caps i j;
             node = source-node i j h u;
             drives = r .source .noOutput i j h u;
             level = level-kept i h ∙ source-sink i j h u .level;
             fanin = slot-used i j h u;
           }
 
-      first : (x : Record) → mappedAt n s i ≡ x → x .kind ≡ buffer → j ≡ 0
+      first : (x : Record) → mappedAt n caps i ≡ x → x .kind ≡ buffer → j ≡ 0
       first x e f = omega (arith, subst (λ (k : ℕ). j < arity k) (ap (λ (x : Record). x .kind) e ∙ f) b)
 
-      from : Placed n s pos i → SlotNode i j
+      from : Placed n caps pos i → SlotNode i j
       from p =
           let e = at-placed i p in
           record {
@@ -244,51 +245,51 @@ module _ (n : Netlist) (s : ℕ) (r : Ready n s) where
             node = buffer-node (p .d) (p .k) (p .j) (p .driver) (p .near) (p .number);
             drives = buffer-drives (p .d) (p .k) (p .j) (p .number);
             level = ap (λ (x : Record). x .level) e;
-            fanin = ap (λ (x : Record). slot x j) e ∙ ap (slot (bufferRecord n s (p .d) (p .k) (p .j))) (first _ e refl);
+            fanin = ap (λ (x : Record). slot x j) e ∙ ap (slot (bufferRecord n caps (p .d) (p .k) (p .j))) (first _ e refl);
           }
 
   -- every used slot names a record of the netlist
-  pub named : (i j : ℕ) → i < mappedSize n s → j < arity (mappedAt n s i .kind) → slot (mappedAt n s i) j < mappedSize n s
+  pub named : (i j : ℕ) → i < mappedSize n caps → j < arity (mappedAt n caps i .kind) → slot (mappedAt n caps i) j < mappedSize n caps
   named i j l b =
       let h = slot-node i j l b in
       rw (h .fanin) (parent-inside (h .d) (h .k) (h .q) (h .node))
 
   -- a used slot names no output
-  pub no-output : (i j : ℕ) → i < mappedSize n s → j < arity (mappedAt n s i .kind) →
-      mappedAt n s (slot (mappedAt n s i) j) .kind ≢ output
+  pub no-output : (i j : ℕ) → i < mappedSize n caps → j < arity (mappedAt n caps i .kind) →
+      mappedAt n caps (slot (mappedAt n caps i) j) .kind ≢ output
   no-output i j l b =
       let h = slot-node i j l b in
       rw (h .fanin) (parent-kind (h .d) (h .k) (h .q) (h .node) (h .drives))
 
   -- every fanin stands exactly one level lower
-  pub balanced : (i j : ℕ) → i < mappedSize n s → j < arity (mappedAt n s i .kind) →
-      mappedAt n s i .level ≡ suc (mappedAt n s (slot (mappedAt n s i) j) .level)
+  pub balanced : (i j : ℕ) → i < mappedSize n caps → j < arity (mappedAt n caps i .kind) →
+      mappedAt n caps i .level ≡ suc (mappedAt n caps (slot (mappedAt n caps i) j) .level)
   balanced i j l b =
       let h = slot-node i j l b in
       rw (h .fanin) (h .level ∙ parent-level (h .d) (h .k) (h .q) (h .node))
 
   -- each slot of a source's record, traced back through buffers, ends at the fanin that the source names
   pub traced : (P : ℕ → Type 0) (i j : ℕ) → i < n .size → j < arity (n .at i .kind) → P (fanin n i j) →
-      ((x : ℕ) → mappedAt n s x .kind ≡ buffer → P (slot (mappedAt n s x) 0) → P x) → P (slot (mappedAt n s i) j)
+      ((x : ℕ) → mappedAt n caps x .kind ≡ buffer → P (slot (mappedAt n caps x) 0) → P x) → P (slot (mappedAt n caps i) j)
   traced P i j l b p back =
       rw (slot-used i j l b) (parent-traced P _ _ _ (source-node i j l b) p back)
 
   -- from N on stand buffers
-  pub buffer-kind : (i : ℕ) → n .size ≤ i → i < mappedSize n s → mappedAt n s i .kind ≡ buffer
+  pub buffer-kind : (i : ℕ) → n .size ≤ i → i < mappedSize n caps → mappedAt n caps i .kind ≡ buffer
   unfolding bufferRecord
-  buffer-kind i a l = rw (at-placed i (placed n s pos i a l)) refl
+  buffer-kind i a l = rw (at-placed i (placed n caps pos i a l)) refl
 
-  pub buffer-inversion : (i : ℕ) → n .size ≤ i → i < mappedSize n s → mappedAt n s i .inversion ≡ 0
+  pub buffer-inversion : (i : ℕ) → n .size ≤ i → i < mappedSize n caps → mappedAt n caps i .inversion ≡ 0
   unfolding bufferRecord
-  buffer-inversion i a l = rw (at-placed i (placed n s pos i a l)) refl
+  buffer-inversion i a l = rw (at-placed i (placed n caps pos i a l)) refl
 
-  pub buffer-low : (i : ℕ) → n .size ≤ i → i < mappedSize n s → mappedAt n s i .level ≤ topLevel
+  pub buffer-low : (i : ℕ) → n .size ≤ i → i < mappedSize n caps → mappedAt n caps i .level ≤ topLevel
   unfolding bufferRecord
   buffer-low i a l =
-      let p = placed n s pos i a l in
+      let p = placed n caps pos i a l in
       rw (at-placed i p) (buffer-level (p .d) (p .k) (p .j) (p .number))
 
-  pub buffer-empty : (i j : ℕ) → n .size ≤ i → i < mappedSize n s → arity buffer ≤ j → slot (mappedAt n s i) j ≡ unused
+  pub buffer-empty : (i j : ℕ) → n .size ≤ i → i < mappedSize n caps → arity buffer ≤ j → slot (mappedAt n caps i) j ≡ unused
   unfolding bufferRecord
   buffer-empty i zero a l b = absurd (omega arith)
-  buffer-empty i (suc j) a l b = rw (at-placed i (placed n s pos i a l)) (getD-replicated (slots - 1) j unused)
+  buffer-empty i (suc j) a l b = rw (at-placed i (placed n caps pos i a l)) (getD-replicated (slots - 1) j unused)

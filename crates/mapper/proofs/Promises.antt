@@ -20,19 +20,20 @@ use Rattle.facts.specs.Areas.{onto}
 use Rattle.facts.proofs.Bools.{true-false}
 use Rattle.facts.proofs.Reflect.{less, check-passed, then-passed, less-none}
 use Rattle.facts.proofs.Refusals.{exact, rows-before, one-row, within-one, first-check, first-after, first-then, first-scan, scan-rows}
+use Rattle.netlist.specs.declared.Capacities.{Capacities}
 use Rattle.netlist.specs.Kinds.{width, mappedLimit, isDriver}
 use Rattle.netlist.specs.Records.{Netlist, netlist, recordCount, recordAt}
 use Rattle.netlist.specs.Source.{IsSource}
 use Rattle.netlist.specs.Checks.{inputChecks}
-use Rattle.netlist.specs.Balance.{driverCapacity}
+use Rattle.netlist.specs.Capacities.{capacityOf}
 use Rattle.netlist.specs.Bytes.{recs, bytesOf}
 use Rattle.netlist.proofs.Source.{driver-inside}
 use Rattle.netlist.proofs.Refusals.{input-rows, input-first}
 use Rattle.netlist.proofs.Bytes.{length-recs, recs-append}
-use Rattle.fanout.specs.Nets.{row, nodesAt, hasTree, treeSize, fewestInAll}
-use Rattle.fanout.specs.Trees.{netOf, RowOf}
-use Rattle.fanout.specs.Promises.{LeastTree, Attained}
-use Rattle.fanout.proofs.Promises.{tree-exactly, least-in-all, fewest-attained}
+use Rattle.fanout.specs.Nets.{row, nodesAt, netHasTree, treeSize, fewestInAll}
+use Rattle.fanout.specs.Trees.{Tree, Legal, netOf}
+use Rattle.fanout.specs.Promises.{LeastNetTree}
+use Rattle.fanout.proofs.Promises.{tree-exactly, least-tree}
 use Rattle.fanout.proofs.Rows.{row-of-net, no-sinks}
 use Rattle.mapper.specs.declared.Mapping.{Mapping}
 use Rattle.mapper.specs.Mapped.{blockStart, mappedSize, mapped}
@@ -42,134 +43,121 @@ use Rattle.mapper.specs.Answer.{figures, tooLarge, tooShort, sourceMaps,
 use Rattle.mapper.specs.Promises.{Treeless, TooLarge, TooShort, SourceMapFails, MapFails, MapExact, RefusedLeaves, Accepts, AcceptedMaps, BlockWritten, BlockNone}
 use Rattle.mapper.proofs.Answering.{passed-ready}
 use Rattle.nets.specs.Checks.{noTree, treeCheck, treeChecks}
-use Rattle.nets.proofs.TreeCounts.{input-source, input-capacity, measured-none}
+use Rattle.nets.proofs.TreeCounts.{input-source, input-allowed, measured-none}
 use Rattle.mapper.proofs.Written.{mapped-read}
 use Rattle.mapper.proofs.Feeds.{buffer-count}
 
--- a driver's row is its net's; another record has none
 -- check 8 of d fails exactly if d is a driver for whose net no legal tree exists
-treeless-is : (n : Netlist) (s d : ℕ) → IsSource n → 2 ≤ s → (noTree n s d ≡ true) ↔ Treeless n s d
-treeless-is n s d i p = (there (isDriver (n .at d .kind)) refl, λ h. back (hasTree driverCapacity s (row n d)) refl h)
+treeless-is : (n : Netlist) (caps : Capacities) (d : ℕ) → IsSource n → 2 ≤ caps .buffer → (noTree n caps d ≡ true) ↔ Treeless n caps d
+treeless-is n caps d i p = (there (isDriver (n .at d .kind)) refl, λ h. back (netHasTree n caps d) refl h)
   where
-    exactly : ((t : Rattle.fanout.specs.Trees.Tree) × Rattle.fanout.specs.Trees.Legal driverCapacity s (netOf n d) t) ↔ (hasTree driverCapacity s (row n d) ≡ true)
-    exactly = tree-exactly driverCapacity s (netOf n d) (row n d) (omega arith) (row-of-net n d i)
+    c : ℕ
+    c = capacityOf caps (n .at d .kind)
 
-    there : (b : Bool) → isDriver (n .at d .kind) ≡ b → noTree n s d ≡ true → Treeless n s d
-    there true e h = (e, λ t l. true-false (hasTree driverCapacity s (row n d)) (exactly .0 (t, l)) (not-true _ h))
-    there false e h = absurd (true-false (hasTree driverCapacity s (row n d)) empty (not-true _ h))
+    exactly : ((t : Tree) × Legal c (caps .buffer) (netOf n d) t) ↔ (netHasTree n caps d ≡ true)
+    exactly = tree-exactly c (caps .buffer) (netOf n d) (row n d) (omega arith) (row-of-net n d i)
+
+    there : (b : Bool) → isDriver (n .at d .kind) ≡ b → noTree n caps d ≡ true → Treeless n caps d
+    there true e h = (e, λ t l. true-false (netHasTree n caps d) (exactly .0 (t, l)) (not-true _ h))
+    there false e h = absurd (true-false (netHasTree n caps d) empty (not-true _ h))
       where
-        empty : hasTree driverCapacity s (row n d) ≡ true
-        empty = le-leb (nodesAt s (row n d) 1) driverCapacity (omega (arith, measured-none n s d p (no-sinks n d i e) .nodes))
+        empty : netHasTree n caps d ≡ true
+        empty = le-leb (nodesAt (caps .buffer) (row n d) 1) c (omega (arith, measured-none n caps d p (no-sinks n d i e) .nodes))
 
-    back : (b : Bool) → hasTree driverCapacity s (row n d) ≡ b → Treeless n s d → noTree n s d ≡ true
+    back : (b : Bool) → netHasTree n caps d ≡ b → Treeless n caps d → noTree n caps d ≡ true
     back true e h = let t = exactly .1 e in absurd (h .1 (t .0) (t .1))
     back false e h = ap not e
 
 -- the checks give their first failing condition
-module _ (bytes : List ℕ) (s : ℕ) where
+module _ (bytes : List ℕ) (caps : Capacities) where
   abbrev Trees : Rattle.facts.specs.Refusals.Conditions
-  Trees = Each (recordCount bytes) (λ d. Fails 8 d (Treeless (netlist bytes) s d))
+  Trees = Each (recordCount bytes) (λ d. Fails 8 d (Treeless (netlist bytes) caps d))
 
   tree-rows : Rattle.facts.proofs.Refusals.InRow (rowOf 8) Trees
-  tree-rows = scan-rows (λ d. Fails 8 d (Treeless (netlist bytes) s d)) (rowOf 8) 8 8 (recordCount bytes) (λ d. within-one 8 d (Treeless (netlist bytes) s d))
+  tree-rows = scan-rows (λ d. Fails 8 d (Treeless (netlist bytes) caps d)) (rowOf 8) 8 8 (recordCount bytes) (λ d. within-one 8 d (Treeless (netlist bytes) caps d))
 
-  late-rows : (k p : ℕ) → (Trees or Fails 9 0 (TooLarge (netlist bytes) s)) k p → (rowOf 7 < rowOf k) × (rowOf k ≤ rowOf 9)
+  late-rows : (k p : ℕ) → (Trees or Fails 9 0 (TooLarge (netlist bytes) caps)) k p → (rowOf 7 < rowOf k) × (rowOf k ≤ rowOf 9)
   late-rows k p =
-      ⊎-elim (λ f. omega (arith, tree-rows k p f)) (λ f. omega (arith, one-row 9 0 (TooLarge (netlist bytes) s) k p f))
+      ⊎-elim (λ f. omega (arith, tree-rows k p f)) (λ f. omega (arith, one-row 9 0 (TooLarge (netlist bytes) caps) k p f))
 
-  maps-first : First (SourceMapFails bytes s) (sourceMaps bytes s)
+  maps-first : First (SourceMapFails bytes caps) (sourceMaps bytes caps)
   unfolding sourceMaps
   maps-first =
       first-after
-      (rows-before (rowOf 7) (input-rows s bytes) (λ k p f. late-rows k p f .0))
-      (input-first s bytes)
+      (rows-before (rowOf 7) (input-rows bytes caps) (λ k p f. late-rows k p f .0))
+      (input-first bytes caps)
       (λ i.
       first-then
-      (rows-before (rowOf 8) (λ k p f. omega (arith, tree-rows k p f)) (λ k p f. omega (arith, one-row 9 0 (TooLarge (netlist bytes) s) k p f)))
-      (first-scan (treeCheck (netlist bytes) s) (λ d. Fails 8 d (Treeless (netlist bytes) s d)) (rowOf 8) 8 8
-      (λ d. within-one 8 d (Treeless (netlist bytes) s d)) (recordCount bytes)
-      (λ d l. first-check 8 d (treeless-is (netlist bytes) s d (input-source bytes s i) (input-capacity bytes s i .0))))
-      (first-check 9 0 (less mappedLimit (mappedSize (netlist bytes) s))))
+      (rows-before (rowOf 8) (λ k p f. omega (arith, tree-rows k p f)) (λ k p f. omega (arith, one-row 9 0 (TooLarge (netlist bytes) caps) k p f)))
+      (first-scan (treeCheck (netlist bytes) caps) (λ d. Fails 8 d (Treeless (netlist bytes) caps d)) (rowOf 8) 8 8
+      (λ d. within-one 8 d (Treeless (netlist bytes) caps d)) (recordCount bytes)
+      (λ d l. first-check 8 d (treeless-is (netlist bytes) caps d (input-source bytes caps i) (input-allowed bytes caps i .low))))
+      (first-check 9 0 (less mappedLimit (mappedSize (netlist bytes) caps))))
 
-  map-first : (area : List ℕ) → First (MapFails bytes s area) (mapChecks bytes s area)
+  map-first : (area : List ℕ) → First (MapFails bytes caps area) (mapChecks bytes caps area)
   unfolding mapChecks
   map-first area =
       first-then
       (rows-before (rowOf 9)
-      (λ k p. ⊎-elim (λ f. omega (arith, input-rows s bytes k p f)) (λ f. omega (arith, late-rows k p f)))
-      (λ k p f. omega (arith, one-row 10 0 (TooShort (netlist bytes) s area) k p f)))
+      (λ k p. ⊎-elim (λ f. omega (arith, input-rows bytes caps k p f)) (λ f. omega (arith, late-rows k p f)))
+      (λ k p f. omega (arith, one-row 10 0 (TooShort (netlist bytes) caps area) k p f)))
       maps-first
-      (first-check 10 0 (less (length area) (width * mappedSize (netlist bytes) s)))
+      (first-check 10 0 (less (length area) (width * mappedSize (netlist bytes) caps)))
 
 pub map-exact : MapExact
-map-exact bytes s area = exact (map-first bytes s area)
+map-exact bytes caps area = exact (map-first bytes caps area)
 
 pub refused-leaves : RefusedLeaves
 unfolding mapAnswer mapArea
-refused-leaves bytes s area number place e =
+refused-leaves bytes caps area number place e =
     record {
-      answer = ap (λ (a : Checked). answerOf a (netlist bytes) s) e;
-      kept = ap (λ (a : Checked). areaOf a (netlist bytes) s area) e;
+      answer = ap (λ (a : Checked). answerOf a (netlist bytes) caps) e;
+      kept = ap (λ (a : Checked). areaOf a (netlist bytes) caps area) e;
     }
 
 -- what an accepted call shows
-module _ (bytes : List ℕ) (s : ℕ) where
-  pub maps-ready : sourceMaps bytes s ≡ Passed → Ready (netlist bytes) s
+module _ (bytes : List ℕ) (caps : Capacities) where
+  pub maps-ready : sourceMaps bytes caps ≡ Passed → Ready (netlist bytes) caps
   unfolding sourceMaps
   maps-ready e =
-      let a = then-passed (inputChecks s bytes) (treeChecks (netlist bytes) s andThen check 9 0 (tooLarge (netlist bytes) s)) .0 e in
-      let b = then-passed (treeChecks (netlist bytes) s) (check 9 0 (tooLarge (netlist bytes) s)) .0 (a .1) in
-      passed-ready bytes s (a .0) (b .0)
-      (less-none mappedLimit (mappedSize (netlist bytes) s) .0 (check-passed 9 0 (tooLarge (netlist bytes) s) .0 (b .1)))
+      let a = then-passed (inputChecks bytes caps) (treeChecks (netlist bytes) caps andThen check 9 0 (tooLarge (netlist bytes) caps)) .0 e in
+      let b = then-passed (treeChecks (netlist bytes) caps) (check 9 0 (tooLarge (netlist bytes) caps)) .0 (a .1) in
+      passed-ready bytes caps (a .0) (b .0)
+      (less-none mappedLimit (mappedSize (netlist bytes) caps) .0 (check-passed 9 0 (tooLarge (netlist bytes) caps) .0 (b .1)))
 
-  module _ (area : List ℕ) (e : mapChecks bytes s area ≡ Passed) where
-    parts : (sourceMaps bytes s ≡ Passed) × (check 10 0 (tooShort (netlist bytes) s area) ≡ Passed)
+  module _ (area : List ℕ) (e : mapChecks bytes caps area ≡ Passed) where
+    parts : (sourceMaps bytes caps ≡ Passed) × (check 10 0 (tooShort (netlist bytes) caps area) ≡ Passed)
     unfolding mapChecks
-    parts = then-passed (sourceMaps bytes s) (check 10 0 (tooShort (netlist bytes) s area)) .0 e
+    parts = then-passed (sourceMaps bytes caps) (check 10 0 (tooShort (netlist bytes) caps area)) .0 e
 
-    ready : Ready (netlist bytes) s
+    ready : Ready (netlist bytes) caps
     ready = maps-ready (parts .0)
 
-    room : width * mappedSize (netlist bytes) s ≤ length area
-    room = less-none (length area) (width * mappedSize (netlist bytes) s) .0 (check-passed 10 0 (tooShort (netlist bytes) s area) .0 (parts .1))
+    room : width * mappedSize (netlist bytes) caps ≤ length area
+    room = less-none (length area) (width * mappedSize (netlist bytes) caps) .0 (check-passed 10 0 (tooShort (netlist bytes) caps area) .0 (parts .1))
 
-    answered : mapAnswer bytes s area ≡ figures (netlist bytes) (fewestInAll (netlist bytes) s)
+    answered : mapAnswer bytes caps area ≡ figures (netlist bytes) (fewestInAll (netlist bytes) caps)
     unfolding mapAnswer
-    answered = ap (λ (a : Checked). answerOf a (netlist bytes) s) e
+    answered = ap (λ (a : Checked). answerOf a (netlist bytes) caps) e
 
-    area-written : mapArea bytes s area ≡ onto (bytesOf (mapped (netlist bytes) s)) area
+    area-written : mapArea bytes caps area ≡ onto (bytesOf (mapped (netlist bytes) caps)) area
     unfolding mapArea
-    area-written = ap (λ (a : Checked). areaOf a (netlist bytes) s area) e
+    area-written = ap (λ (a : Checked). areaOf a (netlist bytes) caps area) e
 
-    long-bytes : length (bytesOf (mapped (netlist bytes) s)) ≡ width * mappedSize (netlist bytes) s
-    long-bytes = length-recs (mapped (netlist bytes) s) 0 (mappedSize (netlist bytes) s)
+    long-bytes : length (bytesOf (mapped (netlist bytes) caps)) ≡ width * mappedSize (netlist bytes) caps
+    long-bytes = length-recs (mapped (netlist bytes) caps) 0 (mappedSize (netlist bytes) caps)
 
     net-least : (d : ℕ) → isDriver (recordAt bytes d .kind) ≡ true →
-        LeastTree driverCapacity s (netOf (netlist bytes) d) (treeSize (netlist bytes) s d)
+        LeastNetTree (netlist bytes) caps d (treeSize (netlist bytes) caps d)
     net-least d b =
-        record {
-          tree = t .tree;
-          legal = t .legal;
-          size = t .inAll;
-          least = least-in-all driverCapacity s (netOf (netlist bytes) d) (row (netlist bytes) d) positive counts;
-        }
-      where
-        positive : 0 < s
-        positive = omega (arith, ready .low)
+        least-tree (capacityOf caps (recordAt bytes d .kind)) (caps .buffer) (netOf (netlist bytes) d) (row (netlist bytes) d)
+        (omega (arith, ready .allowed .low)) (row-of-net (netlist bytes) d (ready .source)) (ready .trees d (driver-inside bytes d b))
 
-        counts : RowOf (netOf (netlist bytes) d) (row (netlist bytes) d)
-        counts = row-of-net (netlist bytes) d (ready .source)
-
-        t : Attained driverCapacity s (netOf (netlist bytes) d) (row (netlist bytes) d)
-        t =
-            fewest-attained driverCapacity s (netOf (netlist bytes) d) (row (netlist bytes) d) positive counts
-            (ready .trees d (driver-inside bytes d b))
-
-    net-none : (d : ℕ) → isDriver (recordAt bytes d .kind) ≡ false → treeSize (netlist bytes) s d ≡ 0
+    net-none : (d : ℕ) → isDriver (recordAt bytes d .kind) ≡ false → treeSize (netlist bytes) caps d ≡ 0
     net-none d b =
-        sym (measured-none (netlist bytes) s d (ready .low) (no-sinks (netlist bytes) d (ready .source) b) .buffers)
+        sym (measured-none (netlist bytes) caps d (ready .allowed .low) (no-sinks (netlist bytes) d (ready .source) b) .buffers)
 
-    accepts : Accepts bytes s area
+    accepts : Accepts bytes caps area
     accepts =
         record {
           number = ap (λ (m : Mapping). m .number) answered;
@@ -177,20 +165,20 @@ module _ (bytes : List ℕ) (s : ℕ) where
           size = ap (λ (m : Mapping). m .size) answered ∙ sym (ap (λ (m : Mapping). recordCount bytes + m .buffers) answered);
           written =
               ap₂ (λ (m : Mapping) (a : List ℕ). netlist (take (width * m .size) a)) answered area-written
-              ∙ ap netlist (take-at (bytesOf (mapped (netlist bytes) s)) _ (width * mappedSize (netlist bytes) s) long-bytes)
-              ∙ mapped-read (netlist bytes) s ready;
+              ∙ ap netlist (take-at (bytesOf (mapped (netlist bytes) caps)) _ (width * mappedSize (netlist bytes) caps) long-bytes)
+              ∙ mapped-read (netlist bytes) caps ready;
           long =
               ap length area-written
-              ∙ length-append (bytesOf (mapped (netlist bytes) s)) (drop (length (bytesOf (mapped (netlist bytes) s))) area)
-              ∙ omega (arith, long-bytes, room, length-drop (length (bytesOf (mapped (netlist bytes) s))) area);
-          kinds = ap (λ (m : Mapping). m .buffers) answered ∙ sym (buffer-count (netlist bytes) s ready);
+              ∙ length-append (bytesOf (mapped (netlist bytes) caps)) (drop (length (bytesOf (mapped (netlist bytes) caps))) area)
+              ∙ omega (arith, long-bytes, room, length-drop (length (bytesOf (mapped (netlist bytes) caps))) area);
+          kinds = ap (λ (m : Mapping). m .buffers) answered ∙ sym (buffer-count (netlist bytes) caps ready);
           fewest = ap (λ (m : Mapping). m .buffers) answered;
           least = net-least;
           none = net-none;
         }
 
 pub accepted-maps : AcceptedMaps
-accepted-maps bytes s area e = accepts bytes s area e
+accepted-maps bytes caps area e = accepts bytes caps area e
 
 -- c records from record i on, of a netlist's bytes and what follows them
 part-recs : (m : Netlist) (i c k : ℕ) (rest : List ℕ) →
@@ -207,17 +195,17 @@ part-recs m i c k rest =
         ∙ append-assoc (recs m 0 i) (recs m i c ++ recs m (i + c) k) rest
         ∙ ap (λ (l : List ℕ). recs m 0 i ++ l) (append-assoc (recs m i c) (recs m (i + c) k) rest)
 
-module _ (bytes : List ℕ) (s d : ℕ) where
-  ends-driver : sourceMaps bytes s ≡ Passed → isDriver (recordAt bytes d .kind) ≡ true →
-      blockEnds bytes s d ≡ ownEnds (netlist bytes) s d
+module _ (bytes : List ℕ) (caps : Capacities) (d : ℕ) where
+  ends-driver : sourceMaps bytes caps ≡ Passed → isDriver (recordAt bytes d .kind) ≡ true →
+      blockEnds bytes caps d ≡ ownEnds (netlist bytes) caps d
   unfolding blockEnds
   ends-driver e b = rw (e, b) refl
 
-  ends-refused : (number place : ℕ) → sourceMaps bytes s ≡ Refused number place → blockEnds bytes s d ≡ noEnds
+  ends-refused : (number place : ℕ) → sourceMaps bytes caps ≡ Refused number place → blockEnds bytes caps d ≡ noEnds
   unfolding blockEnds
   ends-refused number place e = rw e refl
 
-  ends-other : (a : Checked) → sourceMaps bytes s ≡ a → isDriver (recordAt bytes d .kind) ≡ false → blockEnds bytes s d ≡ noEnds
+  ends-other : (a : Checked) → sourceMaps bytes caps ≡ a → isDriver (recordAt bytes d .kind) ≡ false → blockEnds bytes caps d ≡ noEnds
   unfolding blockEnds
   ends-other Passed e b = rw (e, b) refl
   ends-other (Refused number place) e b = rw e refl
@@ -229,48 +217,48 @@ module _ (bytes : List ℕ) (s d : ℕ) where
       go true = refl
       go false = refl
 
-  block : (area : List ℕ) → mapChecks bytes s area ≡ Passed → isDriver (recordAt bytes d .kind) ≡ true →
-      blockView bytes s (mapArea bytes s area) d
-      ≡ recs (mapped (netlist bytes) s) (blockStart (netlist bytes) s d) (treeSize (netlist bytes) s d)
+  block : (area : List ℕ) → mapChecks bytes caps area ≡ Passed → isDriver (recordAt bytes d .kind) ≡ true →
+      blockView bytes caps (mapArea bytes caps area) d
+      ≡ recs (mapped (netlist bytes) caps) (blockStart (netlist bytes) caps d) (treeSize (netlist bytes) caps d)
   unfolding sum
   block area e b =
-      ap (between (mapArea bytes s area)) (ends-driver (parts bytes s area e .0) b)
-      ∙ ap (λ (c : Bool). cond c (take (width * to - width * start) (drop (width * start) (mapArea bytes s area))) [])
-      (le-leb to (recordCount (mapArea bytes s area)) inside)
+      ap (between (mapArea bytes caps area)) (ends-driver (parts bytes caps area e .0) b)
+      ∙ ap (λ (c : Bool). cond c (take (width * to - width * start) (drop (width * start) (mapArea bytes caps area))) [])
+      (le-leb to (recordCount (mapArea bytes caps area)) inside)
       ∙ ap₂ (λ (k : ℕ) (l : List ℕ). take k (drop (width * start) l)) wide
-      (area-written bytes s area e
-      ∙ ap (λ (k : ℕ). recs (mapped (netlist bytes) s) 0 k ++ drop (length (bytesOf (mapped (netlist bytes) s))) area) all)
-      ∙ part-recs (mapped (netlist bytes) s) start c rest (drop (length (bytesOf (mapped (netlist bytes) s))) area)
+      (area-written bytes caps area e
+      ∙ ap (λ (k : ℕ). recs (mapped (netlist bytes) caps) 0 k ++ drop (length (bytesOf (mapped (netlist bytes) caps))) area) all)
+      ∙ part-recs (mapped (netlist bytes) caps) start c rest (drop (length (bytesOf (mapped (netlist bytes) caps))) area)
     where
       start : ℕ
-      start = blockStart (netlist bytes) s d
+      start = blockStart (netlist bytes) caps d
 
       to : ℕ
-      to = blockStart (netlist bytes) s (suc d)
+      to = blockStart (netlist bytes) caps (suc d)
 
       c : ℕ
-      c = treeSize (netlist bytes) s d
+      c = treeSize (netlist bytes) caps d
 
       rest : ℕ
-      rest = mappedSize (netlist bytes) s - to
+      rest = mappedSize (netlist bytes) caps - to
 
-      before : to ≤ mappedSize (netlist bytes) s
-      before = omega (arith, sum-more (treeSize (netlist bytes) s) (suc d) (recordCount bytes) (driver-inside bytes d b))
+      before : to ≤ mappedSize (netlist bytes) caps
+      before = omega (arith, sum-more (treeSize (netlist bytes) caps) (suc d) (recordCount bytes) (driver-inside bytes d b))
 
-      inside : to ≤ recordCount (mapArea bytes s area)
-      inside = omega (arith, before, accepts bytes s area e .long, room bytes s area e)
+      inside : to ≤ recordCount (mapArea bytes caps area)
+      inside = omega (arith, before, accepts bytes caps area e .long, room bytes caps area e)
 
       wide : width * to - width * start ≡ width * c
       wide = omega arith
 
-      all : mappedSize (netlist bytes) s ≡ start + (c + rest)
+      all : mappedSize (netlist bytes) caps ≡ start + (c + rest)
       all = omega (arith, before)
 
 pub block-written : BlockWritten
-block-written bytes s area d e b = block bytes s d area e b
+block-written bytes caps area d e b = block bytes caps d area e b
 
 pub block-none : BlockNone
-block-none bytes s area d = (
-  λ number place e. ap (between area) (ends-refused bytes s d number place e) ∙ none-between bytes s d area,
-  λ b. ap (between area) (ends-other bytes s d (sourceMaps bytes s) refl b) ∙ none-between bytes s d area,
+block-none bytes caps area d = (
+  λ number place e. ap (between area) (ends-refused bytes caps d number place e) ∙ none-between bytes caps d area,
+  λ b. ap (between area) (ends-other bytes caps d (sourceMaps bytes caps) refl b) ∙ none-between bytes caps d area,
 )

@@ -11,6 +11,7 @@ use borrow.Author.Tests.{ltb-true, eqb-true}
 use Rattle.facts.specs.Sums.{count}
 use Rattle.facts.proofs.Bools.{and-l, and-r}
 use Rattle.facts.proofs.Sums.{bit-same, count-append, count-cong, count₂-flat}
+use Rattle.netlist.specs.declared.Capacities.{Capacities}
 use Rattle.netlist.specs.Kinds.{slots, topLevel, arity}
 use Rattle.netlist.specs.Records.{Netlist}
 use Rattle.fanout.specs.Nets.{sinks, sinkAt, nodesAt, row, treeSize}
@@ -50,14 +51,14 @@ rank-flat f p =
     slot-of y l = omega arith
 
 -- slot p's number where d is the driver that it names
-abbrev numbered : Netlist → ℕ → ℕ → ℕ → ℕ
-numbered n s p d = buffersOf n s d (slotDistance n d p) + rank (sinkAt n d (slotDistance n d p)) (p / slots) (p % slots)
+abbrev numbered : Netlist → Capacities → ℕ → ℕ → ℕ
+numbered n caps p d = buffersOf n caps d (slotDistance n d p) + rank (sinkAt n d (slotDistance n d p)) (p / slots) (p % slots)
 
-abbrev pub flatNumbered : Netlist → ℕ → ℕ → ℕ → ℕ
-flatNumbered n s p d = buffersOf n s d (slotDistance n d p) + sinksBelow n d (slotDistance n d p) p
+abbrev pub flatNumbered : Netlist → Capacities → ℕ → ℕ → ℕ
+flatNumbered n caps p d = buffersOf n caps d (slotDistance n d p) + sinksBelow n d (slotDistance n d p) p
 
 -- a sink's node and parent
-module _ (n : Netlist) (s : ℕ) (r : Ready n s) (d p : ℕ) (l : p < slotEnd n) (named : namesSlot n d p ≡ true) where
+module _ (n : Netlist) (caps : Capacities) (r : Ready n caps) (d p : ℕ) (l : p < slotEnd n) (named : namesSlot n d p ≡ true) where
   driven : faninSlot n p ≡ d
   driven = eqb-true (faninSlot n p) d (and-r (usedSlot n p) _ named)
 
@@ -75,39 +76,39 @@ module _ (n : Netlist) (s : ℕ) (r : Ready n s) (d p : ℕ) (l : p < slotEnd n)
         sinks-rise n d (slotDistance n d p) (suc p) (slotEnd n) (omega arith),
       )
 
-  number-flat : numbered n s p d ≡ flatNumbered n s p d
+  number-flat : numbered n caps p d ≡ flatNumbered n caps p d
   unfolding sinksBelow
-  number-flat = ap (λ (x : ℕ). buffersOf n s d (slotDistance n d p) + x) (rank-flat (sinkAt n d (slotDistance n d p)) p)
+  number-flat = ap (λ (x : ℕ). buffersOf n caps d (slotDistance n d p) + x) (rank-flat (sinkAt n d (slotDistance n d p)) p)
 
-  pub sink-node : IsNode n s r d (slotDistance n d p) (flatNumbered n s p d)
+  pub sink-node : IsNode n caps r d (slotDistance n d p) (flatNumbered n caps p d)
   unfolding sinkNumber slotDistance
   sink-node =
-      subst (IsNode n s r d (slotDistance n d p)) number-flat
-      (subst (λ (d : ℕ). IsNode n s r d (slotDistance n d p) (numbered n s p d)) driven
-      (source-node n s r (p / slots) (p % slots) (omega arith) uses))
+      subst (IsNode n caps r d (slotDistance n d p)) number-flat
+      (subst (λ (d : ℕ). IsNode n caps r d (slotDistance n d p) (numbered n caps p d)) driven
+      (source-node n caps r (p / slots) (p % slots) (omega arith) uses))
 
-  pub sink-parent : sinkParent n s (p / slots) (p % slots) ≡ parent n s d (slotDistance n d p) (flatNumbered n s p d)
+  pub sink-parent : sinkParent n caps (p / slots) (p % slots) ≡ parent n caps d (slotDistance n d p) (flatNumbered n caps p d)
   unfolding sinkNumber slotDistance
   sink-parent =
-      ap (λ (d : ℕ). parent n s d (slotDistance n d p) (numbered n s p d)) driven ∙ ap (parent n s d (slotDistance n d p)) number-flat
+      ap (λ (d : ℕ). parent n caps d (slotDistance n d p) (numbered n caps p d)) driven ∙ ap (parent n caps d (slotDistance n d p)) number-flat
 
 -- d's sinks below slot p hang on their parents, and are counted behind the buffers of their distances
-pub record SinksSoFar (n : Netlist) (s d : ℕ) (before : List ℕ) (p : ℕ) (next counts : List ℕ) : Type 0 where
-  pub soFar : ParentsSoFar n d (onParent n s) before p next
+pub record SinksSoFar (n : Netlist) (caps : Capacities) (d : ℕ) (before : List ℕ) (p : ℕ) (next counts : List ℕ) : Type 0 where
+  pub soFar : ParentsSoFar n d (onParent n caps) before p next
   pub size : length counts ≡ suc topLevel
-  pub counted : (k : ℕ) → 1 ≤ k → k ≤ topLevel → getD counts k 0 ≡ buffersOf n s d k + sinksBelow n d k p
+  pub counted : (k : ℕ) → 1 ≤ k → k ≤ topLevel → getD counts k 0 ≡ buffersOf n caps d k + sinksBelow n d k p
 
-module _ (n : Netlist) (s d : ℕ) (first before : List ℕ) (end : ℕ) (counts₀ base : List ℕ)
-    (h : ParentsDue n s d first before end counts₀ base) where
-  pub sinks-start : (p : ℕ) → p ≡ getD first d 0 → SinksSoFar n s d before p before counts₀
+module _ (n : Netlist) (caps : Capacities) (d : ℕ) (first before : List ℕ) (end : ℕ) (counts₀ base : List ℕ)
+    (h : ParentsDue n caps d first before end counts₀ base) where
+  pub sinks-start : (p : ℕ) → p ≡ getD first d 0 → SinksSoFar n caps d before p before counts₀
   sinks-start p e =
       record {
-        soFar = parents-start n first before end d (h .parents .chained) (onParent n s) p (h .driver) e;
+        soFar = parents-start n first before end d (h .parents .chained) (onParent n caps) p (h .driver) e;
         size = h .buffers .size;
         counted = λ k a b. omega (arith, h .buffers .at k a b, chain-none n first before end d (h .parents .chained) p (h .driver) e k);
       }
 
-  module _ (p : ℕ) (next counts : List ℕ) (f : SinksSoFar n s d before p next counts) where
+  module _ (p : ℕ) (next counts : List ℕ) (f : SinksSoFar n caps d before p next counts) where
     module _ (l : p < end) (k : ℕ) (ek : k ≡ slotDistance n d p) where
       inside : p < slotEnd n
       inside = chain-inside n first before end d (h .parents .chained) p (f .soFar .chain) l
@@ -118,26 +119,26 @@ module _ (n : Netlist) (s d : ℕ) (first before : List ℕ) (end : ℕ) (counts
       near : k < suc topLevel
       near = chain-near n first before end d (h .parents .chained) p (f .soFar .chain) l k ek
 
-      number-is : getD counts k 0 ≡ buffersOf n s d k + sinksBelow n d k p
+      number-is : getD counts k 0 ≡ buffersOf n caps d k + sinksBelow n d k p
       number-is =
           f .counted k (chain-apart n first before end d (h .parents .chained) p (f .soFar .chain) l k ek) (omega (arith, near))
 
-      node : IsNode n s (h .ready) d k (getD counts k 0)
-      node = rw (number-is, ek) (sink-node n s (h .ready) d p inside names)
+      node : IsNode n caps (h .ready) d k (getD counts k 0)
+      node = rw (number-is, ek) (sink-node n caps (h .ready) d p inside names)
 
-      on-base : parent n s d k (getD counts k 0) ≡ getD base k 0 + behind s k (getD counts k 0)
+      on-base : parent n caps d k (getD counts k 0) ≡ getD base k 0 + behind (caps .buffer) k (getD counts k 0)
       on-base =
-          parent-from n s d k (getD counts k 0)
-          ∙ ap (λ (x : ℕ). x + behind s k (getD counts k 0)) (sym (h .firstParents .at k (node .above) (omega (arith, node .number))))
+          parent-from n caps d k (getD counts k 0)
+          ∙ ap (λ (x : ℕ). x + behind (caps .buffer) k (getD counts k 0)) (sym (h .firstParents .at k (node .above) (omega (arith, node .number))))
 
-      hangs-on : onParent n s p ≡ getD base k 0 + behind s k (getD counts k 0)
-      hangs-on = sink-parent n s (h .ready) d p inside names ∙ by-level ∙ on-base
+      hangs-on : onParent n caps p ≡ getD base k 0 + behind (caps .buffer) k (getD counts k 0)
+      hangs-on = sink-parent n caps (h .ready) d p inside names ∙ by-level ∙ on-base
         where
-          by-level : parent n s d (slotDistance n d p) (flatNumbered n s p d) ≡ parent n s d k (getD counts k 0)
+          by-level : parent n caps d (slotDistance n d p) (flatNumbered n caps p d) ≡ parent n caps d k (getD counts k 0)
           by-level = rw (number-is, ek) refl
 
-      pub sinks-parent : getD base k 0 + behind s k (getD counts k 0) < 65536
-      sinks-parent = omega (arith, on-base, parent-inside n s (h .ready) d k (getD counts k 0) node, h .ready .fits)
+      pub sinks-parent : getD base k 0 + behind (caps .buffer) k (getD counts k 0) < 65536
+      sinks-parent = omega (arith, on-base, parent-inside n caps (h .ready) d k (getD counts k 0) node, h .ready .fits)
 
       pub sinks-fit : Fits w32 (getD counts k 0 + 1)
       sinks-fit =
@@ -147,18 +148,18 @@ module _ (n : Netlist) (s d : ℕ) (first before : List ℕ) (end : ℕ) (counts
             sinks-below n d k p,
             inside,
             h .ready .source .few,
-            block-before (buffersOf n s d) k (suc topLevel) near,
-            tree-sum n s (pos n s (h .ready)) d,
-            block-before (treeSize n s) d (n .size) (h .driver),
+            block-before (buffersOf n caps d) k (suc topLevel) near,
+            tree-sum n caps (pos n caps (h .ready)) d,
+            block-before (treeSize n caps) d (n .size) (h .driver),
             h .ready .fits,
           )
 
-      pub sinks-next : (q t : ℕ) → q ≡ getD next p 0 → t ≡ getD base k 0 + behind s k (getD counts k 0) →
-          SinksSoFar n s d before q (set next p t) (set counts k (getD counts k 0 + 1))
+      pub sinks-next : (q t : ℕ) → q ≡ getD next p 0 → t ≡ getD base k 0 + behind (caps .buffer) k (getD counts k 0) →
+          SinksSoFar n caps d before q (set next p t) (set counts k (getD counts k 0 + 1))
       sinks-next q t e g =
           record {
             soFar =
-                parents-more n first before end d (h .parents .chained) (onParent n s) p next (f .soFar) l q e t (g ∙ sym hangs-on);
+                parents-more n first before end d (h .parents .chained) (onParent n caps) p next (f .soFar) l q e t (g ∙ sym hangs-on);
             size = length-set counts k _ ∙ f .size;
             counted = λ x a b.
                 omega (
@@ -170,17 +171,17 @@ module _ (n : Netlist) (s d : ℕ) (first before : List ℕ) (end : ℕ) (counts
           }
         where
           next-is : q ≡ nextSink n d (suc p)
-          next-is = parents-next n first before end d (h .parents .chained) (onParent n s) p next (f .soFar) l q e
+          next-is = parents-next n first before end d (h .parents .chained) (onParent n caps) p next (f .soFar) l q e
 
-    pub sinks-end : end ≤ p → NodeCounts n s d counts
+    pub sinks-end : end ≤ p → NodeCounts n caps d counts
     sinks-end l = record { size = f .size; at = all }
       where
-        all : (k : ℕ) → 1 ≤ k → k ≤ topLevel → getD counts k 0 ≡ nodesAt s (row n d) k
+        all : (k : ℕ) → 1 ≤ k → k ≤ topLevel → getD counts k 0 ≡ nodesAt (caps .buffer) (row n d) k
         all zero a b = absurd (omega arith)
         all (suc k) a b =
             omega (
               arith,
               f .counted (suc k) a b,
               chain-all n first before end d (h .parents .chained) p (f .soFar .chain) l (suc k),
-              nodes-split n s (h .ready) d k b,
+              nodes-split n caps (h .ready) d k b,
             )

@@ -15,6 +15,7 @@ use Rattle.facts.specs.Checks.{check}
 use Rattle.facts.specs.Sums.{sum}
 use Rattle.facts.proofs.Sums.{sum-more}
 use Rattle.facts.proofs.Reflect.{scan-passed}
+use Rattle.netlist.specs.declared.Capacities.{Capacities}
 use Rattle.netlist.specs.declared.Record.{Record}
 use Rattle.netlist.specs.Kinds.{width, mappedLimit, isDriver}
 use Rattle.netlist.specs.Records.{netlist, recordCount, recordAt}
@@ -29,127 +30,127 @@ use Rattle.mapper.specs.Answer.{tooLarge, sourceMaps}
 use Rattle.nets.specs.Checks.{treeCheck, treesBelow, treeChecks}
 use Rattle.nets.specs.PrivateChains.{sizingOf}
 use Rattle.mapper.specs.PrivateWriting.{Counted, Mappable}
-use Rattle.nets.proofs.TreeCounts.{input-capacity, total-small, refusing, counting}
+use Rattle.nets.proofs.TreeCounts.{input-allowed, total-small, refusing, counting}
 use Rattle.mapper.specs.View.{noEnds, ownEnds, endsOf, blockEnds, between}
 
-module _ (bytes : List ℕ) (s d : ℕ) where
-  ends-are : (a : Checked) → sourceMaps bytes s ≡ a → endsOf a (netlist bytes) s d ≡ blockEnds bytes s d
+module _ (bytes : List ℕ) (caps : Capacities) (d : ℕ) where
+  ends-are : (a : Checked) → sourceMaps bytes caps ≡ a → endsOf a (netlist bytes) caps d ≡ blockEnds bytes caps d
   unfolding blockEnds
-  ends-are a e = ap (λ (a : Checked). endsOf a (netlist bytes) s d) (sym e)
+  ends-are a e = ap (λ (a : Checked). endsOf a (netlist bytes) caps d) (sym e)
 
   -- 1 to 7
-  input-refuses : (number place : ℕ) → inputChecks s bytes ≡ Refused number place → sourceMaps bytes s ≡ Refused number place
+  input-refuses : (number place : ℕ) → inputChecks bytes caps ≡ Refused number place → sourceMaps bytes caps ≡ Refused number place
   unfolding sourceMaps
   input-refuses number place e = rw e refl
 
-  pub ends-input : (number place : ℕ) (a : Checked) (r : Ends) → a ≡ inputChecks s bytes → a ≡ Refused number place → r ≡ noEnds →
-      r ≡ blockEnds bytes s d
+  pub ends-input : (number place : ℕ) (a : Checked) (r : Ends) → a ≡ inputChecks bytes caps → a ≡ Refused number place → r ≡ noEnds →
+      r ≡ blockEnds bytes caps d
   ends-input number place a r e f g = g ∙ ends-are (Refused number place) (input-refuses number place (sym e ∙ f))
 
-  module _ (i : inputChecks s bytes ≡ Passed) where
+  module _ (i : inputChecks bytes caps ≡ Passed) where
     -- 8
-    trees-refuse : (number place : ℕ) → treeChecks (netlist bytes) s ≡ Refused number place → sourceMaps bytes s ≡ Refused number place
+    trees-refuse : (number place : ℕ) → treeChecks (netlist bytes) caps ≡ Refused number place → sourceMaps bytes caps ≡ Refused number place
     unfolding sourceMaps
     trees-refuse number place e = rw (i, e) refl
 
-    pub ends-tree : (number place total : ℕ) (z : Sizing) (r : Ends) → z ≡ sizingOf (treeChecks (netlist bytes) s) total →
-        z ≡ Stops number place → r ≡ noEnds → r ≡ blockEnds bytes s d
+    pub ends-tree : (number place total : ℕ) (z : Sizing) (r : Ends) → z ≡ sizingOf (treeChecks (netlist bytes) caps) total →
+        z ≡ Stops number place → r ≡ noEnds → r ≡ blockEnds bytes caps d
     ends-tree number place total z r e f g =
-        g ∙ ends-are (Refused number place) (trees-refuse number place (refusing (netlist bytes) s number place total z e f))
+        g ∙ ends-are (Refused number place) (trees-refuse number place (refusing (netlist bytes) caps number place total z e f))
 
 -- 9
-module _ (bytes : List ℕ) (s N : ℕ) (first next : List ℕ) (end total : ℕ) (h : Counted bytes s N first next end total) where
-  late : sourceMaps bytes s ≡ check 9 0 (tooLarge (netlist bytes) s)
+module _ (bytes : List ℕ) (caps : Capacities) (N : ℕ) (first next : List ℕ) (end total : ℕ) (h : Counted bytes caps N first next end total) where
+  late : sourceMaps bytes caps ≡ check 9 0 (tooLarge (netlist bytes) caps)
   unfolding sourceMaps
   late = rw (h .input, h .trees) refl
 
-  pub ends-large : (d : ℕ) (r : Ends) → mappedLimit < N + total → r ≡ noEnds → r ≡ blockEnds bytes s d
+  pub ends-large : (d : ℕ) (r : Ends) → mappedLimit < N + total → r ≡ noEnds → r ≡ blockEnds bytes caps d
   ends-large d r l e =
       e
-      ∙ ends-are bytes s d (Refused 9 0)
-      (late ∙ ap (check 9 0) (lt-ltb mappedLimit (mappedSize (netlist bytes) s) (omega (arith, h .records, h .buffers))))
+      ∙ ends-are bytes caps d (Refused 9 0)
+      (late ∙ ap (check 9 0) (lt-ltb mappedLimit (mappedSize (netlist bytes) caps) (omega (arith, h .records, h .buffers))))
 
-  pub ends-maps : N + total ≤ mappedLimit → Mappable bytes s N first next end
+  pub ends-maps : N + total ≤ mappedLimit → Mappable bytes caps N first next end
   ends-maps l =
       record {
-        maps = late ∙ ap (check 9 0) (le-ltb mappedLimit (mappedSize (netlist bytes) s) (omega (arith, h .records, h .buffers)));
-        capacity = input-capacity bytes s (h .input);
+        maps = late ∙ ap (check 9 0) (le-ltb mappedLimit (mappedSize (netlist bytes) caps) (omega (arith, h .records, h .buffers)));
+        allowed = input-allowed bytes caps (h .input);
         trees = h .trees;
         chained = h .chained;
         records = h .records;
       }
 
-module _ (bytes : List ℕ) (s N : ℕ) (first next : List ℕ) (end : ℕ) (h : Mappable bytes s N first next end) where
-  module _ (m : ℕ) (l : m ≤ N) (z : Sizing) (e : z ≡ sizingOf (treesBelow (netlist bytes) s m) (sum (treeSize (netlist bytes) s) m)) where
+module _ (bytes : List ℕ) (caps : Capacities) (N : ℕ) (first next : List ℕ) (end : ℕ) (h : Mappable bytes caps N first next end) where
+  module _ (m : ℕ) (l : m ≤ N) (z : Sizing) (e : z ≡ sizingOf (treesBelow (netlist bytes) caps m) (sum (treeSize (netlist bytes) caps) m)) where
     -- where a block begins
-    pub start-is : (total : ℕ) → z ≡ Total total → N + total ≡ blockStart (netlist bytes) s m
-    start-is total f = omega (arith, counting (netlist bytes) s m total z e f .1, h .records)
+    pub start-is : (total : ℕ) → z ≡ Total total → N + total ≡ blockStart (netlist bytes) caps m
+    start-is total f = omega (arith, counting (netlist bytes) caps m total z e f .1, h .records)
 
     pub start-fits : (total : ℕ) → z ≡ Total total → Fits w64 (N + total)
     start-fits total f =
         omega (
           arith,
-          counting (netlist bytes) s m total z e f .1,
-          sum-more (treeSize (netlist bytes) s) m (recordCount bytes) (omega (arith, h .records)),
-          total-small (netlist bytes) s (h .chained .source) (h .capacity .0),
+          counting (netlist bytes) caps m total z e f .1,
+          sum-more (treeSize (netlist bytes) caps) m (recordCount bytes) (omega (arith, h .records)),
+          total-small (netlist bytes) caps (h .chained .source) (h .allowed .low),
           h .records,
           h .chained .source .few,
         )
 
     -- the trees before m were counted
-    pub start-never : (number place : ℕ) → z ≡ Stops number place → 0 ≡ blockStart (netlist bytes) s m
-    start-never number place f = absurd (go (treesBelow (netlist bytes) s m) passed (sym e ∙ f))
+    pub start-never : (number place : ℕ) → z ≡ Stops number place → 0 ≡ blockStart (netlist bytes) caps m
+    start-never number place f = absurd (go (treesBelow (netlist bytes) caps m) passed (sym e ∙ f))
       where
-        passed : treesBelow (netlist bytes) s m ≡ Passed
+        passed : treesBelow (netlist bytes) caps m ≡ Passed
         passed =
-            scan-passed (treeCheck (netlist bytes) s) m .1
-            (λ k b. scan-passed (treeCheck (netlist bytes) s) (recordCount bytes) .0 (h .trees) k (omega (arith, h .records)))
+            scan-passed (treeCheck (netlist bytes) caps) m .1
+            (λ k b. scan-passed (treeCheck (netlist bytes) caps) (recordCount bytes) .0 (h .trees) k (omega (arith, h .records)))
 
-        go : (a : Checked) → a ≡ Passed → sizingOf a (sum (treeSize (netlist bytes) s) m) ≡ Stops number place → ⊥
+        go : (a : Checked) → a ≡ Passed → sizingOf a (sum (treeSize (netlist bytes) caps) m) ≡ Stops number place → ⊥
         go Passed p g = let z : _≡_ {A = ℕ} 0 1 = cc in omega arith
         go (Refused n′ p′) p g = let z : _≡_ {A = ℕ} 0 1 = cc in omega arith
 
   module _ (d : ℕ) where
-    maps-ends : cond (isDriver (recordAt bytes d .kind)) (ownEnds (netlist bytes) s d) noEnds
-        ≡ blockEnds bytes s d
-    maps-ends = ends-are bytes s d Passed (h .maps)
+    maps-ends : cond (isDriver (recordAt bytes d .kind)) (ownEnds (netlist bytes) caps d) noEnds
+        ≡ blockEnds bytes caps d
+    maps-ends = ends-are bytes caps d Passed (h .maps)
 
-    pub ends-past : (r : Ends) → N ≤ d → r ≡ noEnds → r ≡ blockEnds bytes s d
+    pub ends-past : (r : Ends) → N ≤ d → r ≡ noEnds → r ≡ blockEnds bytes caps d
     ends-past r l e =
         e
-        ∙ ap (λ (x : Record). cond (isDriver (x .kind)) (ownEnds (netlist bytes) s d) noEnds) (sym (record-past bytes d (omega (arith, h .records))))
+        ∙ ap (λ (x : Record). cond (isDriver (x .kind)) (ownEnds (netlist bytes) caps d) noEnds) (sym (record-past bytes d (omega (arith, h .records))))
         ∙ maps-ends
 
     module _ (kind : ℕ) (b : Bool) (k : kind ≡ recordAt bytes d .kind) (e : b ≡ isDriver kind) where
-      pub ends-other : (r : Ends) → b ≡ false → r ≡ noEnds → r ≡ blockEnds bytes s d
-      ends-other r f g = g ∙ ap (λ (b : Bool). cond b (ownEnds (netlist bytes) s d) noEnds) (sym f ∙ e ∙ ap isDriver k) ∙ maps-ends
+      pub ends-other : (r : Ends) → b ≡ false → r ≡ noEnds → r ≡ blockEnds bytes caps d
+      ends-other r f g = g ∙ ap (λ (b : Bool). cond b (ownEnds (netlist bytes) caps d) noEnds) (sym f ∙ e ∙ ap isDriver k) ∙ maps-ends
 
-      pub ends-driver : (x y : ℕ) → b ≡ true → x ≡ blockStart (netlist bytes) s d → y ≡ blockStart (netlist bytes) s (d + 1) →
-          record { from = x; to = y } ≡ blockEnds bytes s d
+      pub ends-driver : (x y : ℕ) → b ≡ true → x ≡ blockStart (netlist bytes) caps d → y ≡ blockStart (netlist bytes) caps (d + 1) →
+          record { from = x; to = y } ≡ blockEnds bytes caps d
       ends-driver x y f g i =
-          ap₂ (λ (x y : ℕ). record { from = x; to = y }) g (i ∙ ap (blockStart (netlist bytes) s) (add-one d))
-          ∙ ap (λ (b : Bool). cond b (ownEnds (netlist bytes) s d) noEnds) (sym f ∙ e ∙ ap isDriver k)
+          ap₂ (λ (x y : ℕ). record { from = x; to = y }) g (i ∙ ap (blockStart (netlist bytes) caps) (add-one d))
+          ∙ ap (λ (b : Bool). cond b (ownEnds (netlist bytes) caps d) noEnds) (sym f ∙ e ∙ ap isDriver k)
           ∙ maps-ends
 
 -- a block ends behind its beginning
-ends-order : (bytes : List ℕ) (s d : ℕ) → blockEnds bytes s d .from ≤ blockEnds bytes s d .to
+ends-order : (bytes : List ℕ) (caps : Capacities) (d : ℕ) → blockEnds bytes caps d .from ≤ blockEnds bytes caps d .to
 unfolding blockEnds
-ends-order bytes s d = go (sourceMaps bytes s)
+ends-order bytes caps d = go (sourceMaps bytes caps)
   where
-    pick : (b : Bool) → cond b (ownEnds (netlist bytes) s d) noEnds .from
-        ≤ cond b (ownEnds (netlist bytes) s d) noEnds .to
-    pick true = omega (arith, sum-more (treeSize (netlist bytes) s) d (suc d) (omega arith))
+    pick : (b : Bool) → cond b (ownEnds (netlist bytes) caps d) noEnds .from
+        ≤ cond b (ownEnds (netlist bytes) caps d) noEnds .to
+    pick true = omega (arith, sum-more (treeSize (netlist bytes) caps) d (suc d) (omega arith))
     pick false = omega arith
 
-    go : (a : Checked) → endsOf a (netlist bytes) s d .from ≤ endsOf a (netlist bytes) s d .to
+    go : (a : Checked) → endsOf a (netlist bytes) caps d .from ≤ endsOf a (netlist bytes) caps d .to
     go Passed = pick (isDriver (recordAt bytes d .kind))
     go (Refused number place) = omega arith
 
-module _ (bytes area : List ℕ) (s d : ℕ) (e : Ends) (h : e ≡ blockEnds bytes s d) where
+module _ (bytes area : List ℕ) (caps : Capacities) (d : ℕ) (e : Ends) (h : e ≡ blockEnds bytes caps d) where
   ordered : e .from ≤ e .to
-  ordered = rw h (ends-order bytes s d)
+  ordered = rw h (ends-order bytes caps d)
 
-  pub view-empty : (m : ℕ) → m ≡ recordCount area → m < e .to → [] ≡ between area (blockEnds bytes s d)
+  pub view-empty : (m : ℕ) → m ≡ recordCount area → m < e .to → [] ≡ between area (blockEnds bytes caps d)
   view-empty m c l =
       ap (λ (b : Bool). cond b (take (width * e .to - width * e .from) (drop (width * e .from) area)) []) (sym (lt-leb (e .to) (recordCount area) (omega arith)))
       ∙ ap (between area) h
@@ -161,7 +162,7 @@ module _ (bytes area : List ℕ) (s d : ℕ) (e : Ends) (h : e ≡ blockEnds byt
     pub view-end : width * e .to ≤ length area
     view-end = omega arith
 
-    pub view-part : take (width * e .to - width * e .from) (drop (width * e .from) area) ≡ between area (blockEnds bytes s d)
+    pub view-part : take (width * e .to - width * e .from) (drop (width * e .from) area) ≡ between area (blockEnds bytes caps d)
     view-part =
         ap (λ (b : Bool). cond b (take (width * e .to - width * e .from) (drop (width * e .from) area)) []) (sym (le-leb (e .to) (recordCount area) (omega arith)))
         ∙ ap (between area) h

@@ -6,6 +6,7 @@ use mathlib.Core.List.{List}
 use native.Mathlib.Omega.{arith}
 use lib.ListN.{length, getD}
 use borrow.Author.Tests.{ltb-true}
+use Rattle.netlist.specs.declared.Capacities.{Capacities}
 use Rattle.netlist.specs.declared.Record.{Record}
 use Rattle.netlist.specs.Kinds.{width, slots}
 use Rattle.facts.specs.Areas.{put, onto}
@@ -24,12 +25,12 @@ use Rattle.mapper.proofs.Nodes.{pos}
 abbrev withSlots : Record → List ℕ → Record
 withSlots r slots = record { kind = r .kind; inversion = r .inversion; level = r .level; slots = slots }
 
-module _ (bytes : List ℕ) (s : ℕ) (first parents : List ℕ) (end : ℕ) (r : Ready (netlist bytes) s)
-    (h : ParentsSet (netlist bytes) s first parents (netlist bytes .size) end) where
+module _ (bytes : List ℕ) (caps : Capacities) (first parents : List ℕ) (end : ℕ) (r : Ready (netlist bytes) caps)
+    (h : ParentsSet (netlist bytes) caps first parents (netlist bytes .size) end) where
   -- a slot as written is the slot of the mapped netlist
   new-slot : (i j : ℕ) → i < netlist bytes .size → j < slots →
       cond (used (netlist bytes) i j) (getD parents (slots * i + j) 0) (fanin (netlist bytes) i j)
-      ≡ cond (used (netlist bytes) i j) (sinkParent (netlist bytes) s i j) (fanin (netlist bytes) i j)
+      ≡ cond (used (netlist bytes) i j) (sinkParent (netlist bytes) caps i j) (fanin (netlist bytes) i j)
   new-slot i j l b = go (used (netlist bytes) i j) refl
     where
       record-of : (slots * i + j) / slots ≡ i
@@ -40,29 +41,29 @@ module _ (bytes : List ℕ) (s : ℕ) (first parents : List ℕ) (end : ℕ) (r 
 
       go : (u : Bool) → used (netlist bytes) i j ≡ u →
           cond u (getD parents (slots * i + j) 0) (fanin (netlist bytes) i j)
-          ≡ cond u (sinkParent (netlist bytes) s i j) (fanin (netlist bytes) i j)
+          ≡ cond u (sinkParent (netlist bytes) caps i j) (fanin (netlist bytes) i j)
       go false e = refl
       go true e =
           h .at (slots * i + j) (omega arith) (ap₂ (used (netlist bytes)) record-of slot-of ∙ e)
           (omega (arith, r .source .earlier i j l (ltb-true j _ e), ap₂ (fanin (netlist bytes)) record-of slot-of))
-          ∙ ap₂ (sinkParent (netlist bytes) s) record-of slot-of
+          ∙ ap₂ (sinkParent (netlist bytes) caps) record-of slot-of
 
-  new-record : (i : ℕ) → i < netlist bytes .size → relinkedAt bytes parents i ≡ mappedAt (netlist bytes) s i
+  new-record : (i : ℕ) → i < netlist bytes .size → relinkedAt bytes parents i ≡ mappedAt (netlist bytes) caps i
   unfolding relinkedAt rewired
   new-record i l =
       ap (withSlots (netlist bytes .at i)) (tabulate-cong _ _ slots (λ j b. new-slot i j l b))
-      ∙ sym (at-source (netlist bytes) s (pos (netlist bytes) s r) i l)
+      ∙ sym (at-source (netlist bytes) caps (pos (netlist bytes) caps r) i l)
 
   -- buffers, then the source's records: all of the mapped netlist
-  pub whole-area : (area₀ area₁ area : List ℕ) → width * mappedSize (netlist bytes) s ≤ length area₀ →
-      area₁ ≡ withRecords (mapped (netlist bytes) s) (netlist bytes .size) (fewestInAll (netlist bytes) s) area₀ →
-      area ≡ put area₁ 0 (encoded (relinkedAt bytes parents) (netlist bytes .size)) → area ≡ onto (bytesOf (mapped (netlist bytes) s)) area₀
+  pub whole-area : (area₀ area₁ area : List ℕ) → width * mappedSize (netlist bytes) caps ≤ length area₀ →
+      area₁ ≡ withRecords (mapped (netlist bytes) caps) (netlist bytes .size) (fewestInAll (netlist bytes) caps) area₀ →
+      area ≡ put area₁ 0 (encoded (relinkedAt bytes parents) (netlist bytes .size)) → area ≡ onto (bytesOf (mapped (netlist bytes) caps)) area₀
   whole-area area₀ area₁ area room f g =
       g
       ∙ ap (put area₁ 0)
-      (encoded-cong _ _ (netlist bytes .size) (λ i l. new-record i l ∙ ap (mappedAt (netlist bytes) s) (from-zero i)))
-      ∙ ap (withRecords (mapped (netlist bytes) s) 0 (netlist bytes .size)) f
-      ∙ records-all (mapped (netlist bytes) s) (netlist bytes .size) (fewestInAll (netlist bytes) s) area₀ (omega arith) refl
+      (encoded-cong _ _ (netlist bytes .size) (λ i l. new-record i l ∙ ap (mappedAt (netlist bytes) caps) (from-zero i)))
+      ∙ ap (withRecords (mapped (netlist bytes) caps) 0 (netlist bytes .size)) f
+      ∙ records-all (mapped (netlist bytes) caps) (netlist bytes .size) (fewestInAll (netlist bytes) caps) area₀ (omega arith) refl
     where
       from-zero : (i : ℕ) → i ≡ 0 + i
       from-zero i = omega arith

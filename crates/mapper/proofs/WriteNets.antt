@@ -12,6 +12,7 @@ use lib.Seq.{getD-drop}
 use Rattle.facts.specs.Sums.{sum}
 use Rattle.facts.specs.Areas.{put}
 use Rattle.facts.proofs.Sums.{sum-last}
+use Rattle.netlist.specs.declared.Capacities.{Capacities}
 use Rattle.netlist.specs.Kinds.{width, topLevel, mappedLimit}
 use Rattle.netlist.specs.Records.{Netlist}
 use Rattle.netlist.specs.Bytes.{encoded}
@@ -32,17 +33,17 @@ use Rattle.mapper.proofs.SinkParents.{named-sink}
 use Rattle.mapper.proofs.Lines.{line-written, line-parents}
 use Rattle.mapper.proofs.ChainParents.{parents-next-driver}
 
-module _ (n : Netlist) (s d top : ℕ) (counts : List ℕ) (r : Ready n s) (f : Filled n d counts top) where
+module _ (n : Netlist) (caps : Capacities) (d top : ℕ) (counts : List ℕ) (r : Ready n caps) (f : Filled n d counts top) where
   -- after the walk the row holds the tree's buffers
-  buffer-counts : (after : List ℕ) (t : TreeTotals) (w : Walked s counts true after t) → d < n .size →
-      (k : ℕ) → 1 ≤ k → k ≤ topLevel → getD after k 0 ≡ buffersOf n s d k
+  buffer-counts : (after : List ℕ) (t : TreeTotals) (w : Walked (caps .buffer) counts true after t) → d < n .size →
+      (k : ℕ) → 1 ≤ k → k ≤ topLevel → getD after k 0 ≡ buffersOf n caps d k
   unfolding buffersOf
   buffer-counts after t w ld zero a b = absurd (omega arith)
   buffer-counts after t w ld (suc k) a b =
       w .at (suc k) a
-      ∙ ap (λ (r : List ℕ). buffersAt s r (suc k)) (f .counted)
+      ∙ ap (λ (r : List ℕ). buffersAt (caps .buffer) r (suc k)) (f .counted)
 
-  pub net-counted : (after : List ℕ) (t : TreeTotals) → Walked s counts true after t → d < n .size → CountedNet n s d after top
+  pub net-counted : (after : List ℕ) (t : TreeTotals) → Walked (caps .buffer) counts true after t → d < n .size → CountedNet n caps d after top
   net-counted after t w ld =
       record {
         ready = r;
@@ -50,15 +51,15 @@ module _ (n : Netlist) (s d top : ℕ) (counts : List ℕ) (r : Ready n s) (f : 
         buffers = record { size = w .size; at = buffer-counts after t w ld };
         near = f .near;
         beyond = λ k l.
-            nodes-none s (drop k (row n d)) (pos n s r)
+            nodes-none (caps .buffer) (drop k (row n d)) (pos n caps r)
             (λ x.
             getD-drop k (row n d) x 0
             ∙ ap (λ (r : List ℕ). getD r (k + x) 0) (sym (f .counted))
             ∙ f .beyond (k + x) (omega arith));
       }
 
-module _ (n : Netlist) (s d top : ℕ) (counts : List ℕ) (g : CountedNet n s d counts top) where
-  pub net-stale : (left : List ℕ) → NodeCounts n s d left → Stale left top
+module _ (n : Netlist) (caps : Capacities) (d top : ℕ) (counts : List ℕ) (g : CountedNet n caps d counts top) where
+  pub net-stale : (left : List ℕ) → NodeCounts n caps d left → Stale left top
   net-stale left e =
       record {
         size = e .size;
@@ -71,47 +72,47 @@ module _ (n : Netlist) (s d top : ℕ) (counts : List ℕ) (g : CountedNet n s d
       }
 
 -- the net of d, by its sinks
-module _ (n : Netlist) (s d at : ℕ) (first next : List ℕ) (end : ℕ) (counts base area : List ℕ)
-    (w : Writable n s d at first next end counts base area) where
+module _ (n : Netlist) (caps : Capacities) (d at : ℕ) (first next : List ℕ) (end : ℕ) (counts base area : List ℕ)
+    (w : Writable n caps d at first next end counts base area) where
   -- the next net begins where this one ends
-  next-start : at + treeSize n s d ≡ blockStart n s (d + 1)
-  next-start = omega (arith, w .start, sum-last (treeSize n s) d)
+  next-start : at + treeSize n caps d ≡ blockStart n caps (d + 1)
+  next-start = omega (arith, w .start, sum-last (treeSize n caps) d)
 
-  pub wrote : (after : ℕ) (next′ counts′ base′ area′ : List ℕ) → after ≡ blockStart n s (d + 1) → counts′ ≡ replicate (suc topLevel) 0 →
-      length base′ ≡ suc topLevel → ParentsWritten n d (onParent n s) next next′ → area′ ≡ withRecords (mapped n s) at (treeSize n s d) area →
-      Wrote n s d at first next′ end counts′ base′ area area′ after
+  pub wrote : (after : ℕ) (next′ counts′ base′ area′ : List ℕ) → after ≡ blockStart n caps (d + 1) → counts′ ≡ replicate (suc topLevel) 0 →
+      length base′ ≡ suc topLevel → ParentsWritten n d (onParent n caps) next next′ → area′ ≡ withRecords (mapped n caps) at (treeSize n caps d) area →
+      Wrote n caps d at first next′ end counts′ base′ area area′ after
   wrote after next′ counts′ base′ area′ e c b k a =
       record {
         start = e;
         clear = c;
         room = b;
-        parents = parents-next-driver n s d first next next′ end (w .parents) k;
+        parents = parents-next-driver n caps d first next next′ end (w .parents) k;
         bytes = a;
       }
 
   -- without sinks it has no buffers, and no slot names d
-  pub net-none : ((k : ℕ) → sinks n d k ≡ 0) → Wrote n s d at first next end counts base area area at
+  pub net-none : ((k : ℕ) → sinks n d k ≡ 0) → Wrote n caps d at first next end counts base area area at
   net-none z =
       wrote at next counts base area (omega (arith, none, next-start)) (w .clear) (w .room)
       record { size = refl; at = λ y l c. absurd (unnamed y l c); others = λ y c. refl }
-      (sym (ap (λ (c : ℕ). withRecords (mapped n s) at c area) (sym none) ∙ records-none (mapped n s) at area))
+      (sym (ap (λ (c : ℕ). withRecords (mapped n caps) at c area) (sym none) ∙ records-none (mapped n caps) at area))
     where
-      none : 0 ≡ treeSize n s d
-      none = measured-none n s d (w .ready .low) z .buffers
+      none : 0 ≡ treeSize n caps d
+      none = measured-none n caps d (w .ready .allowed .low) z .buffers
 
       unnamed : (y : ℕ) → y < slotEnd n → namesSlot n d y ≡ true → ⊥
-      unnamed y l c = omega (arith, z (slotDistance n d y), named-sink n s (w .ready) d y l c)
+      unnamed y l c = omega (arith, z (slotDistance n d y), named-sink n caps (w .ready) d y l c)
 
   pub line-start : at ≤ mappedLimit
-  line-start = omega (arith, w .start, w .ready .fits, block-before (treeSize n s) d (n .size) (w .driver))
+  line-start = omega (arith, w .start, w .ready .fits, block-before (treeSize n caps) d (n .size) (w .driver))
 
   -- of one or two it is a line
   module _ (top atOne : ℕ) (f : ShortChain n d top atOne) where
-    size : treeSize n s d ≡ top - 1
-    size = line-size n s d top atOne (w .ready .low) f
+    size : treeSize n caps d ≡ top - 1
+    size = line-size n caps d top atOne (w .ready .allowed .low) f
 
-    inside : at + (top - 1) ≤ mappedSize n s
-    inside = omega (arith, w .start, size, block-before (treeSize n s) d (n .size) (w .driver))
+    inside : at + (top - 1) ≤ mappedSize n caps
+    inside = omega (arith, w .start, size, block-before (treeSize n caps) d (n .size) (w .driver))
 
     pub line-room : width * (at + (top - 1)) ≤ length area
     line-room = omega (arith, inside, w .long)
@@ -127,27 +128,27 @@ module _ (n : Netlist) (s d at : ℕ) (first next : List ℕ) (end : ℕ) (count
 
     pub net-line : (low : ℕ) (next′ area′ : List ℕ) → low ≡ n .at d .level → ParentsWritten n d (onLine n d at) next next′ →
         area′ ≡ put area (width * at) (encoded (lineRecord d at low) (top - 1)) →
-        Wrote n s d at first next′ end counts base area area′ (at + (top - 1))
+        Wrote n caps d at first next′ end counts base area area′ (at + (top - 1))
     net-line low next′ area′ e k a =
         wrote (at + (top - 1)) next′ counts base area′
         (omega (arith, size, next-start))
         (w .clear) (w .room)
-        (line-parents n s d top atOne (w .ready) (w .driver) f next next′ (subst (λ (x : ℕ). ParentsWritten n d (onLine n d x) next next′) (w .start) k))
-        (a ∙ rw (e, w .start) (line-written n s d top atOne (w .ready) (w .driver) f area))
+        (line-parents n caps d top atOne (w .ready) (w .driver) f next next′ (subst (λ (x : ℕ). ParentsWritten n d (onLine n d x) next next′) (w .start) k))
+        (a ∙ rw (e, w .start) (line-written n caps d top atOne (w .ready) (w .driver) f area))
 
 -- the nets of the drivers below d are written
-pub record NetsWritten (n : Netlist) (s : ℕ) (first : List ℕ) (end : ℕ) (area₀ : List ℕ) (d at : ℕ) (next counts base area : List ℕ) : Type 0 where
+pub record NetsWritten (n : Netlist) (caps : Capacities) (first : List ℕ) (end : ℕ) (area₀ : List ℕ) (d at : ℕ) (next counts base area : List ℕ) : Type 0 where
   pub within : d ≤ n .size
-  pub start : at ≡ blockStart n s d
+  pub start : at ≡ blockStart n caps d
   pub clear : counts ≡ replicate (suc topLevel) 0
   pub room : length base ≡ suc topLevel
-  pub parents : ParentsSet n s first next d end
+  pub parents : ParentsSet n caps first next d end
   pub long : length area ≡ length area₀
-  pub bytes : area ≡ withRecords (mapped n s) (n .size) (sum (treeSize n s) d) area₀
+  pub bytes : area ≡ withRecords (mapped n caps) (n .size) (sum (treeSize n caps) d) area₀
 
-module _ (n : Netlist) (s : ℕ) (first : List ℕ) (end : ℕ) (area₀ : List ℕ) (r : Ready n s) (fits : width * mappedSize n s ≤ length area₀) where
+module _ (n : Netlist) (caps : Capacities) (first : List ℕ) (end : ℕ) (area₀ : List ℕ) (r : Ready n caps) (fits : width * mappedSize n caps ≤ length area₀) where
   pub nets-start : (N : ℕ) (next counts base : List ℕ) → N ≡ n .size → counts ≡ replicate (suc topLevel) 0 → length base ≡ suc topLevel →
-      ParentsSet n s first next 0 end → NetsWritten n s first end area₀ 0 N next counts base area₀
+      ParentsSet n caps first next 0 end → NetsWritten n caps first end area₀ 0 N next counts base area₀
   unfolding sum
   nets-start N next counts base e c b h =
       record {
@@ -157,11 +158,11 @@ module _ (n : Netlist) (s : ℕ) (first : List ℕ) (end : ℕ) (area₀ : List 
         room = b;
         parents = h;
         long = refl;
-        bytes = sym (records-none (mapped n s) (n .size) area₀);
+        bytes = sym (records-none (mapped n caps) (n .size) area₀);
       }
 
-  module _ (d at N : ℕ) (next counts base area : List ℕ) (h : NetsWritten n s first end area₀ d at next counts base area) (size : N ≡ n .size) where
-    pub nets-writable : d < N → Writable n s d at first next end counts base area
+  module _ (d at N : ℕ) (next counts base area : List ℕ) (h : NetsWritten n caps first end area₀ d at next counts base area) (size : N ≡ n .size) where
+    pub nets-writable : d < N → Writable n caps d at first next end counts base area
     nets-writable l =
         record {
           ready = r;
@@ -174,7 +175,7 @@ module _ (n : Netlist) (s : ℕ) (first : List ℕ) (end : ℕ) (area₀ : List 
         }
 
     pub nets-more : (after : ℕ) (next′ counts′ base′ area′ : List ℕ) → d < N →
-        Wrote n s d at first next′ end counts′ base′ area area′ after → NetsWritten n s first end area₀ (d + 1) after next′ counts′ base′ area′
+        Wrote n caps d at first next′ end counts′ base′ area area′ after → NetsWritten n caps first end area₀ (d + 1) after next′ counts′ base′ area′
     nets-more after next′ counts′ base′ area′ l w =
         record {
           within = omega arith;
@@ -182,21 +183,21 @@ module _ (n : Netlist) (s : ℕ) (first : List ℕ) (end : ℕ) (area₀ : List 
           clear = w .clear;
           room = w .room;
           parents = w .parents;
-          long = ap length (w .bytes) ∙ records-length (mapped n s) at (treeSize n s d) area (omega (arith, inside, h .long)) ∙ h .long;
+          long = ap length (w .bytes) ∙ records-length (mapped n caps) at (treeSize n caps d) area (omega (arith, inside, h .long)) ∙ h .long;
           bytes =
               w .bytes
-              ∙ ap₂ (λ (xs : List ℕ) (i : ℕ). withRecords (mapped n s) i (treeSize n s d) xs) (h .bytes) (h .start)
-              ∙ records-more (mapped n s) (n .size) (sum (treeSize n s) d) area₀ (treeSize n s d) (omega (arith, inside, h .start))
-              ∙ ap (λ (c : ℕ). withRecords (mapped n s) (n .size) c area₀) (sum-last (treeSize n s) d);
+              ∙ ap₂ (λ (xs : List ℕ) (i : ℕ). withRecords (mapped n caps) i (treeSize n caps d) xs) (h .bytes) (h .start)
+              ∙ records-more (mapped n caps) (n .size) (sum (treeSize n caps) d) area₀ (treeSize n caps d) (omega (arith, inside, h .start))
+              ∙ ap (λ (c : ℕ). withRecords (mapped n caps) (n .size) c area₀) (sum-last (treeSize n caps) d);
         }
       where
-        inside : at + treeSize n s d ≤ mappedSize n s
-        inside = omega (arith, h .start, block-before (treeSize n s) d (n .size) (omega arith))
+        inside : at + treeSize n caps d ≤ mappedSize n caps
+        inside = omega (arith, h .start, block-before (treeSize n caps) d (n .size) (omega arith))
 
-    pub nets-parents : N ≤ d → ParentsSet n s first next (n .size) end
-    nets-parents l = let e : d ≡ n .size = omega (arith, h .within) in subst (λ (x : ℕ). ParentsSet n s first next x end) e (h .parents)
+    pub nets-parents : N ≤ d → ParentsSet n caps first next (n .size) end
+    nets-parents l = let e : d ≡ n .size = omega (arith, h .within) in subst (λ (x : ℕ). ParentsSet n caps first next x end) e (h .parents)
 
-    pub nets-bytes : N ≤ d → area ≡ withRecords (mapped n s) (n .size) (sum (treeSize n s) (n .size)) area₀
+    pub nets-bytes : N ≤ d → area ≡ withRecords (mapped n caps) (n .size) (sum (treeSize n caps) (n .size)) area₀
     nets-bytes l =
         let e : d ≡ n .size = omega (arith, h .within) in
-        h .bytes ∙ ap (λ (d : ℕ). withRecords (mapped n s) (n .size) (sum (treeSize n s) d) area₀) e
+        h .bytes ∙ ap (λ (d : ℕ). withRecords (mapped n caps) (n .size) (sum (treeSize n caps) d) area₀) e

@@ -7,6 +7,7 @@ use lib.Dec.{ltb, eqb}
 use Rattle.facts.specs.declared.Checked.{Checked}
 use Rattle.facts.specs.Checks.{check, _andThen_, outcome, unlessRefused}
 use Rattle.facts.specs.Areas.{onto}
+use Rattle.netlist.specs.declared.Capacities.{Capacities}
 use Rattle.netlist.specs.Kinds.{width, mappedLimit}
 use Rattle.netlist.specs.Records.{Netlist, netlist, depth}
 use Rattle.netlist.specs.Counts.{gates}
@@ -18,21 +19,21 @@ use Rattle.mapper.specs.declared.Mapping.{Mapping}
 use Rattle.mapper.specs.Mapped.{mappedSize, mapped}
 
 -- 9: too many records
-abbrev pub tooLarge : Netlist → ℕ → Bool
-tooLarge n s = ltb mappedLimit (mappedSize n s)
+abbrev pub tooLarge : Netlist → Capacities → Bool
+tooLarge n caps = ltb mappedLimit (mappedSize n caps)
 
 -- 10: an area that M records do not fit
-abbrev pub tooShort : Netlist → ℕ → List ℕ → Bool
-tooShort n s area = ltb (length area) (width * mappedSize n s)
+abbrev pub tooShort : Netlist → Capacities → List ℕ → Bool
+tooShort n caps area = ltb (length area) (width * mappedSize n caps)
 
 -- 1 to 9: whether the source has a mapped netlist
-unfoldable pub sourceMaps : List ℕ → ℕ → Checked
-sourceMaps bytes s =
-    inputChecks s bytes andThen treeChecks (netlist bytes) s andThen check 9 0 (tooLarge (netlist bytes) s)
+unfoldable pub sourceMaps : List ℕ → Capacities → Checked
+sourceMaps bytes caps =
+    inputChecks bytes caps andThen treeChecks (netlist bytes) caps andThen check 9 0 (tooLarge (netlist bytes) caps)
 
 -- 1 to 10
-unfoldable pub mapChecks : List ℕ → ℕ → List ℕ → Checked
-mapChecks bytes s area = sourceMaps bytes s andThen check 10 0 (tooShort (netlist bytes) s area)
+unfoldable pub mapChecks : List ℕ → Capacities → List ℕ → Checked
+mapChecks bytes caps area = sourceMaps bytes caps andThen check 10 0 (tooShort (netlist bytes) caps area)
 
 -- junctions of a gate and of a buffer
 abbrev pub gatePrice : ℕ
@@ -68,20 +69,20 @@ figures n bs =
     }
 
 -- the answer that the checks leave
-abbrev pub answerOf : Checked → Netlist → ℕ → Mapping
-answerOf checks n s = outcome checks (figures n (fewestInAll n s)) refusal
+abbrev pub answerOf : Checked → Netlist → Capacities → Mapping
+answerOf checks n caps = outcome checks (figures n (fewestInAll n caps)) refusal
 
 -- the area that the checks leave
-abbrev pub areaOf : Checked → Netlist → ℕ → List ℕ → List ℕ
-areaOf checks n s area = unlessRefused checks (onto (bytesOf (mapped n s)) area) area
+abbrev pub areaOf : Checked → Netlist → Capacities → List ℕ → List ℕ
+areaOf checks n caps area = unlessRefused checks (onto (bytesOf (mapped n caps)) area) area
 
 -- the mapper's seven numbers
-unfoldable pub mapAnswer : List ℕ → ℕ → List ℕ → Mapping
-mapAnswer bytes s area = answerOf (mapChecks bytes s area) (netlist bytes) s
+unfoldable pub mapAnswer : List ℕ → Capacities → List ℕ → Mapping
+mapAnswer bytes caps area = answerOf (mapChecks bytes caps area) (netlist bytes) caps
 
 -- what the area holds after the call
-unfoldable pub mapArea : List ℕ → ℕ → List ℕ → List ℕ
-mapArea bytes s area = areaOf (mapChecks bytes s area) (netlist bytes) s area
+unfoldable pub mapArea : List ℕ → Capacities → List ℕ → List ℕ
+mapArea bytes caps area = areaOf (mapChecks bytes caps area) (netlist bytes) caps area
 
 -- the numbers of an answer, in the order of specification 4.1
 unfoldable pub mappingNumbers : Mapping → List ℕ

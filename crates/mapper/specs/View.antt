@@ -6,6 +6,7 @@ use lib.ListN.{take, drop}
 use lib.Dec.{leb}
 use Rattle.facts.specs.declared.Checked.{Checked}
 use Rattle.facts.specs.Checks.{unlessRefused}
+use Rattle.netlist.specs.declared.Capacities.{Capacities}
 use Rattle.netlist.specs.Kinds.{width, isDriver}
 use Rattle.netlist.specs.Records.{Netlist, netlist, recordCount}
 use Rattle.mapper.specs.declared.Ends.{Ends}
@@ -17,16 +18,16 @@ abbrev pub noEnds : Ends
 noEnds = record { from = 0; to = 0 }
 
 -- the records of d's block: behind the source and the trees before it
-abbrev pub ownEnds : Netlist → ℕ → ℕ → Ends
-ownEnds n s d = record { from = blockStart n s d; to = blockStart n s (suc d) }
+abbrev pub ownEnds : Netlist → Capacities → ℕ → Ends
+ownEnds n caps d = record { from = blockStart n caps d; to = blockStart n caps (suc d) }
 
 -- what the checks leave of it; only drivers have one
-abbrev pub endsOf : Checked → Netlist → ℕ → ℕ → Ends
-endsOf checks n s d = unlessRefused checks (cond (isDriver (n .at d .kind)) (ownEnds n s d) noEnds) noEnds
+abbrev pub endsOf : Checked → Netlist → Capacities → ℕ → Ends
+endsOf checks n caps d = unlessRefused checks (cond (isDriver (n .at d .kind)) (ownEnds n caps d) noEnds) noEnds
 
--- none where 1 to 9 refuse the source and the capacity, or the record is no driver
-unfoldable pub blockEnds : List ℕ → ℕ → ℕ → Ends
-blockEnds bytes s d = endsOf (sourceMaps bytes s) (netlist bytes) s d
+-- none where 1 to 9 refuse the source and the capacities, or the record is no driver
+unfoldable pub blockEnds : List ℕ → Capacities → ℕ → Ends
+blockEnds bytes caps d = endsOf (sourceMaps bytes caps) (netlist bytes) caps d
 
 -- the records between two ends; none where the area ends before they do
 abbrev pub between : List ℕ → Ends → List ℕ
@@ -34,5 +35,5 @@ between area e =
     cond (leb (e .to) (recordCount area)) (take (width * e .to - width * e .from) (drop (width * e .from) area)) []
 
 -- the block view
-abbrev pub blockView : List ℕ → ℕ → List ℕ → ℕ → List ℕ
-blockView bytes s mapped d = between mapped (blockEnds bytes s d)
+abbrev pub blockView : List ℕ → Capacities → List ℕ → ℕ → List ℕ
+blockView bytes caps mapped d = between mapped (blockEnds bytes caps d)

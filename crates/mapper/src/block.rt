@@ -11,6 +11,7 @@ use crate::RECORDS;
 use crate::SINKS;
 use facts::Checked;
 use fanout::DISTANCES;
+use netlist::Capacities;
 use netlist::MAPPED_LIMIT;
 use netlist::SLOTS;
 use nets::sinks;
@@ -27,19 +28,19 @@ fn no_ends() -> Ends
 // The record at which the block of record m begins: behind the source and the trees before it.
 fn start_of(
     source: &[u8],
-    s: u32,
+    capacities: Capacities,
     n: usize,
     end: usize,
     first: &[u16],
     next: &[u16],
     m: usize,
 ) -> usize
-    requires { ⌜ Mappable (now source) s n (now first) (now next) end ⌝ }
+    requires { ⌜ Mappable (now source) capacities n (now first) (now next) end ⌝ }
     requires { ⌜ m ≤ n ⌝ }
-    ensures { λ r. ⌜ r ≡ blockStart (netlist (now (source .entry))) s m ⌝ }
+    ensures { λ r. ⌜ r ≡ blockStart (netlist (now (source .entry))) capacities m ⌝ }
 {
     let mut row = [0u32; DISTANCES];
-    let sizing = trees::count_trees(source, s, m, end, first, next, &mut row);
+    let sizing = trees::count_trees(source, capacities, m, end, first, next, &mut row);
     match sizing {
         Sizing::Total(total) => n + total,
         Sizing::Stops(_, _) => 0,
@@ -49,22 +50,22 @@ fn start_of(
 // The block of record d of a source that passes 1 to 9.
 fn ends_of(
     source: &[u8],
-    s: u32,
+    capacities: Capacities,
     n: usize,
     end: usize,
     first: &[u16],
     next: &[u16],
     d: usize,
 ) -> Ends
-    requires { ⌜ Mappable (now source) s n (now first) (now next) end ⌝ }
-    ensures { λ r. ⌜ r ≡ blockEnds (now (source .entry)) s d ⌝ }
+    requires { ⌜ Mappable (now source) capacities n (now first) (now next) end ⌝ }
+    ensures { λ r. ⌜ r ≡ blockEnds (now (source .entry)) capacities d ⌝ }
 {
     if n <= d {
         return no_ends();
     }
     if netlist::is_driver(netlist::kind_at(source, d)) {
-        let from = start_of(source, s, n, end, first, next, d);
-        let to = start_of(source, s, n, end, first, next, d + 1);
+        let from = start_of(source, capacities, n, end, first, next, d);
+        let to = start_of(source, capacities, n, end, first, next, d + 1);
         return Ends { from, to };
     }
     no_ends()
@@ -73,7 +74,7 @@ fn ends_of(
 // Check 9 of a source whose trees are counted, and the block of record d.
 fn counted_ends(
     source: &[u8],
-    s: u32,
+    capacities: Capacities,
     n: usize,
     end: usize,
     first: &[u16],
@@ -81,19 +82,19 @@ fn counted_ends(
     total: usize,
     d: usize,
 ) -> Ends
-    requires { ⌜ Counted (now source) s n (now first) (now next) end total ⌝ }
-    ensures { λ r. ⌜ r ≡ blockEnds (now (source .entry)) s d ⌝ }
+    requires { ⌜ Counted (now source) capacities n (now first) (now next) end total ⌝ }
+    ensures { λ r. ⌜ r ≡ blockEnds (now (source .entry)) capacities d ⌝ }
 {
     if MAPPED_LIMIT < n + total {
         return no_ends();
     }
-    ends_of(source, s, n, end, first, next, d)
+    ends_of(source, capacities, n, end, first, next, d)
 }
 
 // Check 8 of a source that passes 1 to 7, and the block of record d.
-fn source_ends(source: &[u8], s: u32, d: usize) -> Ends
-    requires { ⌜ inputChecks s (now source) ≡ Checked.Passed ⌝ }
-    ensures { λ r. ⌜ r ≡ blockEnds (now (source .entry)) s d ⌝ }
+fn source_ends(source: &[u8], capacities: Capacities, d: usize) -> Ends
+    requires { ⌜ inputChecks (now source) capacities ≡ Checked.Passed ⌝ }
+    ensures { λ r. ⌜ r ≡ blockEnds (now (source .entry)) capacities d ⌝ }
 {
     let n = netlist::record_count(source);
     let end = SLOTS * n;
@@ -101,20 +102,20 @@ fn source_ends(source: &[u8], s: u32, d: usize) -> Ends
     sinks::empty_chains(n, end as u16, &mut first);
     let mut next = [0u16; SINKS];
     let mut row = [0u32; DISTANCES];
-    let sizing = trees::size_trees(source, s, n, end, &mut first, &mut next, &mut row);
+    let sizing = trees::size_trees(source, capacities, n, end, &mut first, &mut next, &mut row);
     match sizing {
-        Sizing::Total(total) => counted_ends(source, s, n, end, &first, &next, total, d),
+        Sizing::Total(total) => counted_ends(source, capacities, n, end, &first, &next, total, d),
         Sizing::Stops(_, _) => no_ends(),
     }
 }
 
 // Where the block of record d stands.
-pub(crate) fn block_ends(source: &[u8], capacity: u32, d: usize) -> Ends
-    ensures { λ r. ⌜ r ≡ blockEnds (now (source .entry)) capacity d ⌝ }
+pub(crate) fn block_ends(source: &[u8], capacities: Capacities, d: usize) -> Ends
+    ensures { λ r. ⌜ r ≡ blockEnds (now (source .entry)) capacities d ⌝ }
 {
-    let checked = netlist::check_input(capacity, source);
+    let checked = netlist::check_input(source, capacities);
     match checked {
-        Checked::Passed => source_ends(source, capacity, d),
+        Checked::Passed => source_ends(source, capacities, d),
         Checked::Refused(_, _) => no_ends(),
     }
 }

@@ -11,6 +11,7 @@ ghost use Rattle.mapper.specs.View.{blockView};
 ghost use Rattle.mapper.specs.PrivateWriting.{Counted};
 use facts::Checked;
 use fanout::DISTANCES;
+use netlist::Capacities;
 use netlist::MAPPED_LIMIT;
 use netlist::SLOTS;
 use netlist::WIDTH;
@@ -103,7 +104,7 @@ fn accept(source: &[u8], n: usize, buffers: u32) -> Mapping
 // Checks 9 and 10 of a source whose trees are counted, and the mapping.
 fn map_trees(
     source: &[u8],
-    s: u32,
+    capacities: Capacities,
     n: usize,
     end: usize,
     first: &[u16],
@@ -112,10 +113,10 @@ fn map_trees(
     row: &mut [u32; DISTANCES],
     area: &mut [u8],
 ) -> Mapping
-    requires { ⌜ Counted (now source) s n (now first) (now next) end total ⌝ }
+    requires { ⌜ Counted (now source) capacities n (now first) (now next) end total ⌝ }
     requires { ⌜ now row ≡ replicate (suc topLevel) 0 ⌝ }
-    ensures { λ r. ⌜ r ≡ mapAnswer (now (source .entry)) s (now (area .entry)) ⌝ }
-    ensures { λ _. ⌜ now (area .exit) ≡ mapArea (now (source .entry)) s (now (area .entry)) ⌝ }
+    ensures { λ r. ⌜ r ≡ mapAnswer (now (source .entry)) capacities (now (area .entry)) ⌝ }
+    ensures { λ _. ⌜ now (area .exit) ≡ mapArea (now (source .entry)) capacities (now (area .entry)) ⌝ }
 {
     let size = n + total;
     if MAPPED_LIMIT < size {
@@ -124,69 +125,84 @@ fn map_trees(
     if area.len() < WIDTH * size {
         return refuse(10, 0);
     }
-    writing::write_mapped(source, s, n, end, first, next, row, area);
+    writing::write_mapped(source, capacities, n, end, first, next, row, area);
     accept(source, n, total as u32)
 }
 
 // Checks 8 to 10 of a source that passes 1 to 7, and the mapping, in arrays long enough for its chains.
 fn map_with(
     source: &[u8],
-    s: u32,
+    capacities: Capacities,
     n: usize,
     first: &mut [u16],
     next: &mut [u16],
     area: &mut [u8],
 ) -> Mapping
-    requires { ⌜ inputChecks s (now source) ≡ Checked.Passed ⌝ }
+    requires { ⌜ inputChecks (now source) capacities ≡ Checked.Passed ⌝ }
     requires { ⌜ n ≡ recordCount (now source) ⌝ }
     requires { ⌜ (n ≤ length (now first)) × (slots * n ≤ length (now next)) ⌝ }
-    ensures { λ r. ⌜ r ≡ mapAnswer (now (source .entry)) s (now (area .entry)) ⌝ }
-    ensures { λ _. ⌜ now (area .exit) ≡ mapArea (now (source .entry)) s (now (area .entry)) ⌝ }
+    ensures { λ r. ⌜ r ≡ mapAnswer (now (source .entry)) capacities (now (area .entry)) ⌝ }
+    ensures { λ _. ⌜ now (area .exit) ≡ mapArea (now (source .entry)) capacities (now (area .entry)) ⌝ }
 {
     let end = SLOTS * n;
     let mut row = [0u32; DISTANCES];
     sinks::empty_chains(n, end as u16, first);
-    let sizing = trees::size_trees(source, s, n, end, first, next, &mut row);
+    let sizing = trees::size_trees(source, capacities, n, end, first, next, &mut row);
     match sizing {
-        Sizing::Total(total) => map_trees(source, s, n, end, first, next, total, &mut row, area),
+        Sizing::Total(total) => map_trees(
+            source,
+            capacities,
+            n,
+            end,
+            first,
+            next,
+            total,
+            &mut row,
+            area,
+        ),
         Sizing::Stops(number, place) => refuse(number, place),
     }
 }
 
 // Checks 8 to 10 of a source that passes 1 to 7, and the mapping. A source of few records takes short arrays, which are sooner cleared.
-fn map_source(source: &[u8], s: u32, area: &mut [u8]) -> Mapping
-    requires { ⌜ inputChecks s (now source) ≡ Checked.Passed ⌝ }
-    ensures { λ r. ⌜ r ≡ mapAnswer (now (source .entry)) s (now (area .entry)) ⌝ }
-    ensures { λ _. ⌜ now (area .exit) ≡ mapArea (now (source .entry)) s (now (area .entry)) ⌝ }
+fn map_source(source: &[u8], capacities: Capacities, area: &mut [u8]) -> Mapping
+    requires { ⌜ inputChecks (now source) capacities ≡ Checked.Passed ⌝ }
+    ensures { λ r. ⌜ r ≡ mapAnswer (now (source .entry)) capacities (now (area .entry)) ⌝ }
+    ensures { λ _. ⌜ now (area .exit) ≡ mapArea (now (source .entry)) capacities (now (area .entry)) ⌝ }
 {
     let n = netlist::record_count(source);
     if n <= SMALL {
         let mut first = [0u16; SMALL];
         let mut next = [0u16; SMALL_SINKS];
-        return map_with(source, s, n, &mut first, &mut next, area);
+        return map_with(source, capacities, n, &mut first, &mut next, area);
     }
     let mut first = [0u16; RECORDS];
     let mut next = [0u16; SINKS];
-    map_with(source, s, n, &mut first, &mut next, area)
+    map_with(source, capacities, n, &mut first, &mut next, area)
 }
 
 // The mapper: the mapped netlist of a source into the area, and its seven numbers; or a refusal that leaves the area as it was.
-pub fn map_netlist(source: &[u8], capacity: u32, area: &mut [u8]) -> Mapping
-    ensures { λ r. ⌜ r ≡ mapAnswer (now (source .entry)) capacity (now (area .entry)) ⌝ }
-    ensures { λ _. ⌜ now (area .exit) ≡ mapArea (now (source .entry)) capacity (now (area .entry)) ⌝ }
+pub fn map_netlist(source: &[u8], capacities: Capacities, area: &mut [u8]) -> Mapping
+    ensures { λ r. ⌜ r ≡ mapAnswer (now (source .entry)) capacities (now (area .entry)) ⌝ }
+    ensures { λ _. ⌜ now (area .exit) ≡ mapArea (now (source .entry)) capacities (now (area .entry)) ⌝ }
 {
-    let checked = netlist::check_input(capacity, source);
+    let checked = netlist::check_input(source, capacities);
     match checked {
-        Checked::Passed => map_source(source, capacity, area),
+        Checked::Passed => map_source(source, capacities, area),
         Checked::Refused(number, place) => refuse(number, place),
     }
 }
 
 // The block view: the buffers of one driver, as a part of the lent mapped netlist.
-pub fn block_of<'a>(source: &[u8], capacity: u32, mapped: &'a [u8], driver: usize) -> &'a [u8]
-    ensures { λ r. ⌜ now r ≡ blockView (now (source .entry)) capacity (now (mapped .entry)) driver ⌝ }
+pub fn block_of<'a>(
+    source: &[u8],
+    capacities: Capacities,
+    mapped: &'a [u8],
+    driver: usize,
+) -> &'a [u8]
+    ensures { λ r. ⌜ now r ≡ blockView (now (source .entry)) capacities (now (mapped .entry)) driver ⌝ }
 {
-    let ends = block::block_ends(source, capacity, driver);
+    let ends = block::block_ends(source, capacities, driver);
     let from = ends.from;
     let to = ends.to;
     if netlist::record_count(mapped) < to {

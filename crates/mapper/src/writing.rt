@@ -14,6 +14,7 @@ ghost use Rattle.mapper.specs.PrivateWriting.{Ready, Stale, behind, leve
 ghost use Rattle.nets.specs.PrivateChains.{Chained};
 use crate::records;
 use fanout::DISTANCES;
+use netlist::Capacities;
 use netlist::record_writer;
 use nets::numbers;
 use nets::sinks;
@@ -62,7 +63,7 @@ fn write_level(area: &mut [u8], s: u32, k: usize, at: usize, level: u16, base: u
 // The buffers of d's tree from record start on, by distance; base keeps what each distance's first node hangs on.
 fn write_buffers(
     source: &[u8],
-    s: u32,
+    capacities: Capacities,
     d: usize,
     start: usize,
     top: usize,
@@ -70,13 +71,13 @@ fn write_buffers(
     base: &mut [u16; DISTANCES],
     area: &mut [u8],
 ) -> usize
-    requires { ⌜ CountedNet (netlist (now source)) s d (now row) top ⌝ }
-    requires { ⌜ start ≡ blockStart (netlist (now source)) s d ⌝ }
+    requires { ⌜ CountedNet (netlist (now source)) capacities d (now row) top ⌝ }
+    requires { ⌜ start ≡ blockStart (netlist (now source)) capacities d ⌝ }
     requires { ⌜ length (now base) ≡ suc topLevel ⌝ }
-    requires { ⌜ width * mappedSize (netlist (now source)) s ≤ length (now area) ⌝ }
-    ensures { λ r. ⌜ r ≡ blockStart (netlist (now (source .entry))) s (d + 1) ⌝ }
-    ensures { λ _. ⌜ FirstParents (netlist (now (source .entry))) s d (now (base .exit)) ⌝ }
-    ensures { λ _. ⌜ now (area .exit) ≡ withRecords (mapped (netlist (now (source .entry))) s) start (treeSize (netlist (now (source .entry))) s d) (now (area .entry)) ⌝ }
+    requires { ⌜ width * mappedSize (netlist (now source)) capacities ≤ length (now area) ⌝ }
+    ensures { λ r. ⌜ r ≡ blockStart (netlist (now (source .entry))) capacities (d + 1) ⌝ }
+    ensures { λ _. ⌜ FirstParents (netlist (now (source .entry))) capacities d (now (base .exit)) ⌝ }
+    ensures { λ _. ⌜ now (area .exit) ≡ withRecords (mapped (netlist (now (source .entry))) capacities) start (treeSize (netlist (now (source .entry))) capacities d) (now (area .entry)) ⌝ }
 {
     let low = netlist::level_at(source, d);
     let mut at = start;
@@ -85,7 +86,7 @@ fn write_buffers(
     while k <= top {
         let n = row[k];
         base[k] = from;
-        write_level(area, s, k, at, low + k as u16, from, n);
+        write_level(area, capacities.buffer, k, at, low + k as u16, from, n);
         from = at as u16;
         at += numbers::amount(n);
         k += 1;
@@ -96,7 +97,7 @@ fn write_buffers(
 // The sinks of d, along its chain: each hangs behind the buffers and the earlier sinks of its distance, and its parent takes the place of its next sink.
 fn set_parents(
     source: &[u8],
-    s: u32,
+    capacities: Capacities,
     end: usize,
     first: &[u16],
     next: &mut [u16],
@@ -104,9 +105,9 @@ fn set_parents(
     base: &[u16; DISTANCES],
     row: &mut [u32; DISTANCES],
 )
-    requires { ⌜ ParentsDue (netlist (now source)) s d (now first) (now next) end (now row) (now base) ⌝ }
-    ensures { λ _. ⌜ ParentsWritten (netlist (now (source .entry))) d (onParent (netlist (now (source .entry))) s) (now (next .entry)) (now (next .exit)) ⌝ }
-    ensures { λ _. ⌜ NodeCounts (netlist (now (source .entry))) s d (now (row .exit)) ⌝ }
+    requires { ⌜ ParentsDue (netlist (now source)) capacities d (now first) (now next) end (now row) (now base) ⌝ }
+    ensures { λ _. ⌜ ParentsWritten (netlist (now (source .entry))) d (onParent (netlist (now (source .entry))) capacities) (now (next .entry)) (now (next .exit)) ⌝ }
+    ensures { λ _. ⌜ NodeCounts (netlist (now (source .entry))) capacities d (now (row .exit)) ⌝ }
 {
     let low = netlist::level_at(source, d);
     let mut p = numbers::index(first[d]);
@@ -115,7 +116,7 @@ fn set_parents(
         let k = sinks::distance(source, low, p);
         let q = row[k];
         row[k] = q + 1;
-        next[p] = parent_of(base[k], s, k, q);
+        next[p] = parent_of(base[k], capacities.buffer, k, q);
         p = after;
     }
 }
@@ -123,28 +124,28 @@ fn set_parents(
 // The row of d's net, walked: the buffers at each distance; the largest distance is handed back.
 fn count_buffers(
     source: &[u8],
-    s: u32,
+    capacities: Capacities,
     end: usize,
     first: &[u16],
     next: &[u16],
     d: usize,
     row: &mut [u32; DISTANCES],
 ) -> usize
-    requires { ⌜ Ready (netlist (now source)) s ⌝ }
+    requires { ⌜ Ready (netlist (now source)) capacities ⌝ }
     requires { ⌜ Chained (netlist (now source)) (now first) (now next) d end ⌝ }
     requires { ⌜ d < netlist (now source) .size ⌝ }
     requires { ⌜ now row ≡ replicate (suc topLevel) 0 ⌝ }
-    ensures { λ r. ⌜ CountedNet (netlist (now (source .entry))) s d (now (row .exit)) r ⌝ }
+    ensures { λ r. ⌜ CountedNet (netlist (now (source .entry))) capacities d (now (row .exit)) r ⌝ }
 {
     let reach = sinks::fill_row(source, end, first, next, d, row);
-    fanout::walk(s, reach, true, row);
+    fanout::walk(capacities.buffer, reach, true, row);
     reach.far
 }
 
 // The tree of d: its buffers go to the area from record start on, its sinks' parents to their slots. The next record is handed back.
 fn write_tree(
     source: &[u8],
-    s: u32,
+    capacities: Capacities,
     end: usize,
     first: &[u16],
     next: &mut [u16],
@@ -154,12 +155,12 @@ fn write_tree(
     base: &mut [u16; DISTANCES],
     area: &mut [u8],
 ) -> usize
-    requires { ⌜ Writable (netlist (now source)) s d start (now first) (now next) end (now row) (now base) (now area) ⌝ }
-    ensures { λ r. ⌜ Wrote (netlist (now (source .entry))) s d start (now (first .entry)) (now (next .exit)) end (now (row .exit)) (now (base .exit)) (now (area .entry)) (now (area .exit)) r ⌝ }
+    requires { ⌜ Writable (netlist (now source)) capacities d start (now first) (now next) end (now row) (now base) (now area) ⌝ }
+    ensures { λ r. ⌜ Wrote (netlist (now (source .entry))) capacities d start (now (first .entry)) (now (next .exit)) end (now (row .exit)) (now (base .exit)) (now (area .entry)) (now (area .exit)) r ⌝ }
 {
-    let top = count_buffers(source, s, end, first, next, d, row);
-    let after = write_buffers(source, s, d, start, top, row, base, area);
-    set_parents(source, s, end, first, next, d, base, row);
+    let top = count_buffers(source, capacities, end, first, next, d, row);
+    let after = write_buffers(source, capacities, d, start, top, row, base, area);
+    set_parents(source, capacities, end, first, next, d, base, row);
     clear_row(top, row);
     after
 }
@@ -219,7 +220,7 @@ fn set_line_parents(
 // The net of d, by its sinks: nothing, a line or a tree, from record start on. The next record is handed back.
 fn write_net(
     source: &[u8],
-    s: u32,
+    capacities: Capacities,
     end: usize,
     first: &[u16],
     next: &mut [u16],
@@ -229,8 +230,8 @@ fn write_net(
     base: &mut [u16; DISTANCES],
     area: &mut [u8],
 ) -> usize
-    requires { ⌜ Writable (netlist (now source)) s d start (now first) (now next) end (now row) (now base) (now area) ⌝ }
-    ensures { λ r. ⌜ Wrote (netlist (now (source .entry))) s d start (now (first .entry)) (now (next .exit)) end (now (row .exit)) (now (base .exit)) (now (area .entry)) (now (area .exit)) r ⌝ }
+    requires { ⌜ Writable (netlist (now source)) capacities d start (now first) (now next) end (now row) (now base) (now area) ⌝ }
+    ensures { λ r. ⌜ Wrote (netlist (now (source .entry))) capacities d start (now (first .entry)) (now (next .exit)) end (now (row .exit)) (now (base .exit)) (now (area .entry)) (now (area .exit)) r ⌝ }
 {
     let chain = sinks::chain_of(source, end, first, next, d);
     match chain {
@@ -241,14 +242,25 @@ fn write_net(
             write_line(area, d, start, netlist::level_at(source, d), n);
             start + n
         }
-        Chain::Long => write_tree(source, s, end, first, next, d, start, row, base, area),
+        Chain::Long => write_tree(
+            source,
+            capacities,
+            end,
+            first,
+            next,
+            d,
+            start,
+            row,
+            base,
+            area,
+        ),
     }
 }
 
 // The nets of all drivers, rising: their buffers behind the source's records, and what each sink hangs on. The row is all zero before each.
 fn write_nets(
     source: &[u8],
-    s: u32,
+    capacities: Capacities,
     n: usize,
     end: usize,
     first: &[u16],
@@ -256,19 +268,30 @@ fn write_nets(
     row: &mut [u32; DISTANCES],
     area: &mut [u8],
 )
-    requires { ⌜ Ready (netlist (now source)) s ⌝ }
+    requires { ⌜ Ready (netlist (now source)) capacities ⌝ }
     requires { ⌜ n ≡ recordCount (now source) ⌝ }
-    requires { ⌜ ParentsSet (netlist (now source)) s (now first) (now next) 0 end ⌝ }
+    requires { ⌜ ParentsSet (netlist (now source)) capacities (now first) (now next) 0 end ⌝ }
     requires { ⌜ now row ≡ replicate (suc topLevel) 0 ⌝ }
-    requires { ⌜ width * mappedSize (netlist (now source)) s ≤ length (now area) ⌝ }
-    ensures { λ _. ⌜ ParentsSet (netlist (now (source .entry))) s (now (first .entry)) (now (next .exit)) (netlist (now (source .entry)) .size) end ⌝ }
-    ensures { λ _. ⌜ now (area .exit) ≡ withRecords (mapped (netlist (now (source .entry))) s) (netlist (now (source .entry)) .size) (sum (treeSize (netlist (now (source .entry))) s) (netlist (now (source .entry)) .size)) (now (area .entry)) ⌝ }
+    requires { ⌜ width * mappedSize (netlist (now source)) capacities ≤ length (now area) ⌝ }
+    ensures { λ _. ⌜ ParentsSet (netlist (now (source .entry))) capacities (now (first .entry)) (now (next .exit)) (netlist (now (source .entry)) .size) end ⌝ }
+    ensures { λ _. ⌜ now (area .exit) ≡ withRecords (mapped (netlist (now (source .entry))) capacities) (netlist (now (source .entry)) .size) (sum (treeSize (netlist (now (source .entry))) capacities) (netlist (now (source .entry)) .size)) (now (area .entry)) ⌝ }
 {
     let mut base = [0u16; DISTANCES];
     let mut at = n;
     let mut d: usize = 0;
     while d < n {
-        at = write_net(source, s, end, first, next, d, at, row, &mut base, area);
+        at = write_net(
+            source,
+            capacities,
+            end,
+            first,
+            next,
+            d,
+            at,
+            row,
+            &mut base,
+            area,
+        );
         d += 1;
     }
 }
@@ -276,7 +299,7 @@ fn write_nets(
 // The whole mapped netlist, into an area that it fits.
 pub(crate) fn write_mapped(
     source: &[u8],
-    s: u32,
+    capacities: Capacities,
     n: usize,
     end: usize,
     first: &[u16],
@@ -284,13 +307,13 @@ pub(crate) fn write_mapped(
     row: &mut [u32; DISTANCES],
     area: &mut [u8],
 )
-    requires { ⌜ Ready (netlist (now source)) s ⌝ }
+    requires { ⌜ Ready (netlist (now source)) capacities ⌝ }
     requires { ⌜ Chained (netlist (now source)) (now first) (now next) 0 end ⌝ }
     requires { ⌜ n ≡ recordCount (now source) ⌝ }
     requires { ⌜ now row ≡ replicate (suc topLevel) 0 ⌝ }
-    requires { ⌜ width * mappedSize (netlist (now source)) s ≤ length (now area) ⌝ }
-    ensures { λ _. ⌜ now (area .exit) ≡ onto (bytesOf (mapped (netlist (now (source .entry))) s)) (now (area .entry)) ⌝ }
+    requires { ⌜ width * mappedSize (netlist (now source)) capacities ≤ length (now area) ⌝ }
+    ensures { λ _. ⌜ now (area .exit) ≡ onto (bytesOf (mapped (netlist (now (source .entry))) capacities)) (now (area .entry)) ⌝ }
 {
-    write_nets(source, s, n, end, first, next, row, area);
+    write_nets(source, capacities, n, end, first, next, row, area);
     records::write_source(source, next, area);
 }

@@ -22,10 +22,11 @@ use Rattle.facts.proofs.Bools.{or-false, or-r}
 use Rattle.facts.proofs.Sums.{any-none}
 use Rattle.facts.proofs.Reflect.{check-passed, then-passed, or-none, most-none, side-is}
 use Rattle.facts.proofs.Loops.{Seeking, seek-start, seek-more, seek-here, seek-end}
+use Rattle.netlist.specs.declared.Capacities.{Capacities}
 use Rattle.netlist.specs.declared.Record.{Record}
 use Rattle.netlist.specs.Kinds.{width, slots, unused, topLevel, sourceLimit, input, output, arities, arity, isGate, invertible}
 use Rattle.netlist.specs.Records.{Netlist, netlist, recordCount, recordBytes, recordAt, slot, isOutput, depth}
-use Rattle.netlist.specs.Checks.{badCapacity, ragged, tooMany, badLevel, sizeChecks, badKind, badInversion, badSlot, badSlots, notBelow, misplaced, structureOf, levelOf, recordChecks, sourceChecks, inputChecks}
+use Rattle.netlist.specs.Checks.{badCapacity, ragged, tooMany, badLevel, sizeChecks, badKind, badInversion, badSlot, badSlots, notBelow, misplaced, structureOf, levelOf, recordChecks, capacityChecks, sourceChecks, inputChecks}
 use Rattle.netlist.specs.View.{viewOf}
 use Rattle.netlist.proofs.Records.{record-past}
 
@@ -253,12 +254,20 @@ capacity-small s h = rw (lt-ltb s 2 h)
 pub capacity-large : (s : ℕ) → 2 ≤ s → ltb 4 s ≡ badCapacity s
 capacity-large s l = rw (le-ltb s 2 l)
 
-module _ (bytes : List ℕ) (s : ℕ) (b : Bool) (e : b ≡ badCapacity s) where
-  pub capacity-refused : b ≡ true → Refused 1 0 ≡ inputChecks s bytes
+module _ (caps : Capacities) (b : Bool) (e : b ≡ badCapacity (caps .buffer)) where
+  pub capacity-refused : b ≡ true → Refused 1 0 ≡ capacityChecks caps
   capacity-refused t = rw (← e, t)
 
-  pub capacity-good : (a : Checked) → b ≡ false → a ≡ sourceChecks bytes → a ≡ inputChecks s bytes
-  capacity-good a t f = f ∙ rw (← e, t)
+  pub capacity-passed : b ≡ false → Passed ≡ capacityChecks caps
+  capacity-passed t = rw (← e, t)
+
+-- the capacities, then the source
+module _ (bytes : List ℕ) (caps : Capacities) (a : Checked) (e : a ≡ capacityChecks caps) where
+  pub input-refused : (number place : ℕ) → a ≡ Refused number place → Refused number place ≡ inputChecks bytes caps
+  input-refused number place p = rw (← e, p)
+
+  pub input-source : (b : Checked) → a ≡ Passed → b ≡ sourceChecks bytes → b ≡ inputChecks bytes caps
+  input-source b p f = f ∙ rw (← e, p)
 
 module _ (source mapped : List ℕ) (k m : ℕ) (e : m ≡ recordCount mapped) where
   pub view-past : m ≤ k → [] ≡ viewOf source mapped k

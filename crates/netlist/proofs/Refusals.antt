@@ -13,6 +13,7 @@ use Rattle.facts.proofs.Bits.{bit-from}
 use Rattle.facts.proofs.Sums.{any-some}
 use Rattle.facts.proofs.Reflect.{iff-sum, iff-pair, iff-trans, iff-some, less, most, same, unlike, both, either, side}
 use Rattle.facts.proofs.Refusals.{InRow, UpTo, After, Within, rows-before, one-row, within-one, within-or, within-before, first-check, first-then, first-scan, scan-rows, exact}
+use Rattle.netlist.specs.declared.Capacities.{Capacities}
 use Rattle.netlist.specs.declared.Record.{Record}
 use Rattle.netlist.specs.Kinds.{width, slots, unused, sourceLimit, topLevel, arity, input, output, invertible}
 use Rattle.netlist.specs.Records.{Netlist, netlist, recordCount, slot, depth}
@@ -96,15 +97,15 @@ source-rows bytes n p =
     ⊎-elim (λ f. omega (arith, size-rows bytes n p f)) (λ f. omega (arith, records-rows bytes n p f))
 
 -- and those of 1 to 7 in the rows up to that of 7
-pub input-rows : (s : ℕ) (bytes : List ℕ) → UpTo (rowOf 7) (InputFails s bytes)
-input-rows s bytes n p =
-    ⊎-elim (λ f. omega (arith, one-row 1 0 (BadCapacity s) n p f)) (λ f. source-rows bytes n p f .1)
+pub input-rows : (bytes : List ℕ) (caps : Capacities) → UpTo (rowOf 7) (InputFails bytes caps)
+input-rows bytes caps n p =
+    ⊎-elim (λ f. omega (arith, one-row 1 0 (BadCapacity (caps .buffer)) n p f)) (λ f. source-rows bytes n p f .1)
 
 -- so no refusal has number 0
-pub input-numbered : (s : ℕ) (bytes : List ℕ) → After (rowOf 0) (InputFails s bytes)
-input-numbered s bytes n p =
+pub input-numbered : (bytes : List ℕ) (caps : Capacities) → After (rowOf 0) (InputFails bytes caps)
+input-numbered bytes caps n p =
     ⊎-elim
-    (λ f. omega (arith, one-row 1 0 (BadCapacity s) n p f))
+    (λ f. omega (arith, one-row 1 0 (BadCapacity (caps .buffer)) n p f))
     (λ f. omega (arith, source-rows bytes n p f .0))
 
 pub source-first : (bytes : List ℕ) → First (SourceFails bytes) (sourceChecks bytes)
@@ -118,15 +119,15 @@ source-first bytes =
     (first-scan (recordChecks (netlist bytes)) (RecordFails (netlist bytes)) (rowOf 7) 4 7 (record-within (netlist bytes)) (recordCount bytes)
     (λ k l. record-first (netlist bytes) k))
 
-pub input-first : (s : ℕ) (bytes : List ℕ) → First (InputFails s bytes) (inputChecks s bytes)
-input-first s bytes =
+pub input-first : (bytes : List ℕ) (caps : Capacities) → First (InputFails bytes caps) (inputChecks bytes caps)
+input-first bytes caps =
     first-then
-    (rows-before (rowOf 1) (λ n p f. omega (arith, one-row 1 0 (BadCapacity s) n p f)) (λ n p f. source-rows bytes n p f .0))
-    (first-check 1 0 (capacity-is s))
+    (rows-before (rowOf 1) (λ n p f. omega (arith, one-row 1 0 (BadCapacity (caps .buffer)) n p f)) (λ n p f. source-rows bytes n p f .0))
+    (first-check 1 0 (capacity-is (caps .buffer)))
     (source-first bytes)
 
 pub source-exact : SourceExact
 source-exact bytes = exact (source-first bytes)
 
 pub input-exact : InputExact
-input-exact s bytes = exact (input-first s bytes)
+input-exact bytes caps = exact (input-first bytes caps)

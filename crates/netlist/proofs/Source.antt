@@ -18,8 +18,10 @@ use Rattle.facts.proofs.Reflect.{reflect, check-passed, then-passed, or-none}
 use Rattle.netlist.specs.declared.Record.{Record}
 use Rattle.netlist.specs.Kinds.{slots, majority, output, buffer, arity, isDriver}
 use Rattle.netlist.specs.Records.{Netlist, netlist, recordCount, recordAt, isOutput, depth}
-use Rattle.netlist.specs.Checks.{badCapacity, sourceChecks, inputChecks}
+use Rattle.netlist.specs.declared.Capacities.{Capacities}
+use Rattle.netlist.specs.Checks.{badCapacity, capacityChecks, sourceChecks, inputChecks}
 use Rattle.netlist.specs.Source.{IsSource, Source, OutputsAt}
+use Rattle.netlist.specs.Capacities.{Allowed}
 use Rattle.netlist.specs.PrivateInput.{Input}
 use Rattle.netlist.proofs.Checks.{arity-slots}
 use Rattle.netlist.proofs.Records.{record-past}
@@ -59,16 +61,16 @@ source-passed bytes =
     below : (k : ℕ) {j : ℕ} → j < arity (recordAt bytes k .kind) → j < slots
     below k u = omega (arith, arity-slots (recordAt bytes k .kind))
 
--- what passing 1 to 7 means
-pub input-passed : (s : ℕ) (source : List ℕ) → inputChecks s source ≡ Passed → Input s source
-input-passed s source e =
-    let h = then-passed (check 1 0 (badCapacity s)) (sourceChecks source) .0 e in
-    let c = or-none (ltb s 2) (ltb 4 s) .0 (check-passed 1 0 (badCapacity s) .0 (h .0)) in
-    record {
-      low = ltb-false s 2 (c .0);
-      high = ltb-false 4 s (c .1);
-      isSource = source-passed source .0 (h .1);
-    }
+-- what passing 1, and 1 to 7, means
+pub capacities-passed : (caps : Capacities) → capacityChecks caps ≡ Passed → Allowed caps
+capacities-passed caps e =
+    let h = or-none (ltb (caps .buffer) 2) (ltb 4 (caps .buffer)) .0 (check-passed 1 0 (badCapacity (caps .buffer)) .0 e) in
+    record { low = ltb-false (caps .buffer) 2 (h .0); high = ltb-false 4 (caps .buffer) (h .1) }
+
+pub input-passed : (source : List ℕ) (caps : Capacities) → inputChecks source caps ≡ Passed → Input source caps
+input-passed source caps e =
+    let h = then-passed (capacityChecks caps) (sourceChecks source) .0 e in
+    record { isSource = source-passed source .0 (h .1); allowed = capacities-passed caps (h .0) }
 
 -- the kinds of a source's records
 module _ (n : Netlist) (source : IsSource n) (k : ℕ) (l : k < n .size) where

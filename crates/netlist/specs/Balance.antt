@@ -1,8 +1,8 @@
--- Specification 2.2, 2.3 (Lee, Riener, De Micheli, section 3): what it is for a netlist to be balanced and branched.
+-- Specification 2.3 (Lee, Riener, De Micheli, section 3): what it is for a netlist to be balanced and branched.
 use Prim.Native.Nat.{ℕ, suc, _≤_, _<_}
 use mathlib.Core.Path.{_≡_}
-use mathlib.Core.Bool.{true, cond}
-use lib.Dec.{eqb}
+use mathlib.Core.Bool.{true}
+use Rattle.netlist.specs.declared.Capacities.{Capacities}
 use Rattle.netlist.specs.Kinds.{input, output, buffer, arity, isDriver}
 use Rattle.netlist.specs.Records.{Netlist, fanin, feeds}
 
@@ -14,14 +14,6 @@ Named m = (k j : ℕ) → k < m .size → j < arity (m .at k .kind) → fanin m 
 abbrev pub Balanced : Netlist → Type 0
 Balanced m = (k j : ℕ) → k < m .size → j < arity (m .at k .kind) → m .at k .level ≡ suc (m .at (fanin m k j) .level)
 
--- slots that a driver may feed
-abbrev pub driverCapacity : ℕ
-driverCapacity = 1
-
--- the most slots that a record may feed: a buffer s, an input or a gate one
-abbrev pub capacityOf : ℕ → ℕ → ℕ
-capacityOf s kind = cond (eqb kind buffer) s driverCapacity
-
 -- every fanin stands exactly one level lower, inputs at 0, outputs on one level
 pub record PathBalanced (m : Netlist) : Type 0 where
   pub fanins : Balanced m
@@ -29,7 +21,7 @@ pub record PathBalanced (m : Netlist) : Type 0 where
   pub outputs : (k i : ℕ) → k < m .size → i < m .size → m .at k .kind ≡ output → m .at i .kind ≡ output →
       m .at k .level ≡ m .at i .level
 
--- an input or a gate feeds at most one slot, a buffer at most s
-pub record ProperlyBranched (s : ℕ) (m : Netlist) : Type 0 where
+-- an input or a gate feeds at most one slot, a buffer at most its capacity
+pub record ProperlyBranched (caps : Capacities) (m : Netlist) : Type 0 where
   pub drivers : (k : ℕ) → k < m .size → isDriver (m .at k .kind) ≡ true → feeds m k ≤ 1
-  pub buffers : (k : ℕ) → k < m .size → m .at k .kind ≡ buffer → feeds m k ≤ s
+  pub buffers : (k : ℕ) → k < m .size → m .at k .kind ≡ buffer → feeds m k ≤ caps .buffer

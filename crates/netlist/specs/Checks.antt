@@ -7,11 +7,12 @@ use lib.Dec.{ltb, leb, eqb}
 use Rattle.facts.specs.declared.Checked.{Checked}
 use Rattle.facts.specs.Checks.{check, _andThen_, scan}
 use Rattle.facts.specs.Sums.{any}
+use Rattle.netlist.specs.declared.Capacities.{Capacities}
 use Rattle.netlist.specs.declared.Record.{Record}
 use Rattle.netlist.specs.Kinds.{width, slots, unused, topLevel, sourceLimit, input, output, arity, invertible}
 use Rattle.netlist.specs.Records.{Netlist, netlist, recordCount, slot, depth}
 
--- 1: no capacity
+-- 1: no capacity of a buffer
 abbrev pub badCapacity : ℕ → Bool
 badCapacity s = ltb s 2 || ltb 4 s
 
@@ -56,6 +57,10 @@ misplaced deep r =
 abbrev pub badLevel : Netlist → Record → Bool
 badLevel m r = misplaced (depth m) r || any (notBelow m r) slots
 
+-- 1
+abbrev pub capacityChecks : Capacities → Checked
+capacityChecks caps = check 1 0 (badCapacity (caps .buffer))
+
 -- 2 and 3
 abbrev pub sizeChecks : List ℕ → Checked
 sizeChecks bytes = check 2 0 (ragged bytes) andThen check 3 0 (tooMany bytes)
@@ -76,6 +81,6 @@ recordChecks m k = structureOf m k (m .at k) andThen levelOf m k (m .at k)
 unfoldable pub sourceChecks : List ℕ → Checked
 sourceChecks bytes = sizeChecks bytes andThen scan (recordChecks (netlist bytes)) 0 (recordCount bytes)
 
--- 1 to 7: what every call with a capacity checks first
-abbrev pub inputChecks : ℕ → List ℕ → Checked
-inputChecks s bytes = check 1 0 (badCapacity s) andThen sourceChecks bytes
+-- 1 to 7: what every call with capacities checks first
+abbrev pub inputChecks : List ℕ → Capacities → Checked
+inputChecks bytes caps = capacityChecks caps andThen sourceChecks bytes

@@ -1,4 +1,5 @@
 pub mod Kinds
+pub mod Capacities
 pub mod Records
 pub mod Bytes
 pub mod PrivateBytes

@@ -5,12 +5,13 @@ use mathlib.Core.Logic.{_⊎_, _≢_}
 use mathlib.Core.List.{List}
 use lib.ListN.{length}
 use Rattle.facts.specs.Refusals.{Conditions, Fails, _or_, Each, Exact}
+use Rattle.netlist.specs.declared.Capacities.{Capacities}
 use Rattle.netlist.specs.declared.Record.{Record}
 use Rattle.netlist.specs.Kinds.{width, slots, unused, topLevel, sourceLimit, input, output, arity, invertible}
 use Rattle.netlist.specs.Records.{Netlist, netlist, recordCount, slot, depth}
 use Rattle.netlist.specs.Checks.{sourceChecks, inputChecks}
 
--- 1: the capacity is not 2, 3 or 4
+-- 1: a buffer's capacity is not 2, 3 or 4
 abbrev pub BadCapacity : ℕ → Type 0
 BadCapacity s = (s < 2) ⊎ (4 < s)
 
@@ -46,6 +47,10 @@ Misplaced deep r =
 abbrev pub BadLevel : Netlist → Record → Type 0
 BadLevel m r = Misplaced (depth m) r ⊎ ((j : ℕ) × (j < arity (r .kind)) × (r .level ≤ m .at (slot r j) .level))
 
+-- 1
+abbrev pub CapacityFails : Capacities → Conditions
+CapacityFails caps = Fails 1 0 (BadCapacity (caps .buffer))
+
 -- 2 and 3
 abbrev pub SizeFails : List ℕ → Conditions
 SizeFails bytes = Fails 2 0 (Ragged bytes) or Fails 3 0 (TooMany bytes)
@@ -64,13 +69,13 @@ abbrev pub SourceFails : List ℕ → Conditions
 SourceFails bytes = SizeFails bytes or Each (recordCount bytes) (RecordFails (netlist bytes))
 
 -- 1 to 7
-abbrev pub InputFails : ℕ → List ℕ → Conditions
-InputFails s bytes = Fails 1 0 (BadCapacity s) or SourceFails bytes
+abbrev pub InputFails : List ℕ → Capacities → Conditions
+InputFails bytes caps = CapacityFails caps or SourceFails bytes
 
 -- each of 2 to 7 is answered exactly where its condition is the first that holds, and a source is accepted exactly if none does
 abbrev pub SourceExact : Type 0
 SourceExact = (bytes : List ℕ) → Exact (SourceFails bytes) (sourceChecks bytes)
 
--- the same with the capacity's check before it
+-- the same with the capacities' check before it
 abbrev pub InputExact : Type 0
-InputExact = (s : ℕ) (bytes : List ℕ) → Exact (InputFails s bytes) (inputChecks s bytes)
+InputExact = (bytes : List ℕ) (caps : Capacities) → Exact (InputFails bytes caps) (inputChecks bytes caps)

@@ -5,7 +5,8 @@ ghost use Rattle.netlist.specs.Kinds;
 ghost use Rattle.netlist.specs.Records.{recordAt, recordCount, netlist};
 ghost use Rattle.netlist.specs.Records;
 ghost use Rattle.netlist.specs.Counts.{countKind, countOf};
-ghost use Rattle.netlist.specs.Checks.{sourceChecks, inputChecks};
+ghost use Rattle.netlist.specs.Capacities.{capacityOf};
+ghost use Rattle.netlist.specs.Checks.{capacityChecks, sourceChecks, inputChecks};
 ghost use Rattle.netlist.specs.View.{viewOf};
 use facts::Checked;
 
@@ -29,7 +30,7 @@ pub const LEAST_CAPACITY: u32 = 2;
 
 pub const MOST_CAPACITY: u32 = 4;
 
-// Slots that a driver may feed.
+// Slots that an input or a gate may feed.
 pub const DRIVER_CAPACITY: u32 = 1;
 
 pub const INPUT: u8 = 0;
@@ -52,6 +53,21 @@ pub struct Record {
     pub inversion: u8,
     pub level: u16,
     pub slots: [u16; SLOTS],
+}
+
+// What a netlist is made for (specification 2.2): the most slots that a buffer may feed.
+pub struct Capacities {
+    pub buffer: u32,
+}
+
+// The most slots that a record of a kind may feed.
+pub fn capacity_of(capacities: Capacities, kind: u8) -> u32
+    ensures { λ r. ⌜ r ≡ capacityOf capacities kind ⌝ }
+{
+    if kind == BUFFER {
+        return capacities.buffer;
+    }
+    DRIVER_CAPACITY
 }
 
 // How many slots a kind uses: slots 0 to arity - 1.
@@ -194,14 +210,25 @@ pub fn check_source(bytes: &[u8]) -> Checked
     }
 }
 
-// What every call with a capacity checks first: 1 to 7.
-pub fn check_input(capacity: u32, bytes: &[u8]) -> Checked
-    ensures { λ a. ⌜ a ≡ inputChecks capacity (now (bytes .entry)) ⌝ }
+// Check 1.
+pub fn check_capacities(capacities: Capacities) -> Checked
+    ensures { λ a. ⌜ a ≡ capacityChecks capacities ⌝ }
 {
-    if source_reader::bad_capacity(capacity) {
+    if source_reader::bad_capacity(capacities.buffer) {
         return Checked::Refused(1, 0);
     }
-    check_source(bytes)
+    Checked::Passed
+}
+
+// What every call with capacities checks first: 1 to 7.
+pub fn check_input(bytes: &[u8], capacities: Capacities) -> Checked
+    ensures { λ a. ⌜ a ≡ inputChecks (now (bytes .entry)) capacities ⌝ }
+{
+    let allowed = check_capacities(capacities);
+    match allowed {
+        Checked::Passed => check_source(bytes),
+        Checked::Refused(number, place) => Checked::Refused(number, place),
+    }
 }
 
 // The record view: record k comes from the source below N and from the mapped netlist above; empty from M on.

@@ -253,7 +253,7 @@ pub(crate) fn check_size(bytes: &[u8]) -> Checked
     Checked::Passed
 }
 
-// Check 1: no capacity.
+// Check 1: no capacity of a buffer.
 pub(crate) fn bad_capacity(capacity: u32) -> bool
     ensures { λ b. ⌜ b ≡ badCapacity capacity ⌝ }
 {

@@ -8,6 +8,7 @@ use lib.ListN.{length, getD}
 use Rattle.facts.specs.declared.Checked.{Checked}
 use Rattle.facts.specs.Checks.{outcome}
 use Rattle.facts.specs.Sums.{count, seek}
+use Rattle.netlist.specs.declared.Capacities.{Capacities}
 use Rattle.netlist.specs.Kinds.{slots, topLevel}
 use Rattle.netlist.specs.Records.{Netlist, used, fanin, names}
 use Rattle.netlist.specs.Source.{IsSource}
@@ -88,9 +89,9 @@ ChainIs n d (Short top atOne) = ShortChain n d top atOne
 ChainIs n d Long = Unit {0}
 
 -- d's net: the nodes left at distance 1, and its buffers
-pub record Measured (n : Netlist) (s d : ℕ) (t : TreeTotals) : Type 0 where
-  pub nodes : t .nodes ≡ nodesAt s (row n d) 1
-  pub buffers : t .buffers ≡ treeSize n s d
+pub record Measured (n : Netlist) (caps : Capacities) (d : ℕ) (t : TreeTotals) : Type 0 where
+  pub nodes : t .nodes ≡ nodesAt (caps .buffer) (row n d) 1
+  pub buffers : t .buffers ≡ treeSize n caps d
 
 -- the buffers of all trees, or check 8's refusal
 abbrev pub sizingOf : Checked → ℕ → Sizing

@@ -22,9 +22,9 @@ unfolding evaluateArea stepArea runArea runOutputs
 refused-keeps =
     record {
       values = λ source row area number place e. rw e;
-      stepState = λ source s mapped row area number place e. rw e;
-      runState = λ source s mapped r rows area outs number place e. rw e;
-      outputs = λ source s mapped r rows area outs number place e. rw e;
+      stepState = λ source caps mapped row area number place e. rw e;
+      runState = λ source caps mapped r rows area outs number place e. rw e;
+      outputs = λ source caps mapped r rows area outs number place e. rw e;
     }
 
 pub demand-1 : Demand1

@@ -10,6 +10,7 @@ use lib.ListN.{take}
 use Rattle.facts.specs.Sums.{count}
 use Rattle.facts.proofs.Bools.{true-false}
 use Rattle.facts.proofs.Sums.{count-append, count-cong, count-none}
+use Rattle.netlist.specs.declared.Capacities.{Capacities}
 use Rattle.netlist.specs.Kinds.{width, isGate}
 use Rattle.netlist.specs.Records.{Netlist, netlist, depth}
 use Rattle.netlist.specs.Counts.{bufferCount, gates}
@@ -23,9 +24,9 @@ use Rattle.promises.specs.Numbers.{RoundedDown, Figures}
 use Rattle.promises.proofs.Written.{maps-passed, answer-size, written-netlist, written-legal, buffers-one-number}
 
 -- a legal mapped netlist has the source's gates
-gates-kept : (n : Netlist) (s : ℕ) (m : Netlist) → Legal n s m → gates m ≡ gates n
+gates-kept : (n : Netlist) (caps : Capacities) (m : Netlist) → Legal n caps m → gates m ≡ gates n
 unfolding gates
-gates-kept n s m legal =
+gates-kept n caps m legal =
     subst (λ (size : ℕ). count (λ i. isGate (m .at i .kind)) size ≡ count (λ i. isGate (n .at i .kind)) (n .size)) (add-sub-of-le (legal .whole))
     (omega (
       arith,
@@ -53,39 +54,39 @@ rounded-one part whole a b f g =
     quotient : (x : ℕ) → RoundedDown part whole x → 0 < whole → 100 * part / whole ≡ x
     quotient x h p = omega (arith, le-div-iff-mul-le {x = x} {y = 100 * part} p .1 (h .reached p), div-lt-iff-lt-mul {x = 100 * part} {y = suc x} p .1 (h .next p))
 
-module _ (source : List ℕ) (s : ℕ) (area : List ℕ) (maps : Maps source s area) where
-  answer-depth : mapAnswer source s area .depth ≡ depth (netlist source)
+module _ (source : List ℕ) (caps : Capacities) (area : List ℕ) (maps : Maps source caps area) where
+  answer-depth : mapAnswer source caps area .depth ≡ depth (netlist source)
   unfolding mapAnswer
-  answer-depth = rw (maps-passed source s area maps)
+  answer-depth = rw (maps-passed source caps area maps)
 
-  answer-junctions : mapAnswer source s area .junctions ≡ 6 * gates (netlist source) + 2 * mapAnswer source s area .buffers
+  answer-junctions : mapAnswer source caps area .junctions ≡ 6 * gates (netlist source) + 2 * mapAnswer source caps area .buffers
   unfolding mapAnswer
-  answer-junctions = rw (maps-passed source s area maps)
+  answer-junctions = rw (maps-passed source caps area maps)
 
-  answer-share : mapAnswer source s area .share ≡ share (2 * mapAnswer source s area .buffers) (mapAnswer source s area .junctions)
+  answer-share : mapAnswer source caps area .share ≡ share (2 * mapAnswer source caps area .buffers) (mapAnswer source caps area .junctions)
   unfolding mapAnswer
-  answer-share = rw (maps-passed source s area maps)
+  answer-share = rw (maps-passed source caps area maps)
 
   pub figures-hold :
-      Figures source s (written source s area) (mapAnswer source s area .size) (mapAnswer source s area .buffers)
-      (mapAnswer source s area .depth) (mapAnswer source s area .junctions) (mapAnswer source s area .share)
+      Figures source caps (written source caps area) (mapAnswer source caps area .size) (mapAnswer source caps area .buffers)
+      (mapAnswer source caps area .depth) (mapAnswer source caps area .junctions) (mapAnswer source caps area .share)
   figures-hold =
       let n = netlist source in
-      let m = netlist (written source s area) in
-      let a = written-legal source s area maps in
-      let one = buffers-one-number source s area maps in
+      let m = netlist (written source caps area) in
+      let a = written-legal source caps area maps in
+      let one = buffers-one-number source caps area maps in
       record {
-        records = ap (λ (x : Netlist). x .size) (written-netlist source s area maps) ∙ sym (answer-size source s area maps);
+        records = ap (λ (x : Netlist). x .size) (written-netlist source caps area maps) ∙ sym (answer-size source caps area maps);
         added = one .added;
         kinds = sym (one .kinds);
         fewest = sym (one .counts);
-        outputs = rw answer-depth (outputs-kept n s m (a .isSource .isSource) (a .legal) (outputs-at source (a .isSource)));
-        prices = rw (one .kinds) (omega (arith, answer-junctions, gates-kept n s m (a .legal)));
+        outputs = rw answer-depth (outputs-kept n caps m (a .isSource .isSource) (a .legal) (outputs-at source (a .isSource)));
+        prices = rw (one .kinds) (omega (arith, answer-junctions, gates-kept n caps m (a .legal)));
         part = rw (one .kinds, answer-share) (share-rounded _ _);
       }
 
 -- two lists of figures for one netlist written
-module _ (source : List ℕ) (s : ℕ) (m : List ℕ) (M B D J P M′ B′ D′ J′ P′ : ℕ) (f : Figures source s m M B D J P) (g : Figures source s m M′ B′ D′ J′ P′) where
+module _ (source : List ℕ) (caps : Capacities) (m : List ℕ) (M B D J P M′ B′ D′ J′ P′ : ℕ) (f : Figures source caps m M B D J P) (g : Figures source caps m M′ B′ D′ J′ P′) where
   figures-one : 0 ∷ 0 ∷ M ∷ B ∷ D ∷ J ∷ P ∷ [] ≡ 0 ∷ 0 ∷ M′ ∷ B′ ∷ D′ ∷ J′ ∷ P′ ∷ []
   figures-one =
       let same : J ≡ J′ = f .prices ∙ sym (g .prices) in
@@ -98,10 +99,10 @@ module _ (source : List ℕ) (s : ℕ) (m : List ℕ) (M B D J P M′ B′ D′ 
       )
 
 -- and for the first M records of one area
-pub figures-same : (source : List ℕ) (s : ℕ) (area : List ℕ) (M B D J P M′ B′ D′ J′ P′ : ℕ) →
-    Figures source s (take (width * M) area) M B D J P → Figures source s (take (width * M′) area) M′ B′ D′ J′ P′ →
+pub figures-same : (source : List ℕ) (caps : Capacities) (area : List ℕ) (M B D J P M′ B′ D′ J′ P′ : ℕ) →
+    Figures source caps (take (width * M) area) M B D J P → Figures source caps (take (width * M′) area) M′ B′ D′ J′ P′ →
     0 ∷ 0 ∷ M ∷ B ∷ D ∷ J ∷ P ∷ [] ≡ 0 ∷ 0 ∷ M′ ∷ B′ ∷ D′ ∷ J′ ∷ P′ ∷ []
-figures-same source s area M B D J P M′ B′ D′ J′ P′ f g =
+figures-same source caps area M B D J P M′ B′ D′ J′ P′ f g =
     let same : M ≡ M′ = omega (arith, f .added, g .added, f .fewest, g .fewest) in
-    figures-one source s (take (width * M′) area) M B D J P M′ B′ D′ J′ P′
-    (subst (λ (x : ℕ). Figures source s (take (width * x) area) M B D J P) same f) g
+    figures-one source caps (take (width * M′) area) M B D J P M′ B′ D′ J′ P′
+    (subst (λ (x : ℕ). Figures source caps (take (width * x) area) M B D J P) same f) g

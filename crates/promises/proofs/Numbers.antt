@@ -9,6 +9,7 @@ use Rattle.facts.specs.declared.Checked.{Checked}
 use Rattle.facts.specs.declared.Checked.the-variants.{Passed, Refused}
 use Rattle.facts.specs.Checks.{checkedNumbers, outcome}
 use Rattle.facts.specs.Refusals.{Conditions, FirstAt, Exact, rowOf}
+use Rattle.netlist.specs.declared.Capacities.{Capacities}
 use Rattle.netlist.specs.Kinds.{width}
 use Rattle.netlist.specs.Records.{netlist}
 use Rattle.netlist.specs.Refusals.{SourceFails}
@@ -37,10 +38,10 @@ area-numbered Bad row number place = ⊎-elim (λ f. omega (arith, f .0)) (λ z.
 source-numbered : (source : List ℕ) → Numbered (SourceFails source)
 source-numbered source number place f = row-positive number (rowOf 1) (source-rows source number place f .0)
 
-verify-numbered : (source : List ℕ) (s : ℕ) (mapped : List ℕ) → Numbered (VerifyFails source s mapped)
-verify-numbered source s mapped number place =
+verify-numbered : (source : List ℕ) (caps : Capacities) (mapped : List ℕ) → Numbered (VerifyFails source caps mapped)
+verify-numbered source caps mapped number place =
     ⊎-elim
-    (λ f. row-positive number (rowOf 0) (input-numbered s source number place f))
+    (λ f. row-positive number (rowOf 0) (input-numbered source caps number place f))
     (⊎-elim
     (λ f. omega (arith, f .0))
     (⊎-elim
@@ -79,64 +80,64 @@ two-numbers F a e numbered =
       );
     }
 
-module _ (source : List ℕ) (s : ℕ) (mapped : List ℕ) where
+module _ (source : List ℕ) (caps : Capacities) (mapped : List ℕ) where
   abbrev verifyNumbers : Checked → List ℕ
   verifyNumbers a = verifiedNumbers (outcome a (verified.Buffers (bufferCount (netlist mapped))) verified.Refused)
 
-  verify-exact : Exact (VerifyFails source s mapped) (verifyChecks source s mapped)
-  verify-exact = exact (verify-first source s mapped)
+  verify-exact : Exact (VerifyFails source caps mapped) (verifyChecks source caps mapped)
+  verify-exact = exact (verify-first source caps mapped)
 
-  verify-numbers : VerifyNumbers source s mapped (verifiedNumbers (verifyAnswer source s mapped))
+  verify-numbers : VerifyNumbers source caps mapped (verifiedNumbers (verifyAnswer source caps mapped))
   unfolding verifiedNumbers first
   verify-numbers =
       record {
         refused =
-            tell (VerifyFails source s mapped) (verifyChecks source s mapped) verifyNumbers
-            (λ number place. number ∷ place ∷ 0 ∷ []) verify-exact (verify-numbered source s mapped)
+            tell (VerifyFails source caps mapped) (verifyChecks source caps mapped) verifyNumbers
+            (λ number place. number ∷ place ∷ 0 ∷ []) verify-exact (verify-numbered source caps mapped)
             (λ n p f. cc) (λ n p. refl) (λ n p m q f. (cc, cc));
         accepted = λ buffers. (
           λ f.
-              let passed = zero-passed (λ c. first (verifyNumbers c)) verify-exact (verify-numbered source s mapped) (λ n p. refl) (ap first f) in
-              (checks-passed source s mapped .0 passed, cc (sym f ∙ ap verifyNumbers passed)),
-          λ a. ap verifyNumbers (checks-passed source s mapped .1 (a .0)) ∙ cc (a .1),
+              let passed = zero-passed (λ c. first (verifyNumbers c)) verify-exact (verify-numbered source caps mapped) (λ n p. refl) (ap first f) in
+              (checks-passed source caps mapped .0 passed, cc (sym f ∙ ap verifyNumbers passed)),
+          λ a. ap verifyNumbers (checks-passed source caps mapped .1 (a .0)) ∙ cc (a .1),
         );
         clear = (
-          λ c. checks-passed source s mapped .0 (verify-exact .passed .1 c),
-          λ a. verify-exact .passed .0 (checks-passed source s mapped .1 a),
+          λ c. checks-passed source caps mapped .0 (verify-exact .passed .1 c),
+          λ a. verify-exact .passed .0 (checks-passed source caps mapped .1 a),
         );
       }
 
-module _ (source : List ℕ) (s : ℕ) (area : List ℕ) where
+module _ (source : List ℕ) (caps : Capacities) (area : List ℕ) where
   abbrev answered : Checked → List ℕ
-  answered a = mappingNumbers (answerOf a (netlist source) s)
+  answered a = mappingNumbers (answerOf a (netlist source) caps)
 
   -- an accepted answer's first two numbers are 0
-  numbers-of : mapChecks source s area ≡ Passed →
-      let a : Mapping = mapAnswer source s area in
+  numbers-of : mapChecks source caps area ≡ Passed →
+      let a : Mapping = mapAnswer source caps area in
       mappingNumbers a ≡ 0 ∷ 0 ∷ a .size ∷ a .buffers ∷ a .depth ∷ a .junctions ∷ a .share ∷ []
   unfolding mapAnswer mappingNumbers
   numbers-of passed = rw passed
 
-  map-numbers : MapNumbers source s area (mappingNumbers (mapAnswer source s area))
+  map-numbers : MapNumbers source caps area (mappingNumbers (mapAnswer source caps area))
   unfolding mapAnswer mappingNumbers first
   map-numbers =
       record {
         refused =
-            tell (MapFails source s area) (mapChecks source s area) answered
-            (λ number place. number ∷ place ∷ 0 ∷ 0 ∷ 0 ∷ 0 ∷ 0 ∷ []) (map-exact source s area) (map-numbered source s area)
+            tell (MapFails source caps area) (mapChecks source caps area) answered
+            (λ number place. number ∷ place ∷ 0 ∷ 0 ∷ 0 ∷ 0 ∷ 0 ∷ []) (map-exact source caps area) (map-numbered source caps area)
             (λ n p f. cc) (λ n p. refl) (λ n p m q f. (cc, cc));
         accepted = λ M B D J P. (
           λ f.
-              let maps : Maps source s area = ap first f in (
-                map-exact source s area .passed .0 (maps-passed source s area maps),
+              let maps : Maps source caps area = ap first f in (
+                map-exact source caps area .passed .0 (maps-passed source caps area maps),
                 subst
-                    (λ (l : List ℕ). Figures source s (take (width * getD l 2 0) (mapArea source s area)) (getD l 2 0) (getD l 3 0) (getD l 4 0) (getD l 5 0) (getD l 6 0))
-                    f (figures-hold source s area maps),
+                    (λ (l : List ℕ). Figures source caps (take (width * getD l 2 0) (mapArea source caps area)) (getD l 2 0) (getD l 3 0) (getD l 4 0) (getD l 5 0) (getD l 6 0))
+                    f (figures-hold source caps area maps),
               ),
           λ c.
-              let passed = map-exact source s area .passed .1 (c .0) in
-              let maps : Maps source s area = ap (λ (a : Checked). answerOf a (netlist source) s .number) passed in
-              numbers-of passed ∙ figures-same source s (mapArea source s area) _ _ _ _ _ M B D J P (figures-hold source s area maps) (c .1),
+              let passed = map-exact source caps area .passed .1 (c .0) in
+              let maps : Maps source caps area = ap (λ (a : Checked). answerOf a (netlist source) caps .number) passed in
+              numbers-of passed ∙ figures-same source caps (mapArea source caps area) _ _ _ _ _ M B D J P (figures-hold source caps area maps) (c .1),
         );
       }
 
@@ -148,10 +149,10 @@ numbers-exact =
       evaluate = λ source row area.
           two-numbers (EvaluateFails source row area) _ (evaluate-exact source row area)
           (λ number place. ⊎-elim (source-numbered source number place) (area-numbered _ row number place));
-      step = λ source s mapped row area.
-          two-numbers (StepFails source s mapped row area) _ (step-exact source s mapped row area)
-          (λ number place. ⊎-elim (verify-numbered source s mapped number place) (area-numbered _ row number place));
-      run = λ source s mapped r rows area outs.
-          two-numbers (RunFails source s mapped r rows area outs) _ (run-exact source s mapped r rows area outs)
-          (λ number place. ⊎-elim (verify-numbered source s mapped number place) (area-numbered _ rows number place));
+      step = λ source caps mapped row area.
+          two-numbers (StepFails source caps mapped row area) _ (step-exact source caps mapped row area)
+          (λ number place. ⊎-elim (verify-numbered source caps mapped number place) (area-numbered _ row number place));
+      run = λ source caps mapped r rows area outs.
+          two-numbers (RunFails source caps mapped r rows area outs) _ (run-exact source caps mapped r rows area outs)
+          (λ number place. ⊎-elim (verify-numbered source caps mapped number place) (area-numbered _ rows number place));
     }

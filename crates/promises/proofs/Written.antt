@@ -14,6 +14,7 @@ use Rattle.nets.specs.Checks.{noTree, treeCheck, treeChecks}
 use Rattle.facts.specs.Refusals.{rowOf}
 use Rattle.facts.proofs.Refusals.{Numbered, row-positive, zero-passed}
 use Rattle.facts.proofs.Reflect.{check-passed, then-passed, scan-passed}
+use Rattle.netlist.specs.declared.Capacities.{Capacities}
 use Rattle.netlist.specs.Kinds.{width, mappedLimit}
 use Rattle.netlist.specs.Records.{Netlist, netlist, recordCount}
 use Rattle.netlist.specs.Source.{Source}
@@ -38,120 +39,120 @@ use Rattle.promises.specs.Written.{Maps, written, WrittenLegal, WrittenB
 use Rattle.promises.proofs.Ready.{mapped-legal, mapped-fewest}
 
 -- what passing 1 to 9 gives
-pub record Mapped (source : List ℕ) (s : ℕ) : Type 0 where
+pub record Mapped (source : List ℕ) (caps : Capacities) : Type 0 where
   pub isSource : Source source
-  pub ready : Ready (netlist source) s
+  pub ready : Ready (netlist source) caps
 
-pub source-ready : (source : List ℕ) (s : ℕ) → sourceMaps source s ≡ Passed → Mapped source s
+pub source-ready : (source : List ℕ) (caps : Capacities) → sourceMaps source caps ≡ Passed → Mapped source caps
 unfolding sourceMaps
-source-ready source s e =
+source-ready source caps e =
     record {
-      isSource = input-passed s source (then-passed (inputChecks s source) _ .0 e .0) .isSource;
-      ready = maps-ready source s e;
+      isSource = input-passed source caps (then-passed (inputChecks source caps) _ .0 e .0) .isSource;
+      ready = maps-ready source caps e;
     }
 
 -- no refusal of the mapper has number 0
-pub map-numbered : (source : List ℕ) (s : ℕ) (area : List ℕ) → Numbered (MapFails source s area)
-map-numbered source s area number place =
+pub map-numbered : (source : List ℕ) (caps : Capacities) (area : List ℕ) → Numbered (MapFails source caps area)
+map-numbered source caps area number place =
     ⊎-elim
     (⊎-elim
-    (λ a. row-positive number (rowOf 0) (input-numbered s source number place a))
+    (λ a. row-positive number (rowOf 0) (input-numbered source caps number place a))
     (⊎-elim (λ a. omega (arith, a .2 .0)) (λ a. omega (arith, a .0))))
     (λ a. omega (arith, a .0))
 
 -- an accepted call passes all its checks
-pub maps-passed : (source : List ℕ) (s : ℕ) (area : List ℕ) → Maps source s area → mapChecks source s area ≡ Passed
+pub maps-passed : (source : List ℕ) (caps : Capacities) (area : List ℕ) → Maps source caps area → mapChecks source caps area ≡ Passed
 unfolding mapAnswer
-maps-passed source s area =
-    zero-passed (λ a. answerOf a (netlist source) s .number) (map-exact source s area) (map-numbered source s area) (λ n p. refl)
+maps-passed source caps area =
+    zero-passed (λ a. answerOf a (netlist source) caps .number) (map-exact source caps area) (map-numbered source caps area) (λ n p. refl)
 
-module _ (source : List ℕ) (s : ℕ) (area : List ℕ) (maps : Maps source s area) where
-  pub mapped-from : Mapped source s
+module _ (source : List ℕ) (caps : Capacities) (area : List ℕ) (maps : Maps source caps area) where
+  pub mapped-from : Mapped source caps
   unfolding mapChecks
-  mapped-from = source-ready source s (then-passed (sourceMaps source s) _ .0 (maps-passed source s area maps) .0)
+  mapped-from = source-ready source caps (then-passed (sourceMaps source caps) _ .0 (maps-passed source caps area maps) .0)
 
-  pub answer-size : mapAnswer source s area .size ≡ mappedSize (netlist source) s
+  pub answer-size : mapAnswer source caps area .size ≡ mappedSize (netlist source) caps
   unfolding mapAnswer
-  answer-size = rw (maps-passed source s area maps) (omega arith)
+  answer-size = rw (maps-passed source caps area maps) (omega arith)
 
-  answer-buffers : mapAnswer source s area .buffers ≡ mappedSize (netlist source) s - recordCount source
+  answer-buffers : mapAnswer source caps area .buffers ≡ mappedSize (netlist source) caps - recordCount source
   unfolding mapAnswer
-  answer-buffers = rw (maps-passed source s area maps) (omega arith)
+  answer-buffers = rw (maps-passed source caps area maps) (omega arith)
 
-  written-bytes : written source s area ≡ bytesOf (mapped (netlist source) s)
+  written-bytes : written source caps area ≡ bytesOf (mapped (netlist source) caps)
   unfolding mapArea
   written-bytes =
-      rw (answer-size, maps-passed source s area maps)
-      (take-at (bytesOf (mapped (netlist source) s)) (drop (length (bytesOf (mapped (netlist source) s))) area) (width * mappedSize (netlist source) s) (length-recs (mapped (netlist source) s) 0 (mappedSize (netlist source) s)))
+      rw (answer-size, maps-passed source caps area maps)
+      (take-at (bytesOf (mapped (netlist source) caps)) (drop (length (bytesOf (mapped (netlist source) caps))) area) (width * mappedSize (netlist source) caps) (length-recs (mapped (netlist source) caps) 0 (mappedSize (netlist source) caps)))
 
-  pub written-netlist : netlist (written source s area) ≡ mapped (netlist source) s
-  written-netlist = ap netlist written-bytes ∙ mapped-read (netlist source) s (mapped-from .ready)
+  pub written-netlist : netlist (written source caps area) ≡ mapped (netlist source) caps
+  written-netlist = ap netlist written-bytes ∙ mapped-read (netlist source) caps (mapped-from .ready)
 
 pub beyond-kept : BeyondKept
 unfolding mapArea
-beyond-kept source s area maps =
-    let bytes : List ℕ = bytesOf (mapped (netlist source) s) in
-    let long : length bytes ≡ width * mappedSize (netlist source) s = length-recs (mapped (netlist source) s) 0 (mappedSize (netlist source) s) in
-    rw (answer-size source s area maps, maps-passed source s area maps)
-    (drop-at bytes (drop (length bytes) area) (width * mappedSize (netlist source) s) long ∙ ap (λ (k : ℕ). drop k area) long)
+beyond-kept source caps area maps =
+    let bytes : List ℕ = bytesOf (mapped (netlist source) caps) in
+    let long : length bytes ≡ width * mappedSize (netlist source) caps = length-recs (mapped (netlist source) caps) 0 (mappedSize (netlist source) caps) in
+    rw (answer-size source caps area maps, maps-passed source caps area maps)
+    (drop-at bytes (drop (length bytes) area) (width * mappedSize (netlist source) caps) long ∙ ap (λ (k : ℕ). drop k area) long)
 
 pub written-legal : WrittenLegal
-written-legal source s area maps =
-    let m = mapped-from source s area maps in
+written-legal source caps area maps =
+    let m = mapped-from source caps area maps in
     record {
-      capacity = (m .ready .low, m .ready .high);
+      allowed = m .ready .allowed;
       isSource = m .isSource;
-      whole = rw (ap length (written-bytes source s area maps) ∙ length-recs (mapped (netlist source) s) 0 (mappedSize (netlist source) s)) (omega arith);
-      fits = rw (ap (λ (x : Netlist). x .size) (written-netlist source s area maps)) (m .ready .fits);
-      legal = rw (written-netlist source s area maps) (mapped-legal (netlist source) s (m .ready));
+      whole = rw (ap length (written-bytes source caps area maps) ∙ length-recs (mapped (netlist source) caps) 0 (mappedSize (netlist source) caps)) (omega arith);
+      fits = rw (ap (λ (x : Netlist). x .size) (written-netlist source caps area maps)) (m .ready .fits);
+      legal = rw (written-netlist source caps area maps) (mapped-legal (netlist source) caps (m .ready));
     }
 
-module _ (source : List ℕ) (s : ℕ) (area : List ℕ) (maps : Maps source s area) where
-  buffers-written : mapAnswer source s area .buffers ≡ bufferCount (netlist (written source s area))
+module _ (source : List ℕ) (caps : Capacities) (area : List ℕ) (maps : Maps source caps area) where
+  buffers-written : mapAnswer source caps area .buffers ≡ bufferCount (netlist (written source caps area))
   buffers-written =
-      let legal = written-legal source s area maps in
-      answer-buffers source s area maps
-      ∙ sym (buffers-all (netlist source) s (netlist (written source s area)) (legal .isSource .isSource) (legal .legal)
-      ∙ ap (λ (x : Netlist). x .size - recordCount source) (written-netlist source s area maps))
+      let legal = written-legal source caps area maps in
+      answer-buffers source caps area maps
+      ∙ sym (buffers-all (netlist source) caps (netlist (written source caps area)) (legal .isSource .isSource) (legal .legal)
+      ∙ ap (λ (x : Netlist). x .size - recordCount source) (written-netlist source caps area maps))
 
 pub written-accepted : WrittenAccepted
-written-accepted source s area maps =
-    accepted-exactly source s (written source s area) (mapAnswer source s area .buffers) .1
-    (written-legal source s area maps, buffers-written source s area maps)
+written-accepted source caps area maps =
+    accepted-exactly source caps (written source caps area) (mapAnswer source caps area .buffers) .1
+    (written-legal source caps area maps, buffers-written source caps area maps)
 
 pub written-balanced : WrittenBalanced
-written-balanced source s area maps =
-    accepted-balanced source s (written source s area) (mapAnswer source s area .buffers) (written-accepted source s area maps)
+written-balanced source caps area maps =
+    accepted-balanced source caps (written source caps area) (mapAnswer source caps area .buffers) (written-accepted source caps area maps)
 
 pub written-least : WrittenLeast
-written-least source s area other buffers maps e =
-    let ours = written-legal source s area maps in
-    let theirs = accepted-exactly source s other buffers .0 e in
+written-least source caps area other buffers maps e =
+    let ours = written-legal source caps area maps in
+    let theirs = accepted-exactly source caps other buffers .0 e in
     let least =
-    least-everywhere (netlist source) s (netlist (written source s area)) (netlist other) (omega (arith, ours .capacity)) (ours .isSource .isSource) (ours .legal) (theirs .0 .legal)
-    (omega (arith, ap bufferCount (written-netlist source s area maps), mapped-fewest (netlist source) s (mapped-from source s area maps .ready))) in
-    (omega (arith, buffers-written source s area maps, theirs .1, least .inAll), least)
+    least-everywhere (netlist source) caps (netlist (written source caps area)) (netlist other) (omega (arith, ours .allowed .low)) (ours .isSource .isSource) (ours .legal) (theirs .0 .legal)
+    (omega (arith, ap bufferCount (written-netlist source caps area maps), mapped-fewest (netlist source) caps (mapped-from source caps area maps .ready))) in
+    (omega (arith, buffers-written source caps area maps, theirs .1, least .inAll), least)
 
 pub buffers-one-number : BuffersOneNumber
-buffers-one-number source s area maps =
-    let m = mapped-from source s area maps in
+buffers-one-number source caps area maps =
+    let m = mapped-from source caps area maps in
     record {
-      added = omega (arith, answer-size source s area maps, answer-buffers source s area maps);
-      kinds = sym (buffers-written source s area maps);
-      counts = sym (buffers-written source s area maps ∙ ap bufferCount (written-netlist source s area maps) ∙ mapped-fewest (netlist source) s (m .ready));
+      added = omega (arith, answer-size source caps area maps, answer-buffers source caps area maps);
+      kinds = sym (buffers-written source caps area maps);
+      counts = sym (buffers-written source caps area maps ∙ ap bufferCount (written-netlist source caps area maps) ∙ mapped-fewest (netlist source) caps (m .ready));
     }
 
 pub maps-where-accepted : MapsWhereAccepted
 unfolding sourceMaps verifyChecks
-maps-where-accepted source s other buffers e =
-    let a = accepted-exactly source s other buffers .0 e .0 in
-    let few = none-accepted-fewer source s other buffers e in
-    let p : 0 < s = omega (arith, a .capacity) in
+maps-where-accepted source caps other buffers e =
+    let a = accepted-exactly source caps other buffers .0 e .0 in
+    let few = none-accepted-fewer source caps other buffers e in
+    let p : 0 < caps .buffer = omega (arith, a .allowed .low) in
     let n = netlist source in
-    then-passed (inputChecks s source) _ .1 (
-      then-passed (inputChecks s source) _ .0 (checks-passed source s other .1 a) .0,
-      then-passed (treeChecks n s) _ .1 (
-        scan-passed (treeCheck n s) (n .size) .1 (λ d l. check-passed 8 d (noTree n s d) .1 (ap not (few .trees d l))),
-        check-passed 9 0 (tooLarge n s) .1 (le-ltb mappedLimit (mappedSize n s) (omega (arith, few .fits))),
+    then-passed (inputChecks source caps) _ .1 (
+      then-passed (inputChecks source caps) _ .0 (checks-passed source caps other .1 a) .0,
+      then-passed (treeChecks n caps) _ .1 (
+        scan-passed (treeCheck n caps) (n .size) .1 (λ d l. check-passed 8 d (noTree n caps d) .1 (ap not (few .trees d l))),
+        check-passed 9 0 (tooLarge n caps) .1 (le-ltb mappedLimit (mappedSize n caps) (omega (arith, few .fits))),
       ),
     )

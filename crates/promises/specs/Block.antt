@@ -4,6 +4,7 @@ use mathlib.Core.Path.{_≡_}
 use mathlib.Core.Logic.{_↔_}
 use mathlib.Core.Bool.{true}
 use mathlib.Core.List.{List, []}
+use Rattle.netlist.specs.declared.Capacities.{Capacities}
 use Rattle.netlist.specs.Kinds.{isDriver}
 use Rattle.netlist.specs.Records.{netlist, recordCount, recordAt}
 use Rattle.netlist.specs.Bytes.{recs}
@@ -16,18 +17,18 @@ use Rattle.promises.specs.Written.{Maps, written}
 
 -- the block of d holds the records from `from` on, `many` of them; and a record of the netlist is a buffer on d's net, its slot
 -- traced back through buffers, exactly if it is one of these
-pub record BlockOf (source : List ℕ) (s : ℕ) (area : List ℕ) (d from many : ℕ) : Type 0 where
-  pub holds : blockView source s (mapArea source s area) d ≡ recs (netlist (written source s area)) from many
-  pub exactly : (x : ℕ) → x < netlist (written source s area) .size →
-      (onNet (netlist (written source s area)) d x ≡ true) ↔ ((from ≤ x) × (x < from + many))
+pub record BlockOf (source : List ℕ) (caps : Capacities) (area : List ℕ) (d from many : ℕ) : Type 0 where
+  pub holds : blockView source caps (mapArea source caps area) d ≡ recs (netlist (written source caps area)) from many
+  pub exactly : (x : ℕ) → x < netlist (written source caps area) .size →
+      (onNet (netlist (written source caps area)) d x ≡ true) ↔ ((from ≤ x) × (x < from + many))
 
 abbrev pub BlockExact : Type 0
 BlockExact =
-    (source : List ℕ) (s : ℕ) (area : List ℕ) (d : ℕ) → Maps source s area → isDriver (recordAt source d .kind) ≡ true →
-    BlockOf source s area d (blockStart (netlist source) s d) (treeSize (netlist source) s d)
+    (source : List ℕ) (caps : Capacities) (area : List ℕ) (d : ℕ) → Maps source caps area → isDriver (recordAt source d .kind) ≡ true →
+    BlockOf source caps area d (blockStart (netlist source) caps d) (treeSize (netlist source) caps d)
 
 -- where the area ends before the block does, the part is empty
 abbrev pub BlockShort : Type 0
 BlockShort =
-    (source : List ℕ) (s : ℕ) (mapped : List ℕ) (d : ℕ) → recordCount mapped < blockEnds source s d .to →
-    blockView source s mapped d ≡ []
+    (source : List ℕ) (caps : Capacities) (mapped : List ℕ) (d : ℕ) → recordCount mapped < blockEnds source caps d .to →
+    blockView source caps mapped d ≡ []

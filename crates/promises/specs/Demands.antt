@@ -3,6 +3,7 @@ use Prim.Native.Nat.{ℕ}
 use mathlib.Core.Path.{_≡_}
 use mathlib.Core.List.{List}
 use Rattle.facts.specs.declared.Checked.the-variants.{Refused}
+use Rattle.netlist.specs.declared.Capacities.{Capacities}
 use Rattle.netlist.specs.Refusals.{SourceExact, InputExact}
 use Rattle.verifier.specs.Accepted.{AcceptedExactly}
 use Rattle.verifier.specs.Balance.{AcceptedBalanced}
@@ -23,12 +24,12 @@ use Rattle.verifier.specs.Refusals as verifier
 pub record RefusedKeeps : Type 0 where
   pub values : (source row area : List ℕ) (number place : ℕ) →
       evaluateAnswer source row area ≡ Refused number place → evaluateArea source row area ≡ area
-  pub stepState : (source : List ℕ) (s : ℕ) (mapped row area : List ℕ) (number place : ℕ) →
-      stepAnswer source s mapped row area ≡ Refused number place → stepArea source s mapped row area ≡ area
-  pub runState : (source : List ℕ) (s : ℕ) (mapped : List ℕ) (r : ℕ) (rows area outs : List ℕ) (number place : ℕ) →
-      runAnswer source s mapped r rows area outs ≡ Refused number place → runArea source s mapped r rows area outs ≡ area
-  pub outputs : (source : List ℕ) (s : ℕ) (mapped : List ℕ) (r : ℕ) (rows area outs : List ℕ) (number place : ℕ) →
-      runAnswer source s mapped r rows area outs ≡ Refused number place → runOutputs source s mapped r rows area outs ≡ outs
+  pub stepState : (source : List ℕ) (caps : Capacities) (mapped row area : List ℕ) (number place : ℕ) →
+      stepAnswer source caps mapped row area ≡ Refused number place → stepArea source caps mapped row area ≡ area
+  pub runState : (source : List ℕ) (caps : Capacities) (mapped : List ℕ) (r : ℕ) (rows area outs : List ℕ) (number place : ℕ) →
+      runAnswer source caps mapped r rows area outs ≡ Refused number place → runArea source caps mapped r rows area outs ≡ area
+  pub outputs : (source : List ℕ) (caps : Capacities) (mapped : List ℕ) (r : ℕ) (rows area outs : List ℕ) (number place : ℕ) →
+      runAnswer source caps mapped r rows area outs ≡ Refused number place → runOutputs source caps mapped r rows area outs ≡ outs
 
 -- demand 1: each call answers a number exactly where its condition is the first that holds, accepts exactly if none does, with the
 -- numbers that specification 4 says, and a refused call leaves every lent area

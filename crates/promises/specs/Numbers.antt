@@ -7,6 +7,7 @@ use mathlib.Core.List.{List, [], _∷_}
 use lib.ListN.{take}
 use Rattle.facts.specs.Checks.{checkedNumbers}
 use Rattle.facts.specs.Refusals.{Conditions, Clear, FirstAt}
+use Rattle.netlist.specs.declared.Capacities.{Capacities}
 use Rattle.netlist.specs.Kinds.{width}
 use Rattle.netlist.specs.Records.{netlist, recordCount}
 use Rattle.netlist.specs.Source.{OutputsAt}
@@ -38,13 +39,13 @@ pub record RoundedDown (part whole percent : ℕ) : Type 0 where
   pub next : 0 < whole → 100 * part < suc percent * whole
 
 -- the last five of an accepted mapping's numbers, as facts of the source and of the netlist written
-pub record Figures (source : List ℕ) (s : ℕ) (written : List ℕ) (M buffers D JJs share : ℕ) : Type 0 where
+pub record Figures (source : List ℕ) (caps : Capacities) (written : List ℕ) (M buffers D JJs share : ℕ) : Type 0 where
   -- M is the records written: the source's and the buffers
   pub records : recordCount written ≡ M
   pub added : M ≡ recordCount source + buffers
   -- buffers are the records of kind 5 written, as many as the fewest of all nets
   pub kinds : buffers ≡ bufferCount (netlist written)
-  pub fewest : buffers ≡ fewestInAll (netlist source) s
+  pub fewest : buffers ≡ fewestInAll (netlist source) caps
   -- D is the level of the outputs written, or 0
   pub outputs : OutputsAt (netlist written) D
   -- JJs are 6 a gate and 2 a buffer written, the share is the buffers' part of them
@@ -52,29 +53,29 @@ pub record Figures (source : List ℕ) (s : ℕ) (written : List ℕ) (M buffers
   pub part : RoundedDown (2 * bufferCount (netlist written)) JJs share
 
 -- the mapper's seven numbers
-pub record MapNumbers (source : List ℕ) (s : ℕ) (area : List ℕ) (numbers : List ℕ) : Type 0 where
-  pub refused : AnsweredExactly (MapFails source s area) numbers (λ number place. number ∷ place ∷ 0 ∷ 0 ∷ 0 ∷ 0 ∷ 0 ∷ [])
+pub record MapNumbers (source : List ℕ) (caps : Capacities) (area : List ℕ) (numbers : List ℕ) : Type 0 where
+  pub refused : AnsweredExactly (MapFails source caps area) numbers (λ number place. number ∷ place ∷ 0 ∷ 0 ∷ 0 ∷ 0 ∷ 0 ∷ [])
   -- written are the first M records of the area
   pub accepted : (M buffers D JJs share : ℕ) →
       (numbers ≡ 0 ∷ 0 ∷ M ∷ buffers ∷ D ∷ JJs ∷ share ∷ [])
-      ↔ (Clear (MapFails source s area) × Figures source s (take (width * M) (mapArea source s area)) M buffers D JJs share)
+      ↔ (Clear (MapFails source caps area) × Figures source caps (take (width * M) (mapArea source caps area)) M buffers D JJs share)
 
 -- the verifier's three numbers
-pub record VerifyNumbers (source : List ℕ) (s : ℕ) (mapped : List ℕ) (numbers : List ℕ) : Type 0 where
-  pub refused : AnsweredExactly (VerifyFails source s mapped) numbers (λ number place. number ∷ place ∷ 0 ∷ [])
+pub record VerifyNumbers (source : List ℕ) (caps : Capacities) (mapped : List ℕ) (numbers : List ℕ) : Type 0 where
+  pub refused : AnsweredExactly (VerifyFails source caps mapped) numbers (λ number place. number ∷ place ∷ 0 ∷ [])
   pub accepted : (buffers : ℕ) →
-      (numbers ≡ 0 ∷ 0 ∷ buffers ∷ []) ↔ (Accepted source s mapped × (buffers ≡ bufferCount (netlist mapped)))
+      (numbers ≡ 0 ∷ 0 ∷ buffers ∷ []) ↔ (Accepted source caps mapped × (buffers ≡ bufferCount (netlist mapped)))
   -- no condition holds exactly if the mapped netlist is legal
-  pub clear : Clear (VerifyFails source s mapped) ↔ Accepted source s mapped
+  pub clear : Clear (VerifyFails source caps mapped) ↔ Accepted source caps mapped
 
 -- of each call; the count's numbers are in `NumbersExactly` of fanout
 pub record NumbersExact : Type 0 where
-  pub map : (source : List ℕ) (s : ℕ) (area : List ℕ) → MapNumbers source s area (mappingNumbers (mapAnswer source s area))
-  pub verify : (source : List ℕ) (s : ℕ) (mapped : List ℕ) →
-      VerifyNumbers source s mapped (verifiedNumbers (verifyAnswer source s mapped))
+  pub map : (source : List ℕ) (caps : Capacities) (area : List ℕ) → MapNumbers source caps area (mappingNumbers (mapAnswer source caps area))
+  pub verify : (source : List ℕ) (caps : Capacities) (mapped : List ℕ) →
+      VerifyNumbers source caps mapped (verifiedNumbers (verifyAnswer source caps mapped))
   pub evaluate : (source row area : List ℕ) →
       TwoNumbers (EvaluateFails source row area) (checkedNumbers (evaluateAnswer source row area))
-  pub step : (source : List ℕ) (s : ℕ) (mapped row area : List ℕ) →
-      TwoNumbers (StepFails source s mapped row area) (checkedNumbers (stepAnswer source s mapped row area))
-  pub run : (source : List ℕ) (s : ℕ) (mapped : List ℕ) (r : ℕ) (rows area outs : List ℕ) →
-      TwoNumbers (RunFails source s mapped r rows area outs) (checkedNumbers (runAnswer source s mapped r rows area outs))
+  pub step : (source : List ℕ) (caps : Capacities) (mapped row area : List ℕ) →
+      TwoNumbers (StepFails source caps mapped row area) (checkedNumbers (stepAnswer source caps mapped row area))
+  pub run : (source : List ℕ) (caps : Capacities) (mapped : List ℕ) (r : ℕ) (rows area outs : List ℕ) →
+      TwoNumbers (RunFails source caps mapped r rows area outs) (checkedNumbers (runAnswer source caps mapped r rows area outs))

@@ -4,6 +4,7 @@ use mathlib.Core.Path.{_≡_}
 use mathlib.Core.List.{List}
 use lib.ListN.{take, drop}
 use Rattle.facts.specs.declared.Checked.the-variants.{Passed}
+use Rattle.netlist.specs.declared.Capacities.{Capacities}
 use Rattle.netlist.specs.Kinds.{width}
 use Rattle.netlist.specs.Records.{netlist, recordCount}
 use Rattle.netlist.specs.Balance.{PathBalanced, ProperlyBranched}
@@ -15,55 +16,55 @@ use Rattle.verifier.specs.Checks.{verifyAnswer}
 use Rattle.verifier.specs.Accepted.{Accepted}
 use Rattle.verifier.specs.Fewest.{NoMore}
 
--- the mapper accepts source, capacity and area
-abbrev pub Maps : List ℕ → ℕ → List ℕ → Type 0
-Maps source s area = mapAnswer source s area .number ≡ 0
+-- the mapper accepts source, capacities and area
+abbrev pub Maps : List ℕ → Capacities → List ℕ → Type 0
+Maps source caps area = mapAnswer source caps area .number ≡ 0
 
 -- what it writes: the first M records of the area
-abbrev pub written : List ℕ → ℕ → List ℕ → List ℕ
-written source s area = take (width * mapAnswer source s area .size) (mapArea source s area)
+abbrev pub written : List ℕ → Capacities → List ℕ → List ℕ
+written source caps area = take (width * mapAnswer source caps area .size) (mapArea source caps area)
 
 -- demand 2: what the mapper writes is legal and keeps every gate, level and fanin
 abbrev pub WrittenLegal : Type 0
-WrittenLegal = (source : List ℕ) (s : ℕ) (area : List ℕ) → Maps source s area → Accepted source s (written source s area)
+WrittenLegal = (source : List ℕ) (caps : Capacities) (area : List ℕ) → Maps source caps area → Accepted source caps (written source caps area)
 
 -- demand 2, in the words of Lee, Riener and De Micheli: path-balanced and properly branched
 abbrev pub WrittenBalanced : Type 0
 WrittenBalanced =
-    (source : List ℕ) (s : ℕ) (area : List ℕ) → Maps source s area →
-    PathBalanced (netlist (written source s area)) × ProperlyBranched s (netlist (written source s area))
+    (source : List ℕ) (caps : Capacities) (area : List ℕ) → Maps source caps area →
+    PathBalanced (netlist (written source caps area)) × ProperlyBranched caps (netlist (written source caps area))
 
 -- demand 2: the verifier accepts it, with the mapper's number of buffers
 abbrev pub WrittenAccepted : Type 0
 WrittenAccepted =
-    (source : List ℕ) (s : ℕ) (area : List ℕ) → Maps source s area →
-    verifyAnswer source s (written source s area) ≡ Buffers (mapAnswer source s area .buffers)
+    (source : List ℕ) (caps : Capacities) (area : List ℕ) → Maps source caps area →
+    verifyAnswer source caps (written source caps area) ≡ Buffers (mapAnswer source caps area .buffers)
 
 -- accepted, bytes beyond 10 × M stay as they were
 abbrev pub BeyondKept : Type 0
 BeyondKept =
-    (source : List ℕ) (s : ℕ) (area : List ℕ) → Maps source s area →
-    drop (width * mapAnswer source s area .size) (mapArea source s area) ≡ drop (width * mapAnswer source s area .size) area
+    (source : List ℕ) (caps : Capacities) (area : List ℕ) → Maps source caps area →
+    drop (width * mapAnswer source caps area .size) (mapArea source caps area) ≡ drop (width * mapAnswer source caps area .size) area
 
 -- demand 3: no netlist that the verifier accepts has fewer buffers, in all, on a net, or at a level of a net
 abbrev pub WrittenLeast : Type 0
 WrittenLeast =
-    (source : List ℕ) (s : ℕ) (area other : List ℕ) (buffers : ℕ) → Maps source s area →
-    verifyAnswer source s other ≡ Buffers buffers →
-    (mapAnswer source s area .buffers ≤ buffers)
-    × NoMore (netlist source) (netlist (written source s area)) (netlist other)
+    (source : List ℕ) (caps : Capacities) (area other : List ℕ) (buffers : ℕ) → Maps source caps area →
+    verifyAnswer source caps other ≡ Buffers buffers →
+    (mapAnswer source caps area .buffers ≤ buffers)
+    × NoMore (netlist source) (netlist (written source caps area)) (netlist other)
 
 -- M less N, the answered buffers, the records of kind 5 written and the sum of the counts of all nets are one number
-pub record OneNumber (source : List ℕ) (s : ℕ) (area : List ℕ) : Type 0 where
-  pub added : mapAnswer source s area .size ≡ recordCount source + mapAnswer source s area .buffers
-  pub kinds : bufferCount (netlist (written source s area)) ≡ mapAnswer source s area .buffers
-  pub counts : fewestInAll (netlist source) s ≡ mapAnswer source s area .buffers
+pub record OneNumber (source : List ℕ) (caps : Capacities) (area : List ℕ) : Type 0 where
+  pub added : mapAnswer source caps area .size ≡ recordCount source + mapAnswer source caps area .buffers
+  pub kinds : bufferCount (netlist (written source caps area)) ≡ mapAnswer source caps area .buffers
+  pub counts : fewestInAll (netlist source) caps ≡ mapAnswer source caps area .buffers
 
 abbrev pub BuffersOneNumber : Type 0
-BuffersOneNumber = (source : List ℕ) (s : ℕ) (area : List ℕ) → Maps source s area → OneNumber source s area
+BuffersOneNumber = (source : List ℕ) (caps : Capacities) (area : List ℕ) → Maps source caps area → OneNumber source caps area
 
 -- where the verifier accepts any mapped netlist, the mapper refuses by nothing but 10
 abbrev pub MapsWhereAccepted : Type 0
 MapsWhereAccepted =
-    (source : List ℕ) (s : ℕ) (other : List ℕ) (buffers : ℕ) →
-    verifyAnswer source s other ≡ Buffers buffers → sourceMaps source s ≡ Passed
+    (source : List ℕ) (caps : Capacities) (other : List ℕ) (buffers : ℕ) →
+    verifyAnswer source caps other ≡ Buffers buffers → sourceMaps source caps ≡ Passed

@@ -8,6 +8,7 @@ use native.Mathlib.Omega.{arith}
 use lib.ListN.{length}
 use Rattle.facts.specs.declared.Checked.the-variants.{Passed}
 use Rattle.facts.proofs.Reflect.{reflect}
+use Rattle.netlist.specs.declared.Capacities.{Capacities}
 use Rattle.netlist.specs.Records.{netlist, recordCount}
 use Rattle.netlist.specs.Source.{Source}
 use Rattle.netlist.specs.Counts.{inputs}
@@ -18,9 +19,9 @@ use Rattle.simulator.specs.Step.{stepChecks, stepAnswer}
 use Rattle.simulator.specs.Run.{runChecks, runAnswer}
 use Rattle.simulator.specs.PrivateRun.{IsRow, IsRun}
 
-module _ (source : List ℕ) (s : ℕ) (mapped : List ℕ) where
+module _ (source : List ℕ) (caps : Capacities) (mapped : List ℕ) where
   -- a step is accepted exactly where the verifier accepts, the row is one and the state area has 2 × M bytes
-  pub step-passed : (row area : List ℕ) → (stepAnswer source s mapped row area ≡ Passed) ↔ ((verifyChecks source s mapped ≡ Passed) × IsRow (netlist source) row × (length area ≡ 2 * recordCount mapped))
+  pub step-passed : (row area : List ℕ) → (stepAnswer source caps mapped row area ≡ Passed) ↔ ((verifyChecks source caps mapped ≡ Passed) × IsRow (netlist source) row × (length area ≡ 2 * recordCount mapped))
   unfolding stepAnswer stepChecks bitChecks
   step-passed row area =
       simp reflect (
@@ -29,7 +30,7 @@ module _ (source : List ℕ) (s : ℕ) (mapped : List ℕ) where
       )
 
   -- a run exactly where the verifier accepts and the areas are a run's
-  pub run-passed : (count : ℕ) (rows area outs : List ℕ) → (runAnswer source s mapped count rows area outs ≡ Passed) ↔ ((verifyChecks source s mapped ≡ Passed) × IsRun (netlist source) (netlist mapped) count rows area outs)
+  pub run-passed : (count : ℕ) (rows area outs : List ℕ) → (runAnswer source caps mapped count rows area outs ≡ Passed) ↔ ((verifyChecks source caps mapped ≡ Passed) × IsRun (netlist source) (netlist mapped) count rows area outs)
   unfolding runAnswer runChecks bitChecks
   run-passed count rows area outs =
       simp reflect (

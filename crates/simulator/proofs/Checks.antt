@@ -14,6 +14,7 @@ use Rattle.facts.specs.Checks.{check, scan, _andThen_, unlessRefused}
 use Rattle.facts.proofs.Loops.{Scanning, scan-more, scan-stop, scan-end}
 use Rattle.facts.proofs.Reflect.{reflect, or-none, unlike-none}
 use Rattle.facts.proofs.Sums.{count-le}
+use Rattle.netlist.specs.declared.Capacities.{Capacities}
 use Rattle.netlist.specs.Kinds.{sourceLimit}
 use Rattle.netlist.specs.Records.{netlist, recordCount, isOutput}
 use Rattle.netlist.specs.Checks.{sourceChecks}
@@ -127,16 +128,16 @@ module _ (source mapped : List ℕ) (r : ℕ) (rows area : List ℕ) where
       )
 
 -- a judged source has few records, its mapped netlist's used slots name records, and from its size on that has buffers alone
-module _ (source : List ℕ) (s : ℕ) (mapped : List ℕ) (a : Checked) (e : a ≡ verifyChecks source s mapped) (p : a ≡ Passed) where
+module _ (source : List ℕ) (caps : Capacities) (mapped : List ℕ) (a : Checked) (e : a ≡ verifyChecks source caps mapped) (p : a ≡ Passed) where
   pub judged-few : recordCount source ≤ sourceLimit
-  judged-few = checks-passed source s mapped .0 (sym e ∙ p) .isSource .isSource .few
+  judged-few = checks-passed source caps mapped .0 (sym e ∙ p) .isSource .isSource .few
 
   pub judged-named : Named (netlist mapped)
-  judged-named = checks-passed source s mapped .0 (sym e ∙ p) .legal .named
+  judged-named = checks-passed source caps mapped .0 (sym e ∙ p) .legal .named
 
   pub judged-buffered : (n : ℕ) → n ≡ recordCount source → Buffered mapped n
   judged-buffered n q =
-      let l = checks-passed source s mapped .0 (sym e ∙ p) .legal in
+      let l = checks-passed source caps mapped .0 (sym e ∙ p) .legal in
       rw q (record {
         within = l .whole;
         kind = λ i g h. l .buffers i g h .kind;
@@ -144,18 +145,18 @@ module _ (source : List ℕ) (s : ℕ) (mapped : List ℕ) (a : Checked) (e : a 
         named = λ i g h. l .named i 0 h (rw (l .buffers i g h .kind) (omega arith));
       })
 
-module _ (source : List ℕ) (s : ℕ) (mapped row area : List ℕ) (a : Checked) (e : a ≡ stepAnswer source s mapped row area) (h : a ≡ Passed) where
-  verified : Passed ≡ verifyChecks source s mapped
-  verified = sym (step-passed source s mapped row area .0 (sym e ∙ h) .0)
+module _ (source : List ℕ) (caps : Capacities) (mapped row area : List ℕ) (a : Checked) (e : a ≡ stepAnswer source caps mapped row area) (h : a ≡ Passed) where
+  verified : Passed ≡ verifyChecks source caps mapped
+  verified = sym (step-passed source caps mapped row area .0 (sym e ∙ h) .0)
 
   pub step-named : Named (netlist mapped)
-  step-named = judged-named source s mapped Passed verified refl
+  step-named = judged-named source caps mapped Passed verified refl
 
   pub step-buffered : (n : ℕ) → n ≡ recordCount source → Buffered mapped n
-  step-buffered = judged-buffered source s mapped Passed verified refl
+  step-buffered = judged-buffered source caps mapped Passed verified refl
 
   pub step-room : (m : ℕ) → m ≡ recordCount mapped → length area ≡ 2 * m
-  step-room m q = step-passed source s mapped row area .0 (sym e ∙ h) .2 ∙ ap (λ (k : ℕ). 2 * k) (sym q)
+  step-room m q = step-passed source caps mapped row area .0 (sym e ∙ h) .2 ∙ ap (λ (k : ℕ). 2 * k) (sym q)
 
 pub outs-fit : (source : List ℕ) (r x : ℕ) → x ≡ outputs (netlist source) → recordCount source ≤ sourceLimit → r ≤ rowLimit → r * x < 2 ^ 64
 outs-fit source r x e l h =
@@ -165,13 +166,13 @@ outs-fit source r x e l h =
 pub few-rows : (source mapped : List ℕ) (r : ℕ) (rows area : List ℕ) (b : Bool) → b ≡ badRows (netlist source) (netlist mapped) r rows area → b ≡ false → r ≤ rowLimit
 few-rows source mapped r rows area b e h = let g = simp reflect at (sym e ∙ h) in g .0 .0
 
-module _ (source : List ℕ) (s : ℕ) (mapped : List ℕ) (r : ℕ) (rows area outs : List ℕ) (a : Checked)
-    (e : a ≡ runAnswer source s mapped r rows area outs) (h : a ≡ Passed) where
-  pub run-verified : Passed ≡ verifyChecks source s mapped
-  run-verified = sym (run-passed source s mapped r rows area outs .0 (sym e ∙ h) .0)
+module _ (source : List ℕ) (caps : Capacities) (mapped : List ℕ) (r : ℕ) (rows area outs : List ℕ) (a : Checked)
+    (e : a ≡ runAnswer source caps mapped r rows area outs) (h : a ≡ Passed) where
+  pub run-verified : Passed ≡ verifyChecks source caps mapped
+  run-verified = sym (run-passed source caps mapped r rows area outs .0 (sym e ∙ h) .0)
 
   pub run-areas : IsRun (netlist source) (netlist mapped) r rows area outs
-  run-areas = run-passed source s mapped r rows area outs .0 (sym e ∙ h) .1
+  run-areas = run-passed source caps mapped r rows area outs .0 (sym e ∙ h) .1
 
 -- an answer that is known, and is one
 pub answer-is : (a b c : Checked) → a ≡ b → a ≡ c → c ≡ b

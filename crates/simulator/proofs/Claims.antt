@@ -22,21 +22,21 @@ evaluator-is-plain source row area accepted =
     )
 
 pub calls-are-plain : CallsArePlain
-calls-are-plain source s mapped area rows judged =
-    let a = checks-passed source s mapped .0 judged in
-    calls-plain source s mapped (a .isSource .isSource) (a .legal) area rows
+calls-are-plain source caps mapped area rows judged =
+    let a = checks-passed source caps mapped .0 judged in
+    calls-plain source caps mapped (a .isSource .isSource) (a .legal) area rows
 
 pub run-is-plain : RunIsPlain
-run-is-plain source s mapped r rows area outs accepted =
-    let a = checks-passed source s mapped .0 (run-passed source s mapped r rows area outs .0 accepted .0) in
-    run-plain source s mapped r rows area outs accepted (a .isSource .isSource) (a .legal)
+run-is-plain source caps mapped r rows area outs accepted =
+    let a = checks-passed source caps mapped .0 (run-passed source caps mapped r rows area outs .0 accepted .0) in
+    run-plain source caps mapped r rows area outs accepted (a .isSource .isSource) (a .legal)
 
 pub run-is-steps : RunIsSteps
-run-is-steps source s mapped r rows area outs accepted h =
-    let a = checks-passed source s mapped .0 (run-passed source s mapped r rows area outs .0 accepted .0) in (
-      calls-taken source s mapped r rows area outs accepted (r + depth (netlist source)),
-      run-leaves source s mapped r rows area outs accepted h,
+run-is-steps source caps mapped r rows area outs accepted h =
+    let a = checks-passed source caps mapped .0 (run-passed source caps mapped r rows area outs .0 accepted .0) in (
+      calls-taken source caps mapped r rows area outs accepted (r + depth (netlist source)),
+      run-leaves source caps mapped r rows area outs accepted h,
       λ t l.
-          run-reads source s mapped r rows area outs accepted t l
-          ∙ sym (outputs-kept (netlist source) s (netlist mapped) (a .isSource .isSource) (a .legal) _),
+          run-reads source caps mapped r rows area outs accepted t l
+          ∙ sym (outputs-kept (netlist source) caps (netlist mapped) (a .isSource .isSource) (a .legal) _),
     )

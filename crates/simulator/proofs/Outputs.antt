@@ -9,6 +9,7 @@ use lib.ListN.{getD, take}
 use lib.Dec.{eqb}
 use borrow.Author.Tests.{eqb-true, ne-eqb}
 use Rattle.facts.specs.Sums.{bit}
+use Rattle.netlist.specs.declared.Capacities.{Capacities}
 use Rattle.netlist.specs.Kinds.{output}
 use Rattle.netlist.specs.Records.{Netlist, isOutput, depth}
 use Rattle.netlist.specs.Source.{IsSource}
@@ -20,7 +21,7 @@ use Rattle.simulator.proofs.Logic.{value-plain, outputs-cong, outputs-s
 use Rattle.simulator.proofs.Steps.{stepped-at, stepped-on}
 use Rattle.simulator.proofs.Waves.{wave}
 
-module _ (n : Netlist) (s : ℕ) (m : Netlist) (source : IsSource n) (legal : Legal n s m) where
+module _ (n : Netlist) (caps : Capacities) (m : Netlist) (source : IsSource n) (legal : Legal n caps m) where
   -- the mapped netlist's outputs are the source's
   pub outputs-kept : (area : List ℕ) → outputRow m area ≡ outputRow n area
   outputs-kept area =
@@ -56,7 +57,7 @@ module _ (n : Netlist) (s : ℕ) (m : Netlist) (source : IsSource n) (legal : Le
         same i u o =
             byte (t + depth n) i l (omega (arith, legal .whole))
             ∙ ap bit
-            (wave n s m source legal rows state steps follows (depth n) t (t + depth n) i i (omega arith) l
+            (wave n caps m source legal rows state steps follows (depth n) t (t + depth n) i i (omega arith) l
             (omega (arith, legal .whole))
             (legal .kept i u .level ∙ source .outputs i u kind)
             (here refl (λ e. omega (arith, kind, legal .kept i u .kind))))

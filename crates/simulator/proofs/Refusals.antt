@@ -59,21 +59,21 @@ evaluate-exact source row area =
 
 pub step-exact : StepExact
 unfolding stepAnswer stepChecks
-step-exact source s mapped row area =
+step-exact source caps mapped row area =
     exact
     (first-then
-    (rows-before (rowOf 17) (verify-rows source s mapped) (area-rows (BadRows (netlist source) (netlist mapped) 1 row area) row))
-    (verify-first source s mapped)
+    (rows-before (rowOf 17) (verify-rows source caps mapped) (area-rows (BadRows (netlist source) (netlist mapped) 1 row area) row))
+    (verify-first source caps mapped)
     (area-first _ _ row (rows-are (netlist source) (netlist mapped) 1 row area)))
 
 pub run-exact : RunExact
 unfolding runAnswer runChecks
-run-exact source s mapped r rows area outs =
+run-exact source caps mapped r rows area outs =
     exact
     (first-then
-    (rows-before (rowOf 17) (verify-rows source s mapped)
+    (rows-before (rowOf 17) (verify-rows source caps mapped)
     (area-rows (BadRows (netlist source) (netlist mapped) r rows area ⊎ BadOutputs (netlist source) r outs) rows))
-    (verify-first source s mapped)
+    (verify-first source caps mapped)
     (subst (First _) (twice (badRows (netlist source) (netlist mapped) r rows area) (badOutputs (netlist source) r outs) (bitChecks rows))
     (area-first _ _ rows
     (either-is (rows-are (netlist source) (netlist mapped) r rows area) (unlike (length outs) (r * outputs (netlist source)))))))

@@ -15,6 +15,7 @@ use Rattle.facts.specs.declared.Checked.the-variants.{Passed, Refused}
 use Rattle.facts.specs.Sums.{bit, count}
 use Rattle.facts.specs.Lists.{tabulate}
 use Rattle.facts.proofs.Lists.{getD-replicated, tabulate-cong}
+use Rattle.netlist.specs.declared.Capacities.{Capacities}
 use Rattle.netlist.specs.Records.{Netlist, netlist, depth}
 use Rattle.netlist.specs.Counts.{isInput, inputs, outputs}
 use Rattle.simulator.specs.Logic.{on, valueOf, next, outputRow}
@@ -34,20 +35,20 @@ stepped-row m a b area h =
     (λ i l. ap (λ (g : Bool). bit (valueOf (m .at i) g (on (take (m .size) area)))) (h (count (isInput m) i))))
 
 -- one call more
-module _ (source : List ℕ) (s : ℕ) (mapped : List ℕ) where
+module _ (source : List ℕ) (caps : Capacities) (mapped : List ℕ) where
   leaves-snoc : (area : List ℕ) (rows : List (List ℕ)) (row : List ℕ) →
-      leaves source s mapped area (rows ++ (row ∷ [])) ≡ stepArea source s mapped row (leaves source s mapped area rows)
+      leaves source caps mapped area (rows ++ (row ∷ [])) ≡ stepArea source caps mapped row (leaves source caps mapped area rows)
   unfolding leaves
   leaves-snoc area [] row = refl
-  leaves-snoc area (first ∷ rows) row = leaves-snoc (stepArea source s mapped first area) rows row
+  leaves-snoc area (first ∷ rows) row = leaves-snoc (stepArea source caps mapped first area) rows row
 
   taken-snoc : (area : List ℕ) (rows : List (List ℕ)) (row : List ℕ) →
-      taken source s mapped area (rows ++ (row ∷ []))
-      ≡ taken source s mapped area rows ++ counted (stepAnswer source s mapped row (leaves source s mapped area rows)) row []
+      taken source caps mapped area (rows ++ (row ∷ []))
+      ≡ taken source caps mapped area rows ++ counted (stepAnswer source caps mapped row (leaves source caps mapped area rows)) row []
   unfolding taken leaves
   taken-snoc area [] row = refl
   taken-snoc area (first ∷ rows) row =
-      go (stepAnswer source s mapped first area) _ _ _ (taken-snoc (stepArea source s mapped first area) rows row)
+      go (stepAnswer source caps mapped first area) _ _ _ (taken-snoc (stepArea source caps mapped first area) rows row)
     where
       go : (answer : Checked) (xs ys zs : List (List ℕ)) → xs ≡ ys ++ zs → counted answer first xs ≡ counted answer first ys ++ zs
       go Passed xs ys zs e = ap (λ (l : List (List ℕ)). first ∷ l) e
@@ -92,26 +93,26 @@ module _ (n : Netlist) (m : Netlist) (r : ℕ) (rows area outs : List ℕ) (run 
             bits = λ i u. rw (getD-replicate {A = ℕ} (inputs n) i 0 0 (simp length-replicate at u)) (omega arith);
           }
 
-module _ (source : List ℕ) (s : ℕ) (mapped : List ℕ) (r : ℕ) (rows area outs : List ℕ)
-    (accepted : runAnswer source s mapped r rows area outs ≡ Passed) where
+module _ (source : List ℕ) (caps : Capacities) (mapped : List ℕ) (r : ℕ) (rows area outs : List ℕ)
+    (accepted : runAnswer source caps mapped r rows area outs ≡ Passed) where
   -- the rows of the run's first k steps
   abbrev rowsOf : ℕ → List (List ℕ)
   rowsOf k = tabulate (rowOfStep (inputs (netlist source)) rows r) k
 
   run : IsRun (netlist source) (netlist mapped) r rows area outs
-  run = run-passed source s mapped r rows area outs .0 accepted .1
+  run = run-passed source caps mapped r rows area outs .0 accepted .1
 
   accepts : (k : ℕ) →
-      stepAnswer source s mapped (rowOfStep (inputs (netlist source)) rows r k) (after (netlist mapped) (inputs (netlist source)) rows k) ≡ Passed
+      stepAnswer source caps mapped (rowOfStep (inputs (netlist source)) rows r k) (after (netlist mapped) (inputs (netlist source)) rows k) ≡ Passed
   accepts k =
-      step-passed source s mapped _ _ .1 (
-        run-passed source s mapped r rows area outs .0 accepted .0,
+      step-passed source caps mapped _ _ .1 (
+        run-passed source caps mapped r rows area outs .0 accepted .0,
         row-is (netlist source) (netlist mapped) r rows area outs run k,
         length-after (netlist mapped) (inputs (netlist source)) rows k,
       )
 
   one-step : (k : ℕ) →
-      stepArea source s mapped (rowOfStep (inputs (netlist source)) rows r k) (after (netlist mapped) (inputs (netlist source)) rows k)
+      stepArea source caps mapped (rowOfStep (inputs (netlist source)) rows r k) (after (netlist mapped) (inputs (netlist source)) rows k)
       ≡ after (netlist mapped) (inputs (netlist source)) rows (suc k)
   unfolding stepArea after
   one-step k =
@@ -120,34 +121,34 @@ module _ (source : List ℕ) (s : ℕ) (mapped : List ℕ) (r : ℕ) (rows area 
 
   -- k such calls from zeros leave what k steps leave
   pub calls-leave : (k : ℕ) →
-      leaves source s mapped (zeros (netlist mapped)) (rowsOf k) ≡ after (netlist mapped) (inputs (netlist source)) rows k
+      leaves source caps mapped (zeros (netlist mapped)) (rowsOf k) ≡ after (netlist mapped) (inputs (netlist source)) rows k
   unfolding leaves after
   calls-leave zero = refl
   calls-leave (suc k) =
-      leaves-snoc source s mapped (zeros (netlist mapped)) (rowsOf k) _
-      ∙ ap (stepArea source s mapped (rowOfStep (inputs (netlist source)) rows r k)) (calls-leave k)
+      leaves-snoc source caps mapped (zeros (netlist mapped)) (rowsOf k) _
+      ∙ ap (stepArea source caps mapped (rowOfStep (inputs (netlist source)) rows r k)) (calls-leave k)
       ∙ one-step k
 
   -- none of them is refused
-  pub calls-taken : (k : ℕ) → taken source s mapped (zeros (netlist mapped)) (rowsOf k) ≡ rowsOf k
+  pub calls-taken : (k : ℕ) → taken source caps mapped (zeros (netlist mapped)) (rowsOf k) ≡ rowsOf k
   unfolding taken
   calls-taken zero = refl
   calls-taken (suc k) =
-      taken-snoc source s mapped (zeros (netlist mapped)) (rowsOf k) _
+      taken-snoc source caps mapped (zeros (netlist mapped)) (rowsOf k) _
       ∙ ap₂ _++_ (calls-taken k)
       (ap (λ (a : Checked). counted a (rowOfStep (inputs (netlist source)) rows r k) [])
-      (ap (stepAnswer source s mapped (rowOfStep (inputs (netlist source)) rows r k)) (calls-leave k) ∙ accepts k))
+      (ap (stepAnswer source caps mapped (rowOfStep (inputs (netlist source)) rows r k)) (calls-leave k) ∙ accepts k))
 
   pub run-leaves : 0 < r →
-      runArea source s mapped r rows area outs ≡ leaves source s mapped (zeros (netlist mapped)) (rowsOf (r + depth (netlist source)))
+      runArea source caps mapped r rows area outs ≡ leaves source caps mapped (zeros (netlist mapped)) (rowsOf (r + depth (netlist source)))
   unfolding runArea
   run-leaves h =
       rw (accepted, ne-eqb r 0 (λ e. omega arith)) (sym (calls-leave (r + depth (netlist source))))
 
   pub run-reads : (t : ℕ) → t < r →
-      rowAt (outputs (netlist source)) (runOutputs source s mapped r rows area outs) t
-      ≡ outputRow (netlist source) (leaves source s mapped (zeros (netlist mapped)) (rowsOf (suc (t + depth (netlist source)))))
+      rowAt (outputs (netlist source)) (runOutputs source caps mapped r rows area outs) t
+      ≡ outputRow (netlist source) (leaves source caps mapped (zeros (netlist mapped)) (rowsOf (suc (t + depth (netlist source)))))
   run-reads t l =
-      ap (λ (out : List ℕ). rowAt (outputs (netlist source)) out t) (outputs-written source s mapped r rows area outs accepted)
+      ap (λ (out : List ℕ). rowAt (outputs (netlist source)) out t) (outputs-written source caps mapped r rows area outs accepted)
       ∙ outputRows-at (netlist source) (netlist mapped) rows r t l
       ∙ ap (outputRow (netlist source)) (sym (calls-leave (suc (t + depth (netlist source)))))

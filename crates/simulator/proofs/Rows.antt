@@ -10,6 +10,7 @@ use lib.ListN.{length, getD, take, drop, length-append, length-drop, length-repl
 use lib.Seq.{take-all, drop-at, take-append-le, drop-append-le}
 use Rattle.facts.specs.declared.Checked.the-variants.{Passed}
 use Rattle.facts.specs.Sums.{bit, sum, count}
+use Rattle.netlist.specs.declared.Capacities.{Capacities}
 use Rattle.netlist.specs.Records.{Netlist, netlist, recordCount, depth, isOutput}
 use Rattle.netlist.specs.Source.{IsSource}
 use Rattle.netlist.specs.Counts.{inputs, outputs}
@@ -70,21 +71,21 @@ module _ (n m : Netlist) (rows : List ℕ) where
             (rowAt-last (outputs n) (outputRows n m rows r) _ r (length-outputRows r) (length-outputs n _ (n .size))))
       ]
 
-module _ (source : List ℕ) (s : ℕ) (mapped : List ℕ) (count : ℕ) (rows area outs : List ℕ)
-    (accepted : runAnswer source s mapped count rows area outs ≡ Passed) where
-  pub outputs-written : runOutputs source s mapped count rows area outs ≡ outputRows (netlist source) (netlist mapped) rows count
+module _ (source : List ℕ) (caps : Capacities) (mapped : List ℕ) (count : ℕ) (rows area outs : List ℕ)
+    (accepted : runAnswer source caps mapped count rows area outs ≡ Passed) where
+  pub outputs-written : runOutputs source caps mapped count rows area outs ≡ outputRows (netlist source) (netlist mapped) rows count
   unfolding runOutputs
   outputs-written = rw accepted
 
   -- in an accepted run output row t is plain logic's for row t
-  pub run-plain : IsSource (netlist source) → Legal (netlist source) s (netlist mapped) → (t : ℕ) → t < count →
-      rowAt (outputs (netlist source)) (runOutputs source s mapped count rows area outs) t
+  pub run-plain : IsSource (netlist source) → Legal (netlist source) caps (netlist mapped) → (t : ℕ) → t < count →
+      rowAt (outputs (netlist source)) (runOutputs source caps mapped count rows area outs) t
       ≡ outputRow (netlist source) (values (netlist source) (rowAt (inputs (netlist source)) rows t) (recordCount source))
   unfolding after
   run-plain isSource legal t l =
       ap (λ (out : List ℕ). rowAt (outputs (netlist source)) out t) outputs-written
       ∙ outputRows-at (netlist source) (netlist mapped) rows count t l
-      ∙ wave-outputs (netlist source) s (netlist mapped) isSource legal
+      ∙ wave-outputs (netlist source) caps (netlist mapped) isSource legal
       (rowAt (inputs (netlist source)) rows)
       (after (netlist mapped) (inputs (netlist source)) rows)
       (suc (t + depth (netlist source)))

@@ -10,6 +10,7 @@ use lib.Dec.{leb, eqb}
 use borrow.Author.Tests.{eqb-true}
 use Rattle.facts.specs.Sums.{bit, sum, count}
 use Rattle.facts.proofs.Sums.{count-cong}
+use Rattle.netlist.specs.declared.Capacities.{Capacities}
 use Rattle.netlist.specs.Kinds.{arity, input, buffer}
 use Rattle.netlist.specs.Records.{Netlist, fanin}
 use Rattle.netlist.specs.Source.{IsSource}
@@ -47,7 +48,7 @@ agrees k k′ v v′ a b f g p q same slots = rw (p, q) (go (eqb k input) refl)
     go true e = same (eqb-true k input e)
     go false e = gate-cong k v f g slots
 
-module _ (n : Netlist) (s : ℕ) (m : Netlist) (source : IsSource n) (legal : Legal n s m)
+module _ (n : Netlist) (caps : Capacities) (m : Netlist) (source : IsSource n) (legal : Legal n caps m)
     (rows : ℕ → List ℕ) (state : ℕ → ℕ → Bool) (steps : ℕ)
     (step : (k i : ℕ) → k < steps → i < m .size → state (suc k) i ≡ next m (rows k) (state k) i) where
   -- the records of level L hold it

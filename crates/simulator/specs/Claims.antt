@@ -7,6 +7,7 @@ use lib.ListN.{length, getD}
 use Rattle.facts.specs.declared.Checked.the-variants.{Passed}
 use Rattle.facts.specs.Sums.{bit}
 use Rattle.facts.specs.Lists.{tabulate}
+use Rattle.netlist.specs.declared.Capacities.{Capacities}
 use Rattle.netlist.specs.Records.{netlist, recordCount, depth}
 use Rattle.netlist.specs.Counts.{inputs, outputs}
 use Rattle.verifier.specs.Checks.{verifyChecks}
@@ -32,17 +33,17 @@ EvaluatorIsPlain =
 -- are plain logic's for the row of step t; steps are the accepted calls, numbered from 0
 abbrev pub CallsArePlain : Type 0
 CallsArePlain =
-    (source : List ℕ) (s : ℕ) (mapped area : List ℕ) (rows : List (List ℕ)) → verifyChecks source s mapped ≡ Passed →
-    (t : ℕ) → t + depth (netlist source) < length (taken source s mapped area rows) →
-    outputRow (netlist mapped) (getD (history source s mapped area rows) (t + depth (netlist source)) [])
-    ≡ plainOutputs source (getD (taken source s mapped area rows) t [])
+    (source : List ℕ) (caps : Capacities) (mapped area : List ℕ) (rows : List (List ℕ)) → verifyChecks source caps mapped ≡ Passed →
+    (t : ℕ) → t + depth (netlist source) < length (taken source caps mapped area rows) →
+    outputRow (netlist mapped) (getD (history source caps mapped area rows) (t + depth (netlist source)) [])
+    ≡ plainOutputs source (getD (taken source caps mapped area rows) t [])
 
 -- in an accepted run output row t is plain logic's for row t
 abbrev pub RunIsPlain : Type 0
 RunIsPlain =
-    (source : List ℕ) (s : ℕ) (mapped : List ℕ) (r : ℕ) (rows area outs : List ℕ) →
-    runAnswer source s mapped r rows area outs ≡ Passed → (t : ℕ) → t < r →
-    rowAt (outputs (netlist source)) (runOutputs source s mapped r rows area outs) t
+    (source : List ℕ) (caps : Capacities) (mapped : List ℕ) (r : ℕ) (rows area outs : List ℕ) →
+    runAnswer source caps mapped r rows area outs ≡ Passed → (t : ℕ) → t < r →
+    rowAt (outputs (netlist source)) (runOutputs source caps mapped r rows area outs) t
     ≡ plainOutputs source (rowAt (inputs (netlist source)) rows t)
 
 -- the rows of the first k steps of a run of r rows
@@ -53,12 +54,12 @@ rowsOfSteps source rows r k = tabulate (rowOfStep (inputs (netlist source)) rows
 -- output row t is read off the area that the first t + D + 1 of them leave
 abbrev pub RunIsSteps : Type 0
 RunIsSteps =
-    (source : List ℕ) (s : ℕ) (mapped : List ℕ) (r : ℕ) (rows area outs : List ℕ) →
-    runAnswer source s mapped r rows area outs ≡ Passed → 0 < r →
-    (taken source s mapped (zeros (netlist mapped)) (rowsOfSteps source rows r (r + depth (netlist source)))
+    (source : List ℕ) (caps : Capacities) (mapped : List ℕ) (r : ℕ) (rows area outs : List ℕ) →
+    runAnswer source caps mapped r rows area outs ≡ Passed → 0 < r →
+    (taken source caps mapped (zeros (netlist mapped)) (rowsOfSteps source rows r (r + depth (netlist source)))
     ≡ rowsOfSteps source rows r (r + depth (netlist source)))
-    × (runArea source s mapped r rows area outs
-    ≡ leaves source s mapped (zeros (netlist mapped)) (rowsOfSteps source rows r (r + depth (netlist source))))
+    × (runArea source caps mapped r rows area outs
+    ≡ leaves source caps mapped (zeros (netlist mapped)) (rowsOfSteps source rows r (r + depth (netlist source))))
     × ((t : ℕ) → t < r →
-    rowAt (outputs (netlist source)) (runOutputs source s mapped r rows area outs) t
-    ≡ outputRow (netlist mapped) (leaves source s mapped (zeros (netlist mapped)) (rowsOfSteps source rows r (suc (t + depth (netlist source))))))
+    rowAt (outputs (netlist source)) (runOutputs source caps mapped r rows area outs) t
+    ≡ outputRow (netlist mapped) (leaves source caps mapped (zeros (netlist mapped)) (rowsOfSteps source rows r (suc (t + depth (netlist source))))))

@@ -4,6 +4,7 @@ use mathlib.Core.Logic.{_⊎_, _≢_}
 use mathlib.Core.List.{List}
 use lib.ListN.{length, getD}
 use Rattle.facts.specs.Refusals.{Conditions, Fails, _or_, Each, Exact}
+use Rattle.netlist.specs.declared.Capacities.{Capacities}
 use Rattle.netlist.specs.Records.{Netlist, netlist}
 use Rattle.netlist.specs.Refusals.{SourceFails}
 use Rattle.netlist.specs.Counts.{inputs, outputs}
@@ -37,14 +38,14 @@ abbrev pub EvaluateFails : List ℕ → List ℕ → List ℕ → Conditions
 EvaluateFails source row area = SourceFails source or AreaFails (BadAreas (netlist source) row area) row
 
 -- 1 to 7, 11 to 17, 18, 19, of a run of one row that has no output area
-abbrev pub StepFails : List ℕ → ℕ → List ℕ → List ℕ → List ℕ → Conditions
-StepFails source s mapped row area =
-    VerifyFails source s mapped or AreaFails (BadRows (netlist source) (netlist mapped) 1 row area) row
+abbrev pub StepFails : List ℕ → Capacities → List ℕ → List ℕ → List ℕ → Conditions
+StepFails source caps mapped row area =
+    VerifyFails source caps mapped or AreaFails (BadRows (netlist source) (netlist mapped) 1 row area) row
 
 -- 1 to 7, 11 to 17, 18, 19
-abbrev pub RunFails : List ℕ → ℕ → List ℕ → ℕ → List ℕ → List ℕ → List ℕ → Conditions
-RunFails source s mapped r rows area outs =
-    VerifyFails source s mapped
+abbrev pub RunFails : List ℕ → Capacities → List ℕ → ℕ → List ℕ → List ℕ → List ℕ → Conditions
+RunFails source caps mapped r rows area outs =
+    VerifyFails source caps mapped
     or AreaFails (BadRows (netlist source) (netlist mapped) r rows area ⊎ BadOutputs (netlist source) r outs) rows
 
 -- each number is answered exactly where its condition is the first that holds, and a call is accepted exactly if none does
@@ -53,10 +54,10 @@ EvaluateExact = (source row area : List ℕ) → Exact (EvaluateFails source row
 
 abbrev pub StepExact : Type 0
 StepExact =
-    (source : List ℕ) (s : ℕ) (mapped row area : List ℕ) →
-    Exact (StepFails source s mapped row area) (stepAnswer source s mapped row area)
+    (source : List ℕ) (caps : Capacities) (mapped row area : List ℕ) →
+    Exact (StepFails source caps mapped row area) (stepAnswer source caps mapped row area)
 
 abbrev pub RunExact : Type 0
 RunExact =
-    (source : List ℕ) (s : ℕ) (mapped : List ℕ) (r : ℕ) (rows area outs : List ℕ) →
-    Exact (RunFails source s mapped r rows area outs) (runAnswer source s mapped r rows area outs)
+    (source : List ℕ) (caps : Capacities) (mapped : List ℕ) (r : ℕ) (rows area outs : List ℕ) →
+    Exact (RunFails source caps mapped r rows area outs) (runAnswer source caps mapped r rows area outs)

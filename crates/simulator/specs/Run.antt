@@ -6,6 +6,7 @@ use lib.ListN.{length, take, drop, replicate}
 use lib.Dec.{eqb}
 use Rattle.facts.specs.declared.Checked.{Checked}
 use Rattle.facts.specs.Checks.{check, _andThen_, unlessRefused}
+use Rattle.netlist.specs.declared.Capacities.{Capacities}
 use Rattle.netlist.specs.Records.{Netlist, netlist, depth}
 use Rattle.netlist.specs.Counts.{inputs, outputs}
 use Rattle.verifier.specs.Checks.{verifyChecks}
@@ -45,20 +46,20 @@ runChecks n m count rows area outs =
     check 18 0 (badRows n m count rows area) andThen check 18 0 (badOutputs n count outs) andThen bitChecks rows
 
 -- the verifier's checks, then 18 and 19: the run's answer
-unfoldable pub runAnswer : List ℕ → ℕ → List ℕ → ℕ → List ℕ → List ℕ → List ℕ → Checked
-runAnswer source s mapped count rows area outs =
-    verifyChecks source s mapped andThen runChecks (netlist source) (netlist mapped) count rows area outs
+unfoldable pub runAnswer : List ℕ → Capacities → List ℕ → ℕ → List ℕ → List ℕ → List ℕ → Checked
+runAnswer source caps mapped count rows area outs =
+    verifyChecks source caps mapped andThen runChecks (netlist source) (netlist mapped) count rows area outs
 
 -- the run's state area
-unfoldable pub runArea : List ℕ → ℕ → List ℕ → ℕ → List ℕ → List ℕ → List ℕ → List ℕ
-runArea source s mapped count rows area outs =
-    unlessRefused (runAnswer source s mapped count rows area outs)
+unfoldable pub runArea : List ℕ → Capacities → List ℕ → ℕ → List ℕ → List ℕ → List ℕ → List ℕ
+runArea source caps mapped count rows area outs =
+    unlessRefused (runAnswer source caps mapped count rows area outs)
     (after (netlist mapped) (inputs (netlist source)) rows (steps (netlist source) count))
     area
 
 -- the run's output area
-unfoldable pub runOutputs : List ℕ → ℕ → List ℕ → ℕ → List ℕ → List ℕ → List ℕ → List ℕ
-runOutputs source s mapped count rows area outs =
-    unlessRefused (runAnswer source s mapped count rows area outs)
+unfoldable pub runOutputs : List ℕ → Capacities → List ℕ → ℕ → List ℕ → List ℕ → List ℕ → List ℕ
+runOutputs source caps mapped count rows area outs =
+    unlessRefused (runAnswer source caps mapped count rows area outs)
     (outputRows (netlist source) (netlist mapped) rows count)
     outs

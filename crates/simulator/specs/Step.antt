@@ -8,6 +8,7 @@ use Rattle.facts.specs.declared.Checked.{Checked}
 use Rattle.facts.specs.Checks.{check, _andThen_, unlessRefused}
 use Rattle.facts.specs.Sums.{bit}
 use Rattle.facts.specs.Lists.{tabulate}
+use Rattle.netlist.specs.declared.Capacities.{Capacities}
 use Rattle.netlist.specs.Records.{Netlist, netlist}
 use Rattle.netlist.specs.Counts.{inputs}
 use Rattle.verifier.specs.Checks.{verifyChecks}
@@ -44,11 +45,11 @@ unfoldable pub stepChecks : Netlist → Netlist → List ℕ → List ℕ → Ch
 stepChecks n m row area = check 18 0 (badRows n m 1 row area) andThen bitChecks row
 
 -- the verifier's checks, then 18 and 19: the step's answer
-unfoldable pub stepAnswer : List ℕ → ℕ → List ℕ → List ℕ → List ℕ → Checked
-stepAnswer source s mapped row area =
-    verifyChecks source s mapped andThen stepChecks (netlist source) (netlist mapped) row area
+unfoldable pub stepAnswer : List ℕ → Capacities → List ℕ → List ℕ → List ℕ → Checked
+stepAnswer source caps mapped row area =
+    verifyChecks source caps mapped andThen stepChecks (netlist source) (netlist mapped) row area
 
 -- the step's state area
-unfoldable pub stepArea : List ℕ → ℕ → List ℕ → List ℕ → List ℕ → List ℕ
-stepArea source s mapped row area =
-    unlessRefused (stepAnswer source s mapped row area) (stepped (netlist mapped) row area) area
+unfoldable pub stepArea : List ℕ → Capacities → List ℕ → List ℕ → List ℕ → List ℕ
+stepArea source caps mapped row area =
+    unlessRefused (stepAnswer source caps mapped row area) (stepped (netlist mapped) row area) area

@@ -6,6 +6,7 @@ use lib.ListN.{replicate}
 use lib.Dec.{ltb}
 use Rattle.facts.specs.declared.Checked.{Checked}
 use Rattle.facts.specs.Checks.{unlessRefused}
+use Rattle.netlist.specs.declared.Capacities.{Capacities}
 use Rattle.simulator.specs.Step.{stepAnswer, stepArea}
 use Rattle.simulator.specs.Run.{rowAt}
 
@@ -18,19 +19,19 @@ abbrev pub counted : Checked → List ℕ → List (List ℕ) → List (List ℕ
 counted answer x xs = unlessRefused answer (x ∷ xs) xs
 
 -- the rows of the accepted calls, in order; each call gets the area as the last one left it
-unfoldable pub taken : List ℕ → ℕ → List ℕ → List ℕ → List (List ℕ) → List (List ℕ)
-taken source s mapped area [] = []
-taken source s mapped area (row ∷ rows) =
-    counted (stepAnswer source s mapped row area) row (taken source s mapped (stepArea source s mapped row area) rows)
+unfoldable pub taken : List ℕ → Capacities → List ℕ → List ℕ → List (List ℕ) → List (List ℕ)
+taken source caps mapped area [] = []
+taken source caps mapped area (row ∷ rows) =
+    counted (stepAnswer source caps mapped row area) row (taken source caps mapped (stepArea source caps mapped row area) rows)
 
 -- the areas after the accepted calls, in order
-unfoldable pub history : List ℕ → ℕ → List ℕ → List ℕ → List (List ℕ) → List (List ℕ)
-history source s mapped area [] = []
-history source s mapped area (row ∷ rows) =
-    counted (stepAnswer source s mapped row area) (stepArea source s mapped row area)
-    (history source s mapped (stepArea source s mapped row area) rows)
+unfoldable pub history : List ℕ → Capacities → List ℕ → List ℕ → List (List ℕ) → List (List ℕ)
+history source caps mapped area [] = []
+history source caps mapped area (row ∷ rows) =
+    counted (stepAnswer source caps mapped row area) (stepArea source caps mapped row area)
+    (history source caps mapped (stepArea source caps mapped row area) rows)
 
 -- the area after all calls
-unfoldable pub leaves : List ℕ → ℕ → List ℕ → List ℕ → List (List ℕ) → List ℕ
-leaves source s mapped area [] = area
-leaves source s mapped area (row ∷ rows) = leaves source s mapped (stepArea source s mapped row area) rows
+unfoldable pub leaves : List ℕ → Capacities → List ℕ → List ℕ → List (List ℕ) → List ℕ
+leaves source caps mapped area [] = area
+leaves source caps mapped area (row ∷ rows) = leaves source caps mapped (stepArea source caps mapped row area) rows

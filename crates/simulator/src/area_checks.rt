@@ -9,6 +9,7 @@ ghost use Rattle.simulator.specs.Evaluate.{bitChecks, badAreas, evaluate
 ghost use Rattle.simulator.specs.Step.{rowLimit, badRows, stepChecks, stepAnswer};
 ghost use Rattle.simulator.specs.Run.{badOutputs, runChecks, runAnswer};
 use facts::Checked;
+use netlist::Capacities;
 
 // The most rows of a run.
 const ROW_LIMIT: u32 = 10000;
@@ -89,14 +90,14 @@ fn check_row(source: &[u8], mapped: &[u8], row: &[u8], state: &[u8]) -> Checked
 // The verifier's checks, then 18 and 19.
 pub(crate) fn check_step(
     source: &[u8],
-    capacity: u32,
+    capacities: Capacities,
     mapped: &[u8],
     row: &[u8],
     state: &[u8],
 ) -> Checked
-    ensures { λ a. ⌜ a ≡ stepAnswer (now (source .entry)) capacity (now (mapped .entry)) (now (row .entry)) (now (state .entry)) ⌝ }
+    ensures { λ a. ⌜ a ≡ stepAnswer (now (source .entry)) capacities (now (mapped .entry)) (now (row .entry)) (now (state .entry)) ⌝ }
 {
-    let judged = verifier::check_mapping(source, capacity, mapped);
+    let judged = verifier::check_mapping(source, capacities, mapped);
     match judged {
         Checked::Passed => check_row(source, mapped, row, state),
         Checked::Refused(number, place) => Checked::Refused(number, place),
@@ -135,16 +136,16 @@ fn check_rows(
 // The verifier's checks, then 18 and 19.
 pub(crate) fn check_run(
     source: &[u8],
-    capacity: u32,
+    capacities: Capacities,
     mapped: &[u8],
     row_count: u32,
     rows: &[u8],
     state: &[u8],
     outs: &[u8],
 ) -> Checked
-    ensures { λ a. ⌜ a ≡ runAnswer (now (source .entry)) capacity (now (mapped .entry)) «row_count» (now (rows .entry)) (now (state .entry)) (now (outs .entry)) ⌝ }
+    ensures { λ a. ⌜ a ≡ runAnswer (now (source .entry)) capacities (now (mapped .entry)) «row_count» (now (rows .entry)) (now (state .entry)) (now (outs .entry)) ⌝ }
 {
-    let judged = verifier::check_mapping(source, capacity, mapped);
+    let judged = verifier::check_mapping(source, capacities, mapped);
     match judged {
         Checked::Passed => check_rows(source, mapped, row_count, rows, state, outs),
         Checked::Refused(number, place) => Checked::Refused(number, place),

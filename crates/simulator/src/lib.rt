@@ -4,6 +4,7 @@ ghost use Rattle.simulator.specs.Evaluate.{evaluateAnswer, evaluateArea}
 ghost use Rattle.simulator.specs.Step.{stepAnswer, stepArea};
 ghost use Rattle.simulator.specs.Run.{runAnswer, runArea, runOutputs};
 use facts::Checked;
+use netlist::Capacities;
 
 mod area_checks;
 mod one_step;
@@ -35,11 +36,17 @@ pub fn evaluate(source: &[u8], row: &[u8], values: &mut [u8]) -> Checked
 }
 
 // One step: the checks of a run of one row that has no output area; accepted, the state area is one step on.
-pub fn step(source: &[u8], capacity: u32, mapped: &[u8], row: &[u8], state: &mut [u8]) -> Checked
-    ensures answer { λ a. ⌜ a ≡ stepAnswer (now (source .entry)) capacity (now (mapped .entry)) (now (row .entry)) (now (state .entry)) ⌝ }
-    ensures area { λ a. ⌜ now (state .exit) ≡ stepArea (now (source .entry)) capacity (now (mapped .entry)) (now (row .entry)) (now (state .entry)) ⌝ }
+pub fn step(
+    source: &[u8],
+    capacities: Capacities,
+    mapped: &[u8],
+    row: &[u8],
+    state: &mut [u8],
+) -> Checked
+    ensures answer { λ a. ⌜ a ≡ stepAnswer (now (source .entry)) capacities (now (mapped .entry)) (now (row .entry)) (now (state .entry)) ⌝ }
+    ensures area { λ a. ⌜ now (state .exit) ≡ stepArea (now (source .entry)) capacities (now (mapped .entry)) (now (row .entry)) (now (state .entry)) ⌝ }
 {
-    let checked = area_checks::check_step(source, capacity, mapped, row, state);
+    let checked = area_checks::check_step(source, capacities, mapped, row, state);
     match checked {
         Checked::Passed => {
             let n = netlist::record_count(source);
@@ -53,18 +60,26 @@ pub fn step(source: &[u8], capacity: u32, mapped: &[u8], row: &[u8], state: &mut
 // The phase run: the verifier's checks, then 18 and 19; accepted, the step over and over from zeros.
 pub fn run(
     source: &[u8],
-    capacity: u32,
+    capacities: Capacities,
     mapped: &[u8],
     row_count: u32,
     rows: &[u8],
     state: &mut [u8],
     outputs: &mut [u8],
 ) -> Checked
-    ensures answer { λ a. ⌜ a ≡ runAnswer (now (source .entry)) capacity (now (mapped .entry)) «row_count» (now (rows .entry)) (now (state .entry)) (now (outputs .entry)) ⌝ }
-    ensures area { λ a. ⌜ now (state .exit) ≡ runArea (now (source .entry)) capacity (now (mapped .entry)) «row_count» (now (rows .entry)) (now (state .entry)) (now (outputs .entry)) ⌝ }
-    ensures outputs { λ a. ⌜ now (outputs .exit) ≡ runOutputs (now (source .entry)) capacity (now (mapped .entry)) «row_count» (now (rows .entry)) (now (state .entry)) (now (outputs .entry)) ⌝ }
+    ensures answer { λ a. ⌜ a ≡ runAnswer (now (source .entry)) capacities (now (mapped .entry)) «row_count» (now (rows .entry)) (now (state .entry)) (now (outputs .entry)) ⌝ }
+    ensures area { λ a. ⌜ now (state .exit) ≡ runArea (now (source .entry)) capacities (now (mapped .entry)) «row_count» (now (rows .entry)) (now (state .entry)) (now (outputs .entry)) ⌝ }
+    ensures outputs { λ a. ⌜ now (outputs .exit) ≡ runOutputs (now (source .entry)) capacities (now (mapped .entry)) «row_count» (now (rows .entry)) (now (state .entry)) (now (outputs .entry)) ⌝ }
 {
-    let checked = area_checks::check_run(source, capacity, mapped, row_count, rows, state, outputs);
+    let checked = area_checks::check_run(
+        source,
+        capacities,
+        mapped,
+        row_count,
+        rows,
+        state,
+        outputs,
+    );
     match checked {
         Checked::Passed => {
             phase_run::play(source, mapped, row_count, rows, state, outputs);

@@ -229,7 +229,9 @@ fn block_view_agrees(file: &[u8], at: usize) -> bool {
     let driver = cases::number(asked, 4) as usize;
     let block = mapper::block_of(
         cases::field(file, at),
-        cases::number(asked, 0),
+        netlist::Capacities {
+            buffer: cases::number(asked, 0),
+        },
         cases::field(file, mapped),
         driver,
     );

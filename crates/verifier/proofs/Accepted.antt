@@ -14,6 +14,7 @@ use Rattle.facts.specs.declared.Checked.{Checked}
 use Rattle.facts.specs.Checks.{outcome}
 use Rattle.facts.proofs.Reflect.{reflect}
 use Rattle.facts.proofs.Sums.{count-append, count-none, count-all}
+use Rattle.netlist.specs.declared.Capacities.{Capacities}
 use Rattle.netlist.specs.Kinds.{slots, unused, buffer, arity}
 use Rattle.netlist.specs.Records.{Netlist, netlist, recordCount, fanin}
 use Rattle.netlist.specs.Source.{IsSource}
@@ -26,8 +27,8 @@ use Rattle.verifier.specs.Accepted.{Accepted, AcceptedExactly}
 use Rattle.verifier.specs.declared.Verified.the-variants.{Buffers, Refused}
 use Rattle.verifier.proofs.Trace.{driver-traces, traces-driver}
 
-module _ (n : Netlist) (s : ℕ) (m : Netlist) where
-  passed-legal : n .size ≤ m .size → legalChecks n s m ≡ Passed → Legal n s m
+module _ (n : Netlist) (caps : Capacities) (m : Netlist) where
+  passed-legal : n .size ≤ m .size → legalChecks n caps m ≡ Passed → Legal n caps m
   unfolding legalChecks
   passed-legal whole h =
       let f = simp reflect at h in
@@ -56,7 +57,7 @@ module _ (n : Netlist) (s : ℕ) (m : Netlist) where
         branched = f .1 .1;
       }
 
-  legal-passed : Legal n s m → legalChecks n s m ≡ Passed
+  legal-passed : Legal n caps m → legalChecks n caps m ≡ Passed
   unfolding legalChecks
   legal-passed legal =
       simp reflect (
@@ -79,11 +80,11 @@ module _ (n : Netlist) (s : ℕ) (m : Netlist) where
       )
 
   -- 12 to 17 pass exactly where the mapped netlist is legal
-  pub legal-exactly : n .size ≤ m .size → (legalChecks n s m ≡ Passed) ↔ Legal n s m
+  pub legal-exactly : n .size ≤ m .size → (legalChecks n caps m ≡ Passed) ↔ Legal n caps m
   legal-exactly whole = (passed-legal whole, legal-passed)
 
   -- the buffers of a legal mapped netlist are its records from the source's size on
-  pub buffers-all : IsSource n → Legal n s m → bufferCount m ≡ m .size - n .size
+  pub buffers-all : IsSource n → Legal n caps m → bufferCount m ≡ m .size - n .size
   unfolding bufferCount
   buffers-all source legal =
       subst (λ (size : ℕ). count (isBuffer m) size ≡ m .size - n .size) (add-sub-of-le (legal .whole))
@@ -96,21 +97,21 @@ module _ (n : Netlist) (s : ℕ) (m : Netlist) where
       ))
 
 -- all checks pass exactly where the mapped bytes are a legal netlist of the source bytes, within the sizes
-pub checks-passed : (source : List ℕ) (s : ℕ) (mapped : List ℕ) → (verifyChecks source s mapped ≡ Passed) ↔ Accepted source s mapped
+pub checks-passed : (source : List ℕ) (caps : Capacities) (mapped : List ℕ) → (verifyChecks source caps mapped ≡ Passed) ↔ Accepted source caps mapped
 unfolding verifyChecks mappedChecks
-checks-passed source s mapped = (
+checks-passed source caps mapped = (
   λ e.
       let f = simp (reflect, source-passed) at e in
       record {
-        capacity = f .0 .0;
+        allowed = record { low = f .0 .0 .0; high = f .0 .0 .1 };
         isSource = f .0 .1;
         whole = f .1 .0 .0;
         fits = f .1 .0 .1 .1;
-        legal = legal-exactly (netlist source) s (netlist mapped) (f .1 .0 .1 .0) .0 (f .1 .1);
+        legal = legal-exactly (netlist source) caps (netlist mapped) (f .1 .0 .1 .0) .0 (f .1 .1);
       },
   λ a.
-      simp (reflect, source-passed, legal-exactly (netlist source) s (netlist mapped) (a .legal .whole)) (
-        (a .capacity, a .isSource),
+      simp (reflect, source-passed, legal-exactly (netlist source) caps (netlist mapped) (a .legal .whole)) (
+        ((a .allowed .low, a .allowed .high), a .isSource),
         ((a .whole, (a .legal .whole, a .fits)), a .legal),
       ),
 )
@@ -121,18 +122,18 @@ passed-buffers (Failed number place) n buffers e = (cc, cc)
 
 -- demand 2: the verifier accepts exactly the legal mapped netlists, and answers their number of buffers
 pub accepted-exactly : AcceptedExactly
-accepted-exactly source s mapped buffers = (
+accepted-exactly source caps mapped buffers = (
   λ e.
-      let f = passed-buffers (verifyChecks source s mapped) (bufferCount (netlist mapped)) buffers e in
-      (checks-passed source s mapped .0 (f .0), f .1),
-  λ a. rw (checks-passed source s mapped .1 (a .0), a .1),
+      let f = passed-buffers (verifyChecks source caps mapped) (bufferCount (netlist mapped)) buffers e in
+      (checks-passed source caps mapped .0 (f .0), f .1),
+  λ a. rw (checks-passed source caps mapped .1 (a .0), a .1),
 )
 
 -- what the code has of an accepted call
-module _ (source : List ℕ) (s : ℕ) (mapped : List ℕ) (a : Checked) (e : a ≡ verifyChecks source s mapped) where
+module _ (source : List ℕ) (caps : Capacities) (mapped : List ℕ) (a : Checked) (e : a ≡ verifyChecks source caps mapped) where
   module _ (p : a ≡ Passed) (m n : ℕ) (g : m ≡ recordCount mapped) (h : n ≡ recordCount source) where
-    accepted : Accepted source s mapped
-    accepted = checks-passed source s mapped .0 (sym e ∙ p)
+    accepted : Accepted source caps mapped
+    accepted = checks-passed source caps mapped .0 (sym e ∙ p)
 
     pub source-first : n ≤ m
     source-first = omega (arith, accepted .legal .whole)
@@ -140,9 +141,9 @@ module _ (source : List ℕ) (s : ℕ) (mapped : List ℕ) (a : Checked) (e : a 
     pub buffers-fit : m - n < 2 ^ 32
     buffers-fit = omega (arith, accepted .fits)
 
-    pub verify-passed : Buffers (m - n) ≡ verifyAnswer source s mapped
+    pub verify-passed : Buffers (m - n) ≡ verifyAnswer source caps mapped
     verify-passed =
-        rw (← e, p, buffers-all (netlist source) s (netlist mapped) (accepted .isSource .isSource) (accepted .legal), g, h)
+        rw (← e, p, buffers-all (netlist source) caps (netlist mapped) (accepted .isSource .isSource) (accepted .legal), g, h)
 
-  pub verify-refused : (number place : ℕ) → a ≡ Failed number place → Refused number place ≡ verifyAnswer source s mapped
+  pub verify-refused : (number place : ℕ) → a ≡ Failed number place → Refused number place ≡ verifyAnswer source caps mapped
   verify-refused number place p = rw (← e, p)

@@ -5,6 +5,7 @@ use native.Mathlib.Decide.{decLt}
 use native.Mathlib.Omega.{arith}
 use mathlib.Core.Path.{_≡_, sym, _∙_}
 use mathlib.Core.Logic.{_≢_}
+use Rattle.netlist.specs.declared.Capacities.{Capacities}
 use Rattle.netlist.specs.Kinds.{output, buffer}
 use Rattle.netlist.specs.Records.{Netlist, netlist, depth}
 use Rattle.netlist.specs.Source.{IsSource, OutputsAt}
@@ -14,7 +15,7 @@ use Rattle.verifier.specs.Legal.{Legal}
 use Rattle.verifier.specs.Balance.{AcceptedBalanced}
 use Rattle.verifier.proofs.Accepted.{accepted-exactly}
 
-module _ (n : Netlist) (s : ℕ) (m : Netlist) (source : IsSource n) (legal : Legal n s m) where
+module _ (n : Netlist) (caps : Capacities) (m : Netlist) (source : IsSource n) (legal : Legal n caps m) where
   -- what is no buffer is a source record
   source-record : (k : ℕ) → k < m .size → m .at k .kind ≢ buffer → k < n .size
   source-record k l e =
@@ -49,8 +50,8 @@ module _ (n : Netlist) (s : ℕ) (m : Netlist) (source : IsSource n) (legal : Le
       }
 
 pub accepted-balanced : AcceptedBalanced
-accepted-balanced source s mapped buffers e =
-    let a = accepted-exactly source s mapped buffers .0 e .0 in (
-      path-balanced (netlist source) s (netlist mapped) (a .isSource .isSource) (a .legal),
-      properly-branched (netlist mapped) s (a .legal .branched),
+accepted-balanced source caps mapped buffers e =
+    let a = accepted-exactly source caps mapped buffers .0 e .0 in (
+      path-balanced (netlist source) caps (netlist mapped) (a .isSource .isSource) (a .legal),
+      properly-branched (netlist mapped) caps (a .legal .branched),
     )

@@ -17,8 +17,10 @@ use Rattle.facts.proofs.Bools.{true-false}
 use Rattle.facts.proofs.Reflect.{reflect, unlike-none}
 use Rattle.facts.proofs.Sums.{any-none, any-cong}
 use Rattle.facts.proofs.Loops.{NoneYet, any-more, any-found, any-end}
+use Rattle.netlist.specs.declared.Capacities.{Capacities}
 use Rattle.netlist.specs.declared.Record.{Record}
 use Rattle.netlist.specs.Kinds.{width, slots, unused, mappedLimit, output, buffer, arity}
+use Rattle.netlist.specs.Capacities.{Allowed}
 use Rattle.netlist.specs.Records.{Netlist, netlist, recordCount, recordAt, blank, slot}
 use Rattle.netlist.specs.Source.{IsSource}
 use Rattle.netlist.specs.Checks.{inputChecks}
@@ -153,17 +155,17 @@ module _ (n m : Netlist) (records size : ℕ) (sized : Sized n m records size) w
         driver = λ k l. let g : k < n .size = omega (arith, sized .records) in no-buffer n (sized .source) k g (p .kinds k g);
       }
 
-module _ (n : Netlist) (s : ℕ) (m : Netlist) where
-  pub legal-places : (number place : ℕ) → scan (placeChecks n m) 0 (m .size) ≡ Refused number place → Refused number place ≡ legalChecks n s m
+module _ (n : Netlist) (caps : Capacities) (m : Netlist) where
+  pub legal-places : (number place : ℕ) → scan (placeChecks n m) 0 (m .size) ≡ Refused number place → Refused number place ≡ legalChecks n caps m
   unfolding legalChecks
   legal-places number place h = rw h
 
   module _ (places : scan (placeChecks n m) 0 (m .size) ≡ Passed) where
-    pub legal-traces : (number place : ℕ) → scan (traceCheck n m) 0 (n .size) ≡ Refused number place → Refused number place ≡ legalChecks n s m
+    pub legal-traces : (number place : ℕ) → scan (traceCheck n m) 0 (n .size) ≡ Refused number place → Refused number place ≡ legalChecks n caps m
     unfolding legalChecks
     legal-traces number place h = rw (places, h)
 
-    pub legal-feeds : (a : Checked) → scan (traceCheck n m) 0 (n .size) ≡ Passed → a ≡ scan (feedCheck s m) 0 (m .size) → a ≡ legalChecks n s m
+    pub legal-feeds : (a : Checked) → scan (traceCheck n m) 0 (n .size) ≡ Passed → a ≡ scan (feedCheck caps m) 0 (m .size) → a ≡ legalChecks n caps m
     unfolding legalChecks
     legal-feeds a h e = e ∙ rw (places, h)
 
@@ -178,28 +180,28 @@ module _ (records : ℕ) (bytes : List ℕ) (b : Bool) (f : b ≡ badLength reco
   pub mapped-fits : (m : ℕ) → m ≡ recordCount bytes → m < 2 ^ 32
   mapped-fits m e = omega (arith, within)
 
-module _ (source : List ℕ) (s : ℕ) (mapped : List ℕ) (input : Checked) (e : input ≡ inputChecks s source) where
-  pub verify-input : (number place : ℕ) → input ≡ Refused number place → Refused number place ≡ verifyChecks source s mapped
+module _ (source : List ℕ) (caps : Capacities) (mapped : List ℕ) (input : Checked) (e : input ≡ inputChecks source caps) where
+  pub verify-input : (number place : ℕ) → input ≡ Refused number place → Refused number place ≡ verifyChecks source caps mapped
   unfolding verifyChecks
   verify-input number place f = rw (← e, f)
 
   module _ (p : input ≡ Passed) where
-    pub capacity-fits : s < stop
-    capacity-fits = omega (arith, input-passed s source (sym e ∙ p) .high)
+    pub verify-allowed : Allowed caps
+    verify-allowed = input-passed source caps (sym e ∙ p) .allowed
 
     module _ (records : ℕ) (r : records ≡ recordCount source) (b : Bool) (f : b ≡ badLength records mapped) where
-      pub verify-length : b ≡ true → Refused 11 0 ≡ verifyChecks source s mapped
+      pub verify-length : b ≡ true → Refused 11 0 ≡ verifyChecks source caps mapped
       unfolding verifyChecks mappedChecks
       verify-length t = rw (← e, p, ← r, ← f, t)
 
-      pub verify-legal : (a : Checked) → b ≡ false → a ≡ legalChecks (netlist source) s (netlist mapped) → a ≡ verifyChecks source s mapped
+      pub verify-legal : (a : Checked) → b ≡ false → a ≡ legalChecks (netlist source) caps (netlist mapped) → a ≡ verifyChecks source caps mapped
       unfolding verifyChecks mappedChecks
       verify-legal a t g = g ∙ rw (← e, p, ← r, ← f, t)
 
       pub mapped-sized : (m : ℕ) → b ≡ false → m ≡ recordCount mapped → Sized (netlist source) (netlist mapped) records m
       mapped-sized m t g =
           record {
-            source = input-passed s source (sym e ∙ p) .isSource .isSource;
+            source = input-passed source caps (sym e ∙ p) .isSource .isSource;
             records = r;
             size = g;
             whole = omega (arith, within records mapped b f t);

@@ -18,14 +18,16 @@ use Rattle.facts.proofs.Bools.{true-false}
 use Rattle.facts.proofs.Loops.{NoneYet, any-start, any-more, any-found, any-end, Scanning, scan-start, scan-more, scan-stop, scan-end, scan-cong, scan-onward, scan-early}
 use Rattle.facts.proofs.Reflect.{reflect, scan-passed}
 use Rattle.facts.proofs.Sums.{count-used}
+use Rattle.netlist.specs.declared.Capacities.{Capacities}
 use Rattle.netlist.specs.declared.Record.{Record}
 use Rattle.netlist.specs.Kinds.{slots, buffer, arity}
 use Rattle.netlist.specs.Records.{Netlist, netlist, recordAt, recordCount, names, feeds, slot}
-use Rattle.netlist.specs.Balance.{capacityOf, driverCapacity}
+use Rattle.netlist.specs.Capacities.{driverCapacity, capacityOf, Allowed}
+use Rattle.netlist.proofs.Balance.{capacity-least, capacity-most}
 use Rattle.netlist.proofs.Checks.{arity-slots}
 use Rattle.verifier.specs.Checks.{differs, noBuffer, slotChecks, placeChecks, traceCheck, feedCheck, legalChecks}
-use Rattle.verifier.specs.PrivateWalking.{Sized, PlacesPassed}
-use Rattle.verifier.specs.PrivateFeeding.{stop, more, fedOnce, fedBy, tally, badFanin, bufferChecks, Fed, FedAtMost, Tallied, TalliedIfPassed, capacityAt, countCheck}
+use Rattle.verifier.specs.PrivateWalking.{Sized, PlacesPassed, Walkable}
+use Rattle.verifier.specs.PrivateFeeding.{stop, more, fedOnce, fedBy, tally, badFanin, bufferChecks, Fed, FedAtMost, Tallied, TalliedIfPassed, countCheck}
 use Rattle.verifier.proofs.Checks.{slots-good, slots-passed, kept-bad, kept-slots, placed, placed-driven, legal-places, legal-traces, legal-feeds}
 
 pub feed-full : (counts : List ℕ) (x : ℕ) → stop ≤ getD counts x 0 → counts ≡ fedOnce counts x
@@ -257,53 +259,40 @@ module _ (a right : Checked) (m : Netlist) (k : ℕ) (counts : List ℕ) (c : Ta
   pub tallied-counts : a ≡ Passed → Tallied m k counts
   tallied-counts p = c .tallied p
 
--- 17 by the counts
-module _ (n m : Netlist) (s records size : ℕ) (sized : Sized n m records size) (p : PlacesPassed n m) (below : s < stop) (counts : List ℕ) (t : Tallied m (m .size) counts) where
-  module _ (k : ℕ) (l : k < m .size) where
-    fed : getD counts k 0 ≡ min stop (feeds m k)
-    unfolding feeds
-    fed = ap (λ (l : List ℕ). getD l k 0) (t .counted) ∙ tally-count (length counts) m (m .size) k (omega (arith, t .room))
+-- 17 by the counts, which stop above every capacity
+module _ (caps : Capacities) (m : Netlist) (counts : List ℕ) where
+  count-feed : Allowed caps → Tallied m (m .size) counts → (k : ℕ) → k < m .size → countCheck caps m counts k ≡ feedCheck caps m k
+  unfolding feeds
+  count-feed a t k l = elim (decLt most (feeds m k)) [
+    | yes h ↦ rw (lt-ltb most (getD counts k 0) (omega (arith, fed, capacity-most caps (m .at k .kind) a)), lt-ltb most (feeds m k) h)
+    | no h ↦ (
+        let g : feeds m k ≤ most = omega arith in
+        rw (le-ltb most (getD counts k 0) (omega (arith, fed)), le-ltb most (feeds m k) g))
+  ]
+    where
+      most : ℕ
+      most = capacityOf caps (m .at k .kind)
 
-    -- drivers stand below the source's size, buffers from there on
-    capacity : capacityAt s records k ≡ capacityOf s (m .at k .kind)
-    capacity = elim (decLt k records) [
-      | yes h ↦ rw (lt-ltb k records h, ne-eqb (m .at k .kind) buffer (placed-driven n m records size sized p .driver k h))
-      | no h ↦ (
-          let b : records ≤ k = omega arith in
-          let g : n .size ≤ k = omega (arith, sized .records) in
-          rw (le-ltb k records b, p .buffers k g l))
-    ]
+      fed : getD counts k 0 ≡ min stop (feeds m k)
+      fed = ap (λ (l : List ℕ). getD l k 0) (t .counted) ∙ tally-count (length counts) m (m .size) k (omega (arith, t .room))
 
-    few : capacityAt s records k < stop
-    few = go (ltb k records)
-      where
-        go : (b : Bool) → cond b driverCapacity s < stop
-        go true = omega arith
-        go false = below
-
-    count-feed : countCheck s records counts k ≡ feedCheck s m k
-    count-feed = elim (decLt (capacityAt s records k) (feeds m k)) [
-      | yes h ↦ rw (lt-ltb (capacityAt s records k) (getD counts k 0) (omega (arith, fed, few)), ← capacity, lt-ltb (capacityAt s records k) (feeds m k) h)
-      | no h ↦ (
-          let g : feeds m k ≤ capacityAt s records k = omega arith in
-          rw (le-ltb (capacityAt s records k) (getD counts k 0) (omega (arith, fed)), ← capacity, le-ltb (capacityAt s records k) (feeds m k) g))
-    ]
-
-  counts-feeds : (a : Checked) → a ≡ scan (countCheck s records counts) 0 size → a ≡ scan (feedCheck s m) 0 (m .size)
-  counts-feeds a e = e ∙ ap (scan (countCheck s records counts) 0) (sized .size) ∙ scan-cong (countCheck s records counts) (feedCheck s m) (m .size) count-feed
+  counts-feeds : Allowed caps → Tallied m (m .size) counts → (size : ℕ) → size ≡ m .size → (a : Checked) → a ≡ scan (countCheck caps m counts) 0 size →
+      a ≡ scan (feedCheck caps m) 0 (m .size)
+  counts-feeds allowed t size same a e =
+      e ∙ ap (scan (countCheck caps m counts) 0) same ∙ scan-cong (countCheck caps m counts) (feedCheck caps m) (m .size) (count-feed allowed t)
 
 -- 12 to 17, part by part
 module _ (n m : Netlist) (records size : ℕ) (sized : Sized n m records size) (a : Checked) (counts : List ℕ) where
   pub kept-refused :
-      (s k number place : ℕ) → TalliedIfPassed a (scan (placeChecks n m) 0 (n .size)) m k counts → a ≡ Refused number place →
-      Refused number place ≡ legalChecks n s m
-  kept-refused s k number place c p =
-      legal-places n s m number place
+      (caps : Capacities) (k number place : ℕ) → TalliedIfPassed a (scan (placeChecks n m) 0 (n .size)) m k counts → a ≡ Refused number place →
+      Refused number place ≡ legalChecks n caps m
+  kept-refused caps k number place c p =
+      legal-places n caps m number place
       (scan-early (placeChecks n m) (n .size) (m .size) (omega (arith, sized .records, sized .size, sized .whole)) number place (sym (c .answer) ∙ p))
 
   module _ (c : TalliedIfPassed a (scan (placeChecks n m) 0 (m .size)) m (m .size) counts) where
-    pub added-refused : (s number place : ℕ) → a ≡ Refused number place → Refused number place ≡ legalChecks n s m
-    added-refused s number place p = legal-places n s m number place (sym (c .answer) ∙ p)
+    pub added-refused : (caps : Capacities) (number place : ℕ) → a ≡ Refused number place → Refused number place ≡ legalChecks n caps m
+    added-refused caps number place p = legal-places n caps m number place (sym (c .answer) ∙ p)
 
     module _ (p : a ≡ Passed) where
       pub places-placed : PlacesPassed n m
@@ -313,23 +302,23 @@ module _ (n m : Netlist) (records size : ℕ) (sized : Sized n m records size) (
       counts-room = omega (arith, c .tallied p .room, sized .size)
 
       module _ (traced : Checked) (q : traced ≡ scan (traceCheck n m) 0 (n .size)) where
-        pub traced-refused : (s number place : ℕ) → traced ≡ Refused number place → Refused number place ≡ legalChecks n s m
-        traced-refused s number place f = legal-traces n s m (sym (c .answer) ∙ p) number place (sym q ∙ f)
+        pub traced-refused : (caps : Capacities) (number place : ℕ) → traced ≡ Refused number place → Refused number place ≡ legalChecks n caps m
+        traced-refused caps number place f = legal-traces n caps m (sym (c .answer) ∙ p) number place (sym q ∙ f)
 
         pub feeds-decide :
-            (s : ℕ) (b : Checked) → traced ≡ Passed → s < stop → b ≡ scan (countCheck s records counts) 0 size → b ≡ legalChecks n s m
-        feeds-decide s b f below e =
-            legal-feeds n s m (sym (c .answer) ∙ p) b (sym q ∙ f)
-            (counts-feeds n m s records size sized places-placed below counts (c .tallied p) b e)
+            (caps : Capacities) (b : Checked) → traced ≡ Passed → Allowed caps → b ≡ scan (countCheck caps m counts) 0 size → b ≡ legalChecks n caps m
+        feeds-decide caps b f allowed e =
+            legal-feeds n caps m (sym (c .answer) ∙ p) b (sym q ∙ f)
+            (counts-feeds caps m counts allowed (c .tallied p) size (sized .size) b e)
 
 -- one record more by the counts
-module _ (s n : ℕ) (counts : List ℕ) (size k : ℕ) (i : Scanning (countCheck s n counts) size k) (l : k < size)
-    (f c : ℕ) (g : f ≡ getD counts k 0) (q : c ≡ capacityAt s n k) where
-  pub count-more : f ≤ c → Scanning (countCheck s n counts) size (k + 1)
-  count-more h = scan-more (countCheck s n counts) size k Passed i l (sym (rw (← q, ← g, le-ltb c f h))) refl
+module _ (caps : Capacities) (m : Netlist) (counts : List ℕ) (size k : ℕ) (i : Scanning (countCheck caps m counts) size k) (l : k < size)
+    (f c kind : ℕ) (g : f ≡ getD counts k 0) (h : kind ≡ m .at k .kind) (q : c ≡ capacityOf caps kind) where
+  pub count-more : f ≤ c → Scanning (countCheck caps m counts) size (k + 1)
+  count-more d = scan-more (countCheck caps m counts) size k Passed i l (sym (rw (← h, ← q, ← g, le-ltb c f d))) refl
 
-  pub count-stop : c < f → Refused 17 k ≡ scan (countCheck s n counts) 0 size
-  count-stop h = scan-stop (countCheck s n counts) size k 17 k (Refused 17 k) i l (sym (rw (← q, ← g, lt-ltb c f h))) refl
+  pub count-stop : c < f → Refused 17 k ≡ scan (countCheck caps m counts) 0 size
+  count-stop d = scan-stop (countCheck caps m counts) size k 17 k (Refused 17 k) i l (sym (rw (← h, ← q, ← g, lt-ltb c f d))) refl
 
 -- the largest count of the records from `from` on, below k
 module _ (counts : List ℕ) (from : ℕ) where
@@ -355,16 +344,18 @@ module _ (counts : List ℕ) (from : ℕ) where
     pub most-end : (to : ℕ) → to ≤ k → FedAtMost counts from to most
     most-end to l = record { bound = λ j a b. i .bound j a (omega arith) }
 
--- 17 passes where the largest counts are within capacity
+-- 17 passes where the drivers feed no more than any may, and the buffers no more than theirs
 pub counts-few :
-    (s n size : ℕ) (counts : List ℕ) (drivers buffers : ℕ) → FedAtMost counts 0 n drivers → drivers ≤ driverCapacity →
-    FedAtMost counts n size buffers → buffers ≤ s → Passed ≡ scan (countCheck s n counts) 0 size
-counts-few s n size counts drivers buffers d g b h = sym (scan-passed (countCheck s n counts) size .1 each)
+    (caps : Capacities) (m : Netlist) (n size : ℕ) (counts : List ℕ) (drivers buffers : ℕ) → Allowed caps → Walkable n m → size ≡ m .size →
+    FedAtMost counts 0 n drivers → drivers ≤ driverCapacity → FedAtMost counts n size buffers → buffers ≤ caps .buffer →
+    Passed ≡ scan (countCheck caps m counts) 0 size
+counts-few caps m n size counts drivers buffers a w e d g b h = sym (scan-passed (countCheck caps m counts) size .1 each)
   where
-    each : (k : ℕ) → k < size → countCheck s n counts k ≡ Passed
+    each : (k : ℕ) → k < size → countCheck caps m counts k ≡ Passed
     each k l = elim (decLt k n) [
-      | yes q ↦ rw (lt-ltb k n q, le-ltb driverCapacity (getD counts k 0) (omega (arith, d .bound k (omega arith) q)))
+      | yes q ↦
+          rw (le-ltb (capacityOf caps (m .at k .kind)) (getD counts k 0) (omega (arith, d .bound k (omega arith) q, capacity-least caps (m .at k .kind) a)))
       | no q ↦ (
           let r : n ≤ k = omega arith in
-          rw (le-ltb k n r, le-ltb s (getD counts k 0) (omega (arith, b .bound k r l))))
+          rw (w .buffers k r (omega arith), le-ltb (caps .buffer) (getD counts k 0) (omega (arith, b .bound k r l))))
     ]

@@ -15,14 +15,15 @@ use Rattle.facts.specs.Sums.{sum, count, count₂}
 use Rattle.facts.proofs.Bools.{eqb-same}
 use Rattle.facts.proofs.Reflect.{holds}
 use Rattle.facts.proofs.Sums.{sum-cong, sum-mono, count-cong, count-mono, count₂-mono, double-count, fibres₁, count-some, count-above}
+use Rattle.netlist.specs.declared.Capacities.{Capacities}
 use Rattle.netlist.specs.Kinds.{slots, topLevel, buffer, arity}
 use Rattle.netlist.specs.Records.{Netlist, netlist, used, fanin, names, feeds}
 use Rattle.netlist.specs.Source.{IsSource}
-use Rattle.netlist.specs.Balance.{driverCapacity}
+use Rattle.netlist.specs.Capacities.{capacityOf}
 use Rattle.netlist.specs.Counts.{isBuffer, bufferCount}
 use Rattle.netlist.proofs.Source.{no-buffer}
 use Rattle.netlist.proofs.Balance.{buffer-slot, buffer-named}
-use Rattle.fanout.specs.Nets.{sinkAt, sinks, row, nodesAt, buffersAt, hasTree, treeSize, fewestInAll}
+use Rattle.fanout.specs.Nets.{sinkAt, sinks, row, nodesAt, buffersAt, netHasTree, treeSize, fewestInAll}
 use Rattle.fanout.proofs.Nets.{minimal, minimal-nodes, fewest-sum, row-length, row-at}
 use Rattle.verifier.specs.Legal.{Legal, Traces}
 use Rattle.verifier.specs.Trace.{driver}
@@ -62,7 +63,7 @@ on-net-is : (m : Netlist) (d level x : ℕ) → (onNetAt m d level x ≡ true) �
 on-net-is m d level x =
     simp holds (λ f. record { isBuffer = f .0 .0; ends = f .0 .1; stands = f .1 }, λ h. ((h .isBuffer, h .ends), h .stands))
 
-module _ (n : Netlist) (s : ℕ) (m : Netlist) (source : IsSource n) (legal : Legal n s m) where
+module _ (n : Netlist) (caps : Capacities) (m : Netlist) (source : IsSource n) (legal : Legal n caps m) where
   -- a source record is no buffer
   kept-no-buffer : (k : ℕ) → k < n .size → m .at k .kind ≢ buffer
   kept-no-buffer k h = no-buffer n source k h (legal .kept k h .kind)
@@ -149,21 +150,21 @@ module _ (n : Netlist) (s : ℕ) (m : Netlist) (source : IsSource n) (legal : Le
       (d level : ℕ) →
       d < n .size →
       n .at d .level < level →
-      count₂ (hangs m d (suc level)) slots (m .size) ≤ s * buffersOnAt m d level
+      count₂ (hangs m d (suc level)) slots (m .size) ≤ caps .buffer * buffersOnAt m d level
   unfolding buffersOnAt feeds
   fed d level l above =
       double-count
       (hangs m d (suc level))
       (fanin m)
       (onNetAt m d level)
-      s
+      (caps .buffer)
       slots
       (m .size)
       (m .size)
       (λ i j a b h. (below d level i j a h .named, on (fanin m i j) (below d level i j a h)))
       (λ y a h.
       let b = on-net-is m d level y .0 h .isBuffer in
-      let few : feeds m y ≤ s = rw b at (legal .branched y a) in
+      let few : feeds m y ≤ caps .buffer = rw b at (legal .branched y a) in
       let all = count₂-mono (λ i j. hangs m d (suc level) i j && eqb (fanin m i j) y) (names m y) slots (m .size) (names-there y) in
       omega arith)
     where
@@ -201,7 +202,7 @@ module _ (n : Netlist) (s : ℕ) (m : Netlist) (source : IsSource n) (legal : Le
       d < n .size →
       (k : ℕ) →
       1 ≤ k →
-      buffersOnAt m d (n .at d .level + suc k) + getD (row n d) (suc k) 0 ≤ s * buffersOnAt m d (n .at d .level + k)
+      buffersOnAt m d (n .at d .level + suc k) + getD (row n d) (suc k) 0 ≤ caps .buffer * buffersOnAt m d (n .at d .level + k)
   carries d l k g =
       rw (add-suc (n .at d .level) k)
       (omega (
@@ -212,19 +213,19 @@ module _ (n : Netlist) (s : ℕ) (m : Netlist) (source : IsSource n) (legal : Le
       ))
 
   -- the nodes left at distance 1 are at most the slots that d feeds
-  pub nodes-fed : (d : ℕ) → 0 < s → d < n .size → nodesAt s (row n d) 1 ≤ feeds m d
+  pub nodes-fed : (d : ℕ) → 0 < caps .buffer → d < n .size → nodesAt (caps .buffer) (row n d) 1 ≤ feeds m d
   nodes-fed d p l =
       omega (
         arith,
-        minimal-nodes s (row n d) (λ x. buffersOnAt m d (n .at d .level + x)) p (carries d l),
+        minimal-nodes (caps .buffer) (row n d) (λ x. buffersOnAt m d (n .at d .level + x)) p (carries d l),
         row-le n d 1,
         carried d 1,
         rw (← (add-one (n .at d .level))) at (fed-first d l),
       )
 
   pub at-levels :
-      (d k : ℕ) → 0 < s → d < n .size → 1 ≤ k → buffersAt s (row n d) k ≤ buffersOnAt m d (n .at d .level + k)
-  at-levels d k p l g = minimal s (row n d) (λ x. buffersOnAt m d (n .at d .level + x)) p (carries d l) k g
+      (d k : ℕ) → 0 < caps .buffer → d < n .size → 1 ≤ k → buffersAt (caps .buffer) (row n d) k ≤ buffersOnAt m d (n .at d .level + k)
+  at-levels d k p l g = minimal (caps .buffer) (row n d) (λ x. buffersOnAt m d (n .at d .level + x)) p (carries d l) k g
 
   -- buffers stand from the source's size on
   buffer-place : (x : ℕ) → m .at x .kind ≡ buffer → n .size ≤ x
@@ -257,13 +258,13 @@ module _ (n : Netlist) (s : ℕ) (m : Netlist) (source : IsSource n) (legal : Le
           (λ h. omega arith))
       same k x a false e = rw e
 
-  pub on-nets : (d : ℕ) → 0 < s → d < n .size → treeSize n s d ≤ buffersOn m d
+  pub on-nets : (d : ℕ) → 0 < caps .buffer → d < n .size → treeSize n caps d ≤ buffersOn m d
   on-nets d p l =
       omega (
         arith,
-        fewest-sum s (row n d) topLevel p (rw (row-length n d) (omega arith)),
+        fewest-sum (caps .buffer) (row n d) topLevel p (rw (row-length n d) (omega arith)),
         sum-mono
-            (λ k. buffersAt s (row n d) (suc k))
+            (λ k. buffersAt (caps .buffer) (row n d) (suc k))
             (λ k. buffersOnAt m d (n .at d .level + suc k))
             topLevel
             (λ k g. at-levels d (suc k) p l (omega arith)),
@@ -291,24 +292,24 @@ module _ (n : Netlist) (s : ℕ) (m : Netlist) (source : IsSource n) (legal : Le
       (n .size)
       (λ x a h. driver-place (fanin m x 0) (buffer-named m (legal .named) x a (eqb-true _ buffer h)))
 
-  pub in-all : 0 < s → fewestInAll n s ≤ bufferCount m
+  pub in-all : 0 < caps .buffer → fewestInAll n caps ≤ bufferCount m
   in-all p =
       omega (
         arith,
-        sum-mono (treeSize n s) (buffersOn m) (n .size) (λ d l. on-nets d p l),
+        sum-mono (treeSize n caps) (buffersOn m) (n .size) (λ d l. on-nets d p l),
         nets-sum,
       )
 
-  -- a source record feeds at most as many slots as a driver may
-  pub has-tree : (d : ℕ) → 0 < s → d < n .size → hasTree driverCapacity s (row n d) ≡ true
+  -- a source record feeds at most as many slots as its kind may
+  pub has-tree : (d : ℕ) → 0 < caps .buffer → d < n .size → netHasTree n caps d ≡ true
   has-tree d p l =
-      let one : feeds m d ≤ driverCapacity =
-      rw (ne-eqb (m .at d .kind) buffer (kept-no-buffer d l)) at (legal .branched d (omega (arith, legal .whole))) in
-      le-leb (nodesAt s (row n d) 1) driverCapacity (omega (arith, nodes-fed d p l))
+      let most : feeds m d ≤ capacityOf caps (n .at d .kind) =
+      rw (legal .kept d l .kind) at (legal .branched d (omega (arith, legal .whole))) in
+      le-leb (nodesAt (caps .buffer) (row n d) 1) (capacityOf caps (n .at d .kind)) (omega (arith, nodes-fed d p l))
 
 -- a buffer is on the net of d exactly if its slot, traced back through buffers, ends there
 pub on-net-exactly : OnNetExactly
-on-net-exactly n s m legal d x l =
+on-net-exactly n caps m legal d x l =
     simp holds (
       λ f. (f .0, subst (λ (e : ℕ). Traces m e (fanin m x 0)) (f .1) (driver-traces m (legal .named) (legal .balanced) (fanin m x 0) (named (f .0)))),
       λ t. (t .0, traces-driver m (legal .named) (legal .balanced) d (fanin m x 0) (named (t .0)) (t .1)),
@@ -319,17 +320,17 @@ on-net-exactly n s m legal d x l =
 
 -- demand 3's first half, over netlists
 pub none-fewer : NoneFewer
-none-fewer n s m p source legal =
+none-fewer n caps m p source legal =
     record {
-      trees = λ d l. has-tree n s m source legal d p l;
-      atLevels = λ d k l g. at-levels n s m source legal d k p l g;
-      onNets = λ d l. on-nets n s m source legal d p l;
-      inAll = in-all n s m source legal p;
-      fits = omega (arith, in-all n s m source legal p, buffers-all n s m source legal, legal .whole);
+      trees = λ d l. has-tree n caps m source legal d p l;
+      atLevels = λ d k l g. at-levels n caps m source legal d k p l g;
+      onNets = λ d l. on-nets n caps m source legal d p l;
+      inAll = in-all n caps m source legal p;
+      fits = omega (arith, in-all n caps m source legal p, buffers-all n caps m source legal, legal .whole);
     }
 
 -- and over the bytes that the verifier accepts
 pub none-accepted-fewer : NoneAcceptedFewer
-none-accepted-fewer source s mapped buffers e =
-    let a = accepted-exactly source s mapped buffers .0 e .0 in
-    none-fewer (netlist source) s (netlist mapped) (omega (arith, a .capacity)) (a .isSource .isSource) (a .legal)
+none-accepted-fewer source caps mapped buffers e =
+    let a = accepted-exactly source caps mapped buffers .0 e .0 in
+    none-fewer (netlist source) caps (netlist mapped) (omega (arith, a .allowed .low)) (a .isSource .isSource) (a .legal)

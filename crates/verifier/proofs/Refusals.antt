@@ -15,10 +15,11 @@ use Rattle.facts.specs.Refusals.{rowOf, Fails, _or_, Each, First}
 use Rattle.facts.proofs.Sums.{any-some}
 use Rattle.facts.proofs.Reflect.{reflect, holds, iff-trans, iff-some, less, most, same, unlike, either-is, both-is}
 use Rattle.facts.proofs.Refusals.{InRow, UpTo, Within, After, rows-before, one-row, within-one, within-or, within-before, first-check, first-then, first-after, first-scan, scan-rows, exact}
+use Rattle.netlist.specs.declared.Capacities.{Capacities}
 use Rattle.netlist.specs.declared.Record.{Record}
 use Rattle.netlist.specs.Kinds.{width, slots, unused, topLevel, mappedLimit, output, buffer, arity}
 use Rattle.netlist.specs.Records.{Netlist, netlist, recordCount, blank, slot, fanin, feeds}
-use Rattle.netlist.specs.Balance.{capacityOf}
+use Rattle.netlist.specs.Capacities.{capacityOf}
 use Rattle.netlist.specs.Counts.{bufferCount}
 use Rattle.netlist.proofs.Refusals.{input-first, input-rows}
 use Rattle.verifier.specs.declared.Verified.the-variants.{Buffers, Refused}
@@ -101,23 +102,23 @@ place-first n m k =
     (first-check 14 k (names-are m (m .at k)))
     (first-check 15 k (levels-are m (m .at k))))
 
-module _ (n : Netlist) (s : ℕ) (m : Netlist) where
+module _ (n : Netlist) (caps : Capacities) (m : Netlist) where
   places-row : InRow (rowOf 15) (Each (m .size) (PlaceFails n m))
   places-row = scan-rows (PlaceFails n m) (rowOf 15) 12 15 (m .size) (place-within n m)
 
   traces-row : InRow (rowOf 16) (Each (n .size) (TraceFails n m))
   traces-row = scan-rows (TraceFails n m) (rowOf 16) 16 16 (n .size) (λ k. within-one 16 k _)
 
-  feeds-row : InRow (rowOf 17) (Each (m .size) (FeedFails s m))
-  feeds-row = scan-rows (FeedFails s m) (rowOf 17) 17 17 (m .size) (λ k. within-one 17 k _)
+  feeds-row : InRow (rowOf 17) (Each (m .size) (FeedFails caps m))
+  feeds-row = scan-rows (FeedFails caps m) (rowOf 17) 17 17 (m .size) (λ k. within-one 17 k _)
 
-  later-rows : After (rowOf 15) (Each (n .size) (TraceFails n m) or Each (m .size) (FeedFails s m))
+  later-rows : After (rowOf 15) (Each (n .size) (TraceFails n m) or Each (m .size) (FeedFails caps m))
   later-rows a p = ⊎-elim (λ f. omega (arith, traces-row a p f)) (λ f. omega (arith, feeds-row a p f))
 
-  legal-rows : After (rowOf 11) (LegalFails n s m)
+  legal-rows : After (rowOf 11) (LegalFails n caps m)
   legal-rows a p = ⊎-elim (λ f. omega (arith, places-row a p f)) (λ f. omega (arith, later-rows a p f))
 
-  legal-first : n .size ≤ m .size → First (LegalFails n s m) (legalChecks n s m)
+  legal-first : n .size ≤ m .size → First (LegalFails n caps m) (legalChecks n caps m)
   unfolding legalChecks
   legal-first whole =
       first-after (rows-before (rowOf 15) (λ a p f. omega (arith, places-row a p f)) later-rows)
@@ -126,43 +127,43 @@ module _ (n : Netlist) (s : ℕ) (m : Netlist) where
       first-then (rows-before (rowOf 16) (λ a p f. omega (arith, traces-row a p f)) (λ a p f. omega (arith, feeds-row a p f)))
       (first-scan (traceCheck n m) (TraceFails n m) (rowOf 16) 16 16 (λ k. within-one 16 k _) (n .size)
       (λ k l. first-check 16 k (strays-are n m k whole (placed n m whole e) l)))
-      (first-scan (feedCheck s m) (FeedFails s m) (rowOf 17) 17 17 (λ k. within-one 17 k _) (m .size)
-      (λ k l. first-check 17 k (less (capacityOf s (m .at k .kind)) (feeds m k)))))
+      (first-scan (feedCheck caps m) (FeedFails caps m) (rowOf 17) 17 17 (λ k. within-one 17 k _) (m .size)
+      (λ k l. first-check 17 k (less (capacityOf caps (m .at k .kind)) (feeds m k)))))
 
-module _ (n : Netlist) (s : ℕ) (bytes : List ℕ) where
+module _ (n : Netlist) (caps : Capacities) (bytes : List ℕ) where
   length-row : InRow (rowOf 11) (Fails 11 0 (BadLength (n .size) bytes))
   length-row = one-row 11 0 (BadLength (n .size) bytes)
 
-  mapped-rows : After (rowOf 7) (MappedFails n s bytes)
+  mapped-rows : After (rowOf 7) (MappedFails n caps bytes)
   mapped-rows a p =
-      ⊎-elim (λ f. omega (arith, length-row a p f)) (λ f. omega (arith, legal-rows n s (netlist bytes) a p f))
+      ⊎-elim (λ f. omega (arith, length-row a p f)) (λ f. omega (arith, legal-rows n caps (netlist bytes) a p f))
 
-  mapped-first : First (MappedFails n s bytes) (mappedChecks n s bytes)
+  mapped-first : First (MappedFails n caps bytes) (mappedChecks n caps bytes)
   unfolding mappedChecks
   mapped-first =
-      first-after (rows-before (rowOf 11) (λ a p f. omega (arith, length-row a p f)) (legal-rows n s (netlist bytes)))
+      first-after (rows-before (rowOf 11) (λ a p f. omega (arith, length-row a p f)) (legal-rows n caps (netlist bytes)))
       (first-check 11 0 (length-is (n .size) bytes))
-      (λ e. legal-first n s (netlist bytes) (let f = simp reflect at e in f .1 .0))
+      (λ e. legal-first n caps (netlist bytes) (let f = simp reflect at e in f .1 .0))
 
-pub verify-first : (source : List ℕ) (s : ℕ) (mapped : List ℕ) → First (VerifyFails source s mapped) (verifyChecks source s mapped)
+pub verify-first : (source : List ℕ) (caps : Capacities) (mapped : List ℕ) → First (VerifyFails source caps mapped) (verifyChecks source caps mapped)
 unfolding verifyChecks
-verify-first source s mapped =
-    first-then (rows-before (rowOf 7) (input-rows s source) (mapped-rows (netlist source) s mapped))
-    (input-first s source)
-    (mapped-first (netlist source) s mapped)
+verify-first source caps mapped =
+    first-then (rows-before (rowOf 7) (input-rows source caps) (mapped-rows (netlist source) caps mapped))
+    (input-first source caps)
+    (mapped-first (netlist source) caps mapped)
 
 -- the conditions of 1 to 7 and 11 to 17 stand in the table's rows up to that of 17
-pub verify-rows : (source : List ℕ) (s : ℕ) (mapped : List ℕ) → UpTo (rowOf 17) (VerifyFails source s mapped)
-verify-rows source s mapped a p =
+pub verify-rows : (source : List ℕ) (caps : Capacities) (mapped : List ℕ) → UpTo (rowOf 17) (VerifyFails source caps mapped)
+verify-rows source caps mapped a p =
     let n = netlist source in
     let m = netlist mapped in
     ⊎-elim
-    (λ f. omega (arith, input-rows s source a p f))
+    (λ f. omega (arith, input-rows source caps a p f))
     (⊎-elim
-    (λ f. omega (arith, length-row n s mapped a p f))
+    (λ f. omega (arith, length-row n caps mapped a p f))
     (⊎-elim
-    (λ f. omega (arith, places-row n s m a p f))
-    (⊎-elim (λ f. omega (arith, traces-row n s m a p f)) (λ f. omega (arith, feeds-row n s m a p f)))))
+    (λ f. omega (arith, places-row n caps m a p f))
+    (⊎-elim (λ f. omega (arith, traces-row n caps m a p f)) (λ f. omega (arith, feeds-row n caps m a p f)))))
 
 refused-checked : (a : Checked) (buffers number place : ℕ) → (outcome a (Buffers buffers) Refused ≡ Refused number place) ↔ (a ≡ Failed number place)
 refused-checked Passed buffers number place = (λ e. cc, λ e. cc)
@@ -170,6 +171,6 @@ refused-checked (Failed n p) buffers number place = (λ e. cc, λ e. cc)
 
 -- the verifier refuses exactly by the first of 1 to 7 and 11 to 17 whose condition holds
 pub refused-exactly : RefusedExactly
-refused-exactly source s mapped number place =
-    iff-trans (refused-checked (verifyChecks source s mapped) (bufferCount (netlist mapped)) number place)
-    (exact (verify-first source s mapped) .refused number place)
+refused-exactly source caps mapped number place =
+    iff-trans (refused-checked (verifyChecks source caps mapped) (bufferCount (netlist mapped)) number place)
+    (exact (verify-first source caps mapped) .refused number place)

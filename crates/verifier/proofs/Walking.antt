@@ -17,8 +17,10 @@ use Rattle.facts.specs.Sums.{any}
 use Rattle.facts.proofs.Reflect.{reflect}
 use Rattle.facts.proofs.Sums.{any-none}
 use Rattle.facts.proofs.Loops.{NoneYet, any-start, any-more, any-found, any-end, Scanning, scan-start, scan-more, scan-stop, scan-end}
+use Rattle.netlist.specs.declared.Capacities.{Capacities}
 use Rattle.netlist.specs.declared.Record.{Record}
 use Rattle.netlist.specs.Kinds.{buffer, arity}
+use Rattle.netlist.specs.Capacities.{Allowed}
 use Rattle.netlist.specs.Records.{Netlist, netlist, recordAt, recordCount, slot, fanin}
 use Rattle.netlist.proofs.Balance.{buffer-named, buffer-level}
 use Rattle.verifier.specs.Trace.{walk, driver}
@@ -54,11 +56,11 @@ known-none m entries l =
 
 -- with new counts and drivers, an entry for each record, the checks may start
 pub fresh :
-    (n m : Netlist) (first all entries s : ℕ) → Sized n m first all → s < stop → all ≤ entries →
-    Sized n m first all × ((s < stop) × (Tallied m 0 (replicate entries 0) × Known m (replicate entries unknown)))
-fresh n m first all entries s sized below l =
+    (n m : Netlist) (first all entries : ℕ) (caps : Capacities) → Sized n m first all → Allowed caps → all ≤ entries →
+    Sized n m first all × (Allowed caps × (Tallied m 0 (replicate entries 0) × Known m (replicate entries unknown)))
+fresh n m first all entries caps sized allowed l =
     let h : m .size ≤ entries = omega (arith, sized .size) in
-    (sized, (below, (tallied-start m entries h, known-none m entries h)))
+    (sized, (allowed, (tallied-start m entries h, known-none m entries h)))
 
 -- what is known is right
 known-right : (n : ℕ) (drivers : List ℕ) (x : ℕ) (m : Netlist) (d : ℕ) → Known m drivers → Driven n m → x < m .size → d ≡ knownDriver n drivers x → d ≢ unknown → d ≡ driver m x

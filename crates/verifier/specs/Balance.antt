@@ -2,6 +2,7 @@
 use Prim.Native.Nat.{ℕ}
 use mathlib.Core.Path.{_≡_}
 use mathlib.Core.List.{List}
+use Rattle.netlist.specs.declared.Capacities.{Capacities}
 use Rattle.netlist.specs.Records.{netlist}
 use Rattle.netlist.specs.Balance.{PathBalanced, ProperlyBranched}
 use Rattle.verifier.specs.declared.Verified.the-variants.{Buffers}
@@ -10,6 +11,6 @@ use Rattle.verifier.specs.Checks.{verifyAnswer}
 -- of every netlist that the verifier accepts
 abbrev pub AcceptedBalanced : Type 0
 AcceptedBalanced =
-    (source : List ℕ) (s : ℕ) (mapped : List ℕ) (buffers : ℕ) →
-    verifyAnswer source s mapped ≡ Buffers buffers →
-    PathBalanced (netlist mapped) × ProperlyBranched s (netlist mapped)
+    (source : List ℕ) (caps : Capacities) (mapped : List ℕ) (buffers : ℕ) →
+    verifyAnswer source caps mapped ≡ Buffers buffers →
+    PathBalanced (netlist mapped) × ProperlyBranched caps (netlist mapped)

@@ -6,12 +6,13 @@ use lib.Dec.{ltb, leb, eqb}
 use Rattle.facts.specs.declared.Checked.{Checked}
 use Rattle.facts.specs.Checks.{check, _andThen_, outcome, scan}
 use Rattle.facts.specs.Sums.{any}
+use Rattle.netlist.specs.declared.Capacities.{Capacities}
 use Rattle.netlist.specs.declared.Record.{Record}
 use Rattle.netlist.specs.Kinds.{slots, topLevel, mappedLimit, output, buffer, arity}
 use Rattle.netlist.specs.Records.{Netlist, netlist, recordCount, blank, slot, feeds}
 use Rattle.netlist.specs.Counts.{bufferCount}
 use Rattle.netlist.specs.Checks.{ragged, inputChecks}
-use Rattle.netlist.specs.Balance.{capacityOf}
+use Rattle.netlist.specs.Capacities.{capacityOf}
 use Rattle.verifier.specs.declared.Verified.{Verified}
 use Rattle.verifier.specs.declared.Verified.the-variants.{Buffers, Refused}
 use Rattle.verifier.specs.Trace.{driver}
@@ -50,8 +51,8 @@ abbrev pub strays : Netlist → Record → Record → ℕ → Bool
 strays m a r j = not (eqb (driver m (slot r j)) (slot a j))
 
 -- 17: record k feeds too many slots
-abbrev pub overfed : ℕ → Netlist → ℕ → Bool
-overfed s m k = ltb (capacityOf s (m .at k .kind)) (feeds m k)
+abbrev pub overfed : Capacities → Netlist → ℕ → Bool
+overfed caps m k = ltb (capacityOf caps (m .at k .kind)) (feeds m k)
 
 -- 12 of record k, if it stands below the source's size
 abbrev pub changed : Netlist → ℕ → Record → Bool
@@ -79,27 +80,27 @@ abbrev pub traceCheck : Netlist → Netlist → ℕ → Checked
 traceCheck n m k = check 16 k (any (strays m (n .at k) (m .at k)) (arity (n .at k .kind)))
 
 -- 17 of record k
-abbrev pub feedCheck : ℕ → Netlist → ℕ → Checked
-feedCheck s m k = check 17 k (overfed s m k)
+abbrev pub feedCheck : Capacities → Netlist → ℕ → Checked
+feedCheck caps m k = check 17 k (overfed caps m k)
 
 -- 12 to 17
-unfoldable pub legalChecks : Netlist → ℕ → Netlist → Checked
-legalChecks n s m =
+unfoldable pub legalChecks : Netlist → Capacities → Netlist → Checked
+legalChecks n caps m =
     scan (placeChecks n m) 0 (m .size)
     andThen scan (traceCheck n m) 0 (n .size)
-    andThen scan (feedCheck s m) 0 (m .size)
+    andThen scan (feedCheck caps m) 0 (m .size)
 
 -- 11 to 17
-unfoldable pub mappedChecks : Netlist → ℕ → List ℕ → Checked
-mappedChecks n s bytes = check 11 0 (badLength (n .size) bytes) andThen legalChecks n s (netlist bytes)
+unfoldable pub mappedChecks : Netlist → Capacities → List ℕ → Checked
+mappedChecks n caps bytes = check 11 0 (badLength (n .size) bytes) andThen legalChecks n caps (netlist bytes)
 
 -- 1 to 7, then 11 to 17
-unfoldable pub verifyChecks : List ℕ → ℕ → List ℕ → Checked
-verifyChecks source s mapped = inputChecks s source andThen mappedChecks (netlist source) s mapped
+unfoldable pub verifyChecks : List ℕ → Capacities → List ℕ → Checked
+verifyChecks source caps mapped = inputChecks source caps andThen mappedChecks (netlist source) caps mapped
 
 -- the verifier's answer
-abbrev pub verifyAnswer : List ℕ → ℕ → List ℕ → Verified
-verifyAnswer source s mapped = outcome (verifyChecks source s mapped) (Buffers (bufferCount (netlist mapped))) Refused
+abbrev pub verifyAnswer : List ℕ → Capacities → List ℕ → Verified
+verifyAnswer source caps mapped = outcome (verifyChecks source caps mapped) (Buffers (bufferCount (netlist mapped))) Refused
 
 -- the numbers of an answer (specification 4.3): number, place, buffers
 unfoldable pub verifiedNumbers : Verified → List ℕ

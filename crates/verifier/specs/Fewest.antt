@@ -6,12 +6,12 @@ use mathlib.Core.Logic.{_↔_}
 use mathlib.Core.List.{List}
 use lib.Dec.{eqb}
 use Rattle.facts.specs.Sums.{count}
+use Rattle.netlist.specs.declared.Capacities.{Capacities}
 use Rattle.netlist.specs.Kinds.{buffer}
 use Rattle.netlist.specs.Records.{Netlist, netlist, fanin}
 use Rattle.netlist.specs.Source.{IsSource}
-use Rattle.netlist.specs.Balance.{driverCapacity}
 use Rattle.netlist.specs.Counts.{isBuffer, bufferCount}
-use Rattle.fanout.specs.Nets.{row, buffersAt, hasTree, treeSize, fewestInAll}
+use Rattle.fanout.specs.Nets.{row, buffersAt, netHasTree, treeSize, fewestInAll}
 use Rattle.verifier.specs.declared.Verified.the-variants.{Buffers}
 use Rattle.verifier.specs.Legal.{Legal, Traces}
 use Rattle.verifier.specs.Trace.{driver}
@@ -35,28 +35,28 @@ buffersOnAt m d level = count (onNetAt m d level) (m .size)
 -- in a legal mapped netlist that is the trace of specification 2.3
 abbrev pub OnNetExactly : Type 0
 OnNetExactly =
-    (n : Netlist) (s : ℕ) (m : Netlist) → Legal n s m → (d x : ℕ) → x < m .size →
+    (n : Netlist) (caps : Capacities) (m : Netlist) → Legal n caps m → (d x : ℕ) → x < m .size →
     (onNet m d x ≡ true) ↔ ((m .at x .kind ≡ buffer) × Traces m d (fanin m x 0))
 
--- the source n's nets have trees for splitters of capacity s, and m has at least the fewest buffers of each
-pub record NoFewer (n : Netlist) (s : ℕ) (m : Netlist) : Type 0 where
-  pub trees : (d : ℕ) → d < n .size → hasTree driverCapacity s (row n d) ≡ true
-  pub atLevels : (d k : ℕ) → d < n .size → 1 ≤ k → buffersAt s (row n d) k ≤ buffersOnAt m d (n .at d .level + k)
-  pub onNets : (d : ℕ) → d < n .size → treeSize n s d ≤ buffersOn m d
-  pub inAll : fewestInAll n s ≤ bufferCount m
+-- the source n's nets have trees for the capacities, and m has at least the fewest buffers of each
+pub record NoFewer (n : Netlist) (caps : Capacities) (m : Netlist) : Type 0 where
+  pub trees : (d : ℕ) → d < n .size → netHasTree n caps d ≡ true
+  pub atLevels : (d k : ℕ) → d < n .size → 1 ≤ k → buffersAt (caps .buffer) (row n d) k ≤ buffersOnAt m d (n .at d .level + k)
+  pub onNets : (d : ℕ) → d < n .size → treeSize n caps d ≤ buffersOn m d
+  pub inAll : fewestInAll n caps ≤ bufferCount m
   -- a netlist with the fewest buffers on every net has no more records
-  pub fits : n .size + fewestInAll n s ≤ m .size
+  pub fits : n .size + fewestInAll n caps ≤ m .size
 
 -- of every legal mapped netlist
 abbrev pub NoneFewer : Type 0
-NoneFewer = (n : Netlist) (s : ℕ) (m : Netlist) → 0 < s → IsSource n → Legal n s m → NoFewer n s m
+NoneFewer = (n : Netlist) (caps : Capacities) (m : Netlist) → 0 < caps .buffer → IsSource n → Legal n caps m → NoFewer n caps m
 
 -- of every netlist that the verifier accepts
 abbrev pub NoneAcceptedFewer : Type 0
 NoneAcceptedFewer =
-    (source : List ℕ) (s : ℕ) (mapped : List ℕ) (buffers : ℕ) →
-    verifyAnswer source s mapped ≡ Buffers buffers →
-    NoFewer (netlist source) s (netlist mapped)
+    (source : List ℕ) (caps : Capacities) (mapped : List ℕ) (buffers : ℕ) →
+    verifyAnswer source caps mapped ≡ Buffers buffers →
+    NoFewer (netlist source) caps (netlist mapped)
 
 -- m has no more buffers than other: in all, on each net of the source n, and at each level of each net
 pub record NoMore (n m other : Netlist) : Type 0 where
@@ -67,6 +67,6 @@ pub record NoMore (n m other : Netlist) : Type 0 where
 -- a legal netlist with the fewest buffers in all has no more than any legal one, anywhere
 abbrev pub LeastEverywhere : Type 0
 LeastEverywhere =
-    (n : Netlist) (s : ℕ) (m other : Netlist) → 0 < s → IsSource n → Legal n s m → Legal n s other →
-    bufferCount m ≤ fewestInAll n s →
+    (n : Netlist) (caps : Capacities) (m other : Netlist) → 0 < caps .buffer → IsSource n → Legal n caps m → Legal n caps other →
+    bufferCount m ≤ fewestInAll n caps →
     NoMore n m other

@@ -1,11 +1,13 @@
--- Specification 2.3 (Lee, Riener, De Micheli, section 3): what a legal mapped netlist m of a source n is, for splitters of capacity s.
+-- Specification 2.3 (Lee, Riener, De Micheli, section 3): what a legal mapped netlist m of a source n is, for the capacities of specification 2.2.
 use Prim.Native.Nat.{ℕ, _≤_, _<_}
 use mathlib.Core.Path.{_≡_}
 use mathlib.Core.Logic.{_≢_}
+use Rattle.netlist.specs.declared.Capacities.{Capacities}
 use Rattle.netlist.specs.declared.Record.{Record}
 use Rattle.netlist.specs.Kinds.{slots, unused, topLevel, output, buffer, arity}
 use Rattle.netlist.specs.Records.{Netlist, slot, fanin, feeds}
-use Rattle.netlist.specs.Balance.{capacityOf, Named, Balanced}
+use Rattle.netlist.specs.Capacities.{capacityOf}
+use Rattle.netlist.specs.Balance.{Named, Balanced}
 
 -- record b is a outside a's used slots
 pub record Kept (a b : Record) : Type 0 where
@@ -28,7 +30,7 @@ pub data Traces (m : Netlist) (d : ℕ) : ℕ → Type 0 where
   back : {x : ℕ} → m .at x .kind ≡ buffer → Traces m d (fanin m x 0) → Traces m d x
 
 -- m is a legal mapped netlist of the source n
-pub record Legal (n : Netlist) (s : ℕ) (m : Netlist) : Type 0 where
+pub record Legal (n : Netlist) (caps : Capacities) (m : Netlist) : Type 0 where
   -- every source record stands at its old index
   pub whole : n .size ≤ m .size
   pub kept : (k : ℕ) → k < n .size → Kept (n .at k) (m .at k)
@@ -41,4 +43,4 @@ pub record Legal (n : Netlist) (s : ℕ) (m : Netlist) : Type 0 where
   -- each slot of a source record, traced back, ends at the fanin that the source names
   pub traced : (k j : ℕ) → k < n .size → j < arity (n .at k .kind) → Traces m (fanin n k j) (fanin m k j)
   -- nothing feeds more slots than it may
-  pub branched : (k : ℕ) → k < m .size → feeds m k ≤ capacityOf s (m .at k .kind)
+  pub branched : (k : ℕ) → k < m .size → feeds m k ≤ capacityOf caps (m .at k .kind)

@@ -9,10 +9,11 @@ use Rattle.facts.specs.declared.Checked.{Checked}
 use Rattle.facts.specs.declared.Checked.the-variants.{Passed}
 use Rattle.facts.specs.Checks.{check, _andThen_}
 use Rattle.facts.specs.Sums.{any}
+use Rattle.netlist.specs.declared.Capacities.{Capacities}
 use Rattle.netlist.specs.declared.Record.{Record}
 use Rattle.netlist.specs.Kinds.{arity}
 use Rattle.netlist.specs.Records.{Netlist, slot}
-use Rattle.netlist.specs.Balance.{driverCapacity}
+use Rattle.netlist.specs.Capacities.{capacityOf}
 use Rattle.verifier.specs.Checks.{noBuffer, badName, notOneLower, slotChecks}
 
 -- where a count stops: one above the largest capacity
@@ -60,13 +61,9 @@ pub record TalliedIfPassed (a right : Checked) (m : Netlist) (k : ℕ) (counts :
   pub answer : a ≡ right
   pub tallied : a ≡ Passed → Tallied m k counts
 
--- the most slots that record k may feed, where the buffers are the records from n on
-abbrev pub capacityAt : ℕ → ℕ → ℕ → ℕ
-capacityAt s n k = cond (ltb k n) driverCapacity s
-
 -- 17 of record k, by the counts
-abbrev pub countCheck : ℕ → ℕ → List ℕ → ℕ → Checked
-countCheck s n counts k = check 17 k (ltb (capacityAt s n k) (getD counts k 0))
+abbrev pub countCheck : Capacities → Netlist → List ℕ → ℕ → Checked
+countCheck caps m counts k = check 17 k (ltb (capacityOf caps (m .at k .kind)) (getD counts k 0))
 
 -- none of the records from `from` on, below `to`, feeds more slots than `most`, by the counts
 pub record FedAtMost (counts : List ℕ) (from to most : ℕ) : Type 0 where

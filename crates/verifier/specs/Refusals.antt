@@ -4,11 +4,12 @@ use mathlib.Core.Path.{_≡_}
 use mathlib.Core.Logic.{_⊎_, _↔_, _≢_}
 use mathlib.Core.List.{List}
 use Rattle.facts.specs.Refusals.{Conditions, Fails, _or_, Each, FirstAt}
+use Rattle.netlist.specs.declared.Capacities.{Capacities}
 use Rattle.netlist.specs.declared.Record.{Record}
 use Rattle.netlist.specs.Kinds.{slots, unused, topLevel, mappedLimit, output, buffer, arity}
 use Rattle.netlist.specs.Records.{Netlist, netlist, recordCount, slot, fanin, feeds}
 use Rattle.netlist.specs.Refusals.{Ragged, InputFails}
-use Rattle.netlist.specs.Balance.{capacityOf}
+use Rattle.netlist.specs.Capacities.{capacityOf}
 use Rattle.verifier.specs.declared.Verified.the-variants.{Refused}
 use Rattle.verifier.specs.Legal.{Traces}
 use Rattle.verifier.specs.Checks.{verifyAnswer}
@@ -50,8 +51,8 @@ Strays n m k =
     (j : ℕ) × (j < arity (n .at k .kind)) × ((d : ℕ) × Traces m d (fanin m k j) × (d ≢ fanin n k j))
 
 -- 17: record k feeds too many slots
-abbrev pub Overfed : ℕ → Netlist → ℕ → Type 0
-Overfed s m k = capacityOf s (m .at k .kind) < feeds m k
+abbrev pub Overfed : Capacities → Netlist → ℕ → Type 0
+Overfed caps m k = capacityOf caps (m .at k .kind) < feeds m k
 
 -- 12 and 13, and 14 and 15, of record k
 abbrev pub KeepFails : Netlist → Netlist → ℕ → Conditions
@@ -68,24 +69,24 @@ PlaceFails n m k = KeepFails n m k or SlotsFail m k
 abbrev pub TraceFails : Netlist → Netlist → ℕ → Conditions
 TraceFails n m k = Fails 16 k (Strays n m k)
 
-abbrev pub FeedFails : ℕ → Netlist → ℕ → Conditions
-FeedFails s m k = Fails 17 k (Overfed s m k)
+abbrev pub FeedFails : Capacities → Netlist → ℕ → Conditions
+FeedFails caps m k = Fails 17 k (Overfed caps m k)
 
 -- 12 to 17
-abbrev pub LegalFails : Netlist → ℕ → Netlist → Conditions
-LegalFails n s m =
-    Each (m .size) (PlaceFails n m) or (Each (n .size) (TraceFails n m) or Each (m .size) (FeedFails s m))
+abbrev pub LegalFails : Netlist → Capacities → Netlist → Conditions
+LegalFails n caps m =
+    Each (m .size) (PlaceFails n m) or (Each (n .size) (TraceFails n m) or Each (m .size) (FeedFails caps m))
 
 -- 11 to 17
-abbrev pub MappedFails : Netlist → ℕ → List ℕ → Conditions
-MappedFails n s bytes = Fails 11 0 (BadLength (n .size) bytes) or LegalFails n s (netlist bytes)
+abbrev pub MappedFails : Netlist → Capacities → List ℕ → Conditions
+MappedFails n caps bytes = Fails 11 0 (BadLength (n .size) bytes) or LegalFails n caps (netlist bytes)
 
 -- 1 to 7, then 11 to 17
-abbrev pub VerifyFails : List ℕ → ℕ → List ℕ → Conditions
-VerifyFails source s mapped = InputFails s source or MappedFails (netlist source) s mapped
+abbrev pub VerifyFails : List ℕ → Capacities → List ℕ → Conditions
+VerifyFails source caps mapped = InputFails source caps or MappedFails (netlist source) caps mapped
 
 -- the verifier refuses exactly by the first of 1 to 7 and 11 to 17 whose condition holds
 abbrev pub RefusedExactly : Type 0
 RefusedExactly =
-    (source : List ℕ) (s : ℕ) (mapped : List ℕ) (number place : ℕ) →
-    (verifyAnswer source s mapped ≡ Refused number place) ↔ FirstAt (VerifyFails source s mapped) number place
+    (source : List ℕ) (caps : Capacities) (mapped : List ℕ) (number place : ℕ) →
+    (verifyAnswer source caps mapped ≡ Refused number place) ↔ FirstAt (VerifyFails source caps mapped) number place

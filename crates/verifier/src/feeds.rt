@@ -3,8 +3,12 @@ ghost use mathlib.Core.Path.{_≡_};
 ghost use Prim.Native.Nat.{_<_, _≤_};
 ghost use lib.ListN.{length};
 ghost use Rattle.facts.specs.Checks.{scan};
+ghost use Rattle.netlist.specs.Capacities.{Allowed};
+ghost use Rattle.netlist.specs.Records.{netlist, recordCount};
+ghost use Rattle.verifier.specs.PrivateWalking.{Walkable};
 ghost use Rattle.verifier.specs.PrivateFeeding.{countCheck, fedOnce, FedAtMost};
 use facts::Checked;
+use netlist::Capacities;
 use netlist::DRIVER_CAPACITY;
 
 // Where a count of check 17 stops: one above the largest capacity.
@@ -39,14 +43,14 @@ fn most_fed(counts: &[u8], from: u32, to: u32) -> u8
 }
 
 // Check 17 of the first m records, rising, by the counts.
-fn first_overfed(counts: &[u8], capacity: u32, n: u32, m: u32) -> Checked
+fn first_overfed(capacities: Capacities, mapped: &[u8], counts: &[u8], m: u32) -> Checked
     requires { ⌜ m ≤ length (now counts) ⌝ }
-    ensures { λ a. ⌜ a ≡ scan (countCheck capacity n (now (counts .entry))) 0 m ⌝ }
+    ensures { λ a. ⌜ a ≡ scan (countCheck capacities (netlist (now (mapped .entry))) (now (counts .entry))) 0 m ⌝ }
 {
     let mut k: u32 = 0;
     while k < m {
         let fed = facts::wide(counts[k as usize]);
-        let most = if k < n { DRIVER_CAPACITY } else { capacity };
+        let most = netlist::capacity_of(capacities, netlist::kind_at(mapped, k as usize));
         if most < fed as u32 {
             return Checked::Refused(17, k);
         }
@@ -55,16 +59,24 @@ fn first_overfed(counts: &[u8], capacity: u32, n: u32, m: u32) -> Checked
     Checked::Passed
 }
 
-// Check 17 of the first m records by the largest counts: which record comes first is asked only where one feeds too many.
-pub(crate) fn check_counts(counts: &[u8], capacity: u32, n: u32, m: u32) -> Checked
-    requires { ⌜ n ≤ m ⌝ }
+// Check 17 of the first m records by the largest counts: all drivers are held to what any may feed, and which record feeds too many is asked only where a count is larger.
+pub(crate) fn check_counts(
+    capacities: Capacities,
+    mapped: &[u8],
+    counts: &[u8],
+    n: u32,
+    m: u32,
+) -> Checked
+    requires { ⌜ Allowed capacities ⌝ }
+    requires { ⌜ Walkable n (netlist (now mapped)) ⌝ }
+    requires { ⌜ (n ≤ m) × (m ≡ recordCount (now mapped)) ⌝ }
     requires { ⌜ m ≤ length (now counts) ⌝ }
-    ensures { λ a. ⌜ a ≡ scan (countCheck capacity n (now (counts .entry))) 0 m ⌝ }
+    ensures { λ a. ⌜ a ≡ scan (countCheck capacities (netlist (now (mapped .entry))) (now (counts .entry))) 0 m ⌝ }
 {
     if most_fed(counts, 0, n) as u32 <= DRIVER_CAPACITY {
-        if most_fed(counts, n, m) as u32 <= capacity {
+        if most_fed(counts, n, m) as u32 <= capacities.buffer {
             return Checked::Passed;
         }
     }
-    first_overfed(counts, capacity, n, m)
+    first_overfed(capacities, mapped, counts, m)
 }

@@ -1,11 +1,12 @@
-// The verifier (specification 4.3): whether a mapped netlist is legal for a source and a capacity (checks 11 to 17).
+// The verifier (specification 4.3): whether a mapped netlist is legal for a source and capacities (checks 11 to 17).
 ghost use mathlib.Core.Path.{_≡_};
-ghost use Prim.Native.Nat.{_<_};
+ghost use Rattle.netlist.specs.Capacities.{Allowed};
 ghost use Rattle.netlist.specs.Records.{netlist};
 ghost use Rattle.verifier.specs.PrivateWalking.{Sized, Known};
-ghost use Rattle.verifier.specs.PrivateFeeding.{stop, Tallied};
+ghost use Rattle.verifier.specs.PrivateFeeding.{Tallied};
 ghost use Rattle.verifier.specs.Checks.{badLength, legalChecks, verifyChecks, verifyAnswer};
 use facts::Checked;
+use netlist::Capacities;
 use netlist::record_count;
 use traces::UNKNOWN;
 
@@ -28,7 +29,7 @@ pub enum Verified {
 // Checks 12 to 17, with counts that are all 0 and drivers of which none is known.
 fn check_with(
     source: &[u8],
-    capacity: u32,
+    capacities: Capacities,
     mapped: &[u8],
     n: u32,
     m: u32,
@@ -36,10 +37,10 @@ fn check_with(
     drivers: &mut [u16],
 ) -> Checked
     requires { ⌜ Sized (netlist (now source)) (netlist (now mapped)) n m ⌝ }
-    requires { ⌜ capacity < stop ⌝ }
+    requires { ⌜ Allowed capacities ⌝ }
     requires { ⌜ Tallied (netlist (now mapped)) 0 (now counts) ⌝ }
     requires { ⌜ Known (netlist (now mapped)) (now drivers) ⌝ }
-    ensures { λ a. ⌜ a ≡ legalChecks (netlist (now (source .entry))) capacity (netlist (now (mapped .entry))) ⌝ }
+    ensures { λ a. ⌜ a ≡ legalChecks (netlist (now (source .entry))) capacities (netlist (now (mapped .entry))) ⌝ }
 {
     let kept = places::check_records(source, mapped, n, counts);
     match kept {
@@ -57,7 +58,7 @@ fn check_with(
     }
     let traced = traces::check_traces(source, mapped, n, m, drivers);
     match traced {
-        Checked::Passed => feeds::check_counts(counts, capacity, n, m),
+        Checked::Passed => feeds::check_counts(capacities, mapped, counts, n, m),
         Checked::Refused(number, place) => Checked::Refused(number, place),
     }
 }
@@ -77,26 +78,26 @@ fn bad_length(records: usize, bytes: &[u8]) -> bool
 }
 
 // Checks 12 to 17. A netlist of few records takes short arrays, which are sooner cleared.
-fn check_legal(source: &[u8], capacity: u32, mapped: &[u8], n: u32, m: u32) -> Checked
+fn check_legal(source: &[u8], capacities: Capacities, mapped: &[u8], n: u32, m: u32) -> Checked
     requires { ⌜ Sized (netlist (now source)) (netlist (now mapped)) n m ⌝ }
-    requires { ⌜ capacity < stop ⌝ }
-    ensures { λ a. ⌜ a ≡ legalChecks (netlist (now (source .entry))) capacity (netlist (now (mapped .entry))) ⌝ }
+    requires { ⌜ Allowed capacities ⌝ }
+    ensures { λ a. ⌜ a ≡ legalChecks (netlist (now (source .entry))) capacities (netlist (now (mapped .entry))) ⌝ }
 {
     if m as usize <= SMALL {
         let mut counts = [0u8; SMALL];
         let mut drivers = [UNKNOWN; SMALL];
-        return check_with(source, capacity, mapped, n, m, &mut counts, &mut drivers);
+        return check_with(source, capacities, mapped, n, m, &mut counts, &mut drivers);
     }
     let mut counts = [0u8; RECORDS];
     let mut drivers = [UNKNOWN; RECORDS];
-    check_with(source, capacity, mapped, n, m, &mut counts, &mut drivers)
+    check_with(source, capacities, mapped, n, m, &mut counts, &mut drivers)
 }
 
 // What every call with a mapped netlist checks first: 1 to 7, then 11 to 17.
-pub fn check_mapping(source: &[u8], capacity: u32, mapped: &[u8]) -> Checked
-    ensures { λ a. ⌜ a ≡ verifyChecks (now (source .entry)) capacity (now (mapped .entry)) ⌝ }
+pub fn check_mapping(source: &[u8], capacities: Capacities, mapped: &[u8]) -> Checked
+    ensures { λ a. ⌜ a ≡ verifyChecks (now (source .entry)) capacities (now (mapped .entry)) ⌝ }
 {
-    let input = netlist::check_input(capacity, source);
+    let input = netlist::check_input(source, capacities);
     match input {
         Checked::Passed => {}
         Checked::Refused(number, place) => {
@@ -109,7 +110,7 @@ pub fn check_mapping(source: &[u8], capacity: u32, mapped: &[u8]) -> Checked
     }
     check_legal(
         source,
-        capacity,
+        capacities,
         mapped,
         n as u32,
         record_count(mapped) as u32,
@@ -117,10 +118,10 @@ pub fn check_mapping(source: &[u8], capacity: u32, mapped: &[u8]) -> Checked
 }
 
 // The verifier: checks 1 to 7, then 11 to 17; a legal mapped netlist's buffers are all its records from the source's size on.
-pub fn verify(source: &[u8], capacity: u32, mapped: &[u8]) -> Verified
-    ensures { λ v. ⌜ v ≡ verifyAnswer (now (source .entry)) capacity (now (mapped .entry)) ⌝ }
+pub fn verify(source: &[u8], capacities: Capacities, mapped: &[u8]) -> Verified
+    ensures { λ v. ⌜ v ≡ verifyAnswer (now (source .entry)) capacities (now (mapped .entry)) ⌝ }
 {
-    let checked = check_mapping(source, capacity, mapped);
+    let checked = check_mapping(source, capacities, mapped);
     match checked {
         Checked::Passed => Verified::Buffers((record_count(mapped) - record_count(source)) as u32),
         Checked::Refused(number, place) => Verified::Refused(number, place),

@@ -10,6 +10,12 @@ fill-requires c κs = search needs
 walk-requires : tie.Need-walk-requires
 walk-requires c κs = search input-walkable
 
+kind-at-requires : tie.Need-kind-at-requires
+kind-at-requires c κs = search needs
+
+capacity-of-requires : tie.Need-capacity-of-requires
+capacity-of-requires c κs = search needs
+
 returns : tie.Need-returns
 returns c = search counted-tree
 
@@ -17,4 +23,6 @@ returns-2 : tie.Need-returns-2
 returns-2 c = search counted-none
 
 pub count-driver-spec : {M : Type 1} → statement M
-count-driver-spec = tie.close (tie.spec fill-requires walk-requires returns returns-2)
+count-driver-spec =
+    tie.close
+    (tie.spec fill-requires walk-requires kind-at-requires capacity-of-requires returns returns-2)

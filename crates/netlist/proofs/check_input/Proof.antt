@@ -1,21 +1,34 @@
--- `check_input` meets its contract: the capacity first, then the source.
+-- `check_input` meets its contract: the capacities first, then the source.
 use borrow.Author.Needs.{needs}
-use Rattle.netlist.proofs.Checks.{capacity-refused, capacity-good}
+use Rattle.netlist.proofs.Checks.{input-refused, input-source}
 use Rattle.netlist.proofs.check_input.Statement.{statement}
 use Rattle.netlist.proofs.check_input.Tie as tie
 
-bad-capacity-requires : tie.Need-bad-capacity-requires
-bad-capacity-requires c κs = search needs
+check-capacities-requires : tie.Need-check-capacities-requires
+check-capacities-requires c κs = search needs
 
-returns : tie.Need-returns
-returns c = search capacity-refused
+enum-told : tie.Need-enum-told
+enum-told c = search needs
 
 check-source-requires : tie.Need-check-source-requires
 check-source-requires c κs = search needs
 
+enum-known-allowed : tie.Need-enum-known-allowed
+enum-known-allowed c = search needs
+
+returns : tie.Need-returns
+returns c = search input-source
+
 returns-2 : tie.Need-returns-2
-returns-2 c = search capacity-good
+returns-2 c = search input-refused
 
 pub check-input-spec : {M : Type 1} → statement M
 check-input-spec =
-    tie.close (tie.spec bad-capacity-requires returns check-source-requires returns-2)
+    tie.close
+    (tie.spec
+    check-capacities-requires
+    enum-told
+    check-source-requires
+    enum-known-allowed
+    returns
+    returns-2)

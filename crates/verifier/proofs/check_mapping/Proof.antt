@@ -1,6 +1,6 @@
 -- `check_mapping` meets its contract: 1 to 7, the length, then 12 to 17; what 1 to 7 and 11 leave lets every count fit.
 use borrow.Author.Needs.{needs}
-use Rattle.verifier.proofs.Checks.{verify-input, verify-length, verify-legal, records-fit, mapped-fits, mapped-sized, capacity-fits}
+use Rattle.verifier.proofs.Checks.{verify-input, verify-length, verify-legal, records-fit, mapped-fits, mapped-sized, verify-allowed}
 use Rattle.verifier.proofs.check_mapping.Statement.{statement}
 use Rattle.verifier.proofs.check_mapping.Tie as tie
 
@@ -35,7 +35,7 @@ cast-check-legal-2 : tie.Need-cast-check-legal-2
 cast-check-legal-2 c = search mapped-fits
 
 check-legal-requires : tie.Need-check-legal-requires
-check-legal-requires c κs = (search mapped-sized, search capacity-fits)
+check-legal-requires c κs = (search mapped-sized, search verify-allowed)
 
 returns-3 : tie.Need-returns-3
 returns-3 c = search verify-legal

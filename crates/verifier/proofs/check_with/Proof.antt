@@ -1,6 +1,7 @@
 -- `check_with` meets its contract: the records below the source's size, the buffers, the traces, then the feeding.
 use borrow.Author.Needs.{needs}
 use Rattle.verifier.proofs.Feeding.{tallied-passed, tallied-counts, kept-refused, added-refused, places-placed, counts-room, traced-refused, feeds-decide}
+use Rattle.verifier.proofs.Walking.{passed-walkable}
 use Rattle.verifier.proofs.check_with.Statement.{statement}
 use Rattle.verifier.proofs.check_with.Tie as tie
 
@@ -48,9 +49,14 @@ enum-told-3 c = search needs
 
 check-counts-requires : tie.Need-check-counts-requires
 check-counts-requires c κs =
-    let sized = c .before .before .before .before .before .before .before .before .before .before .before .before .before .before .before .before .before .before .before .before .before .before .before .before .before .before .pre .0 in
-    let d = c .before .before .before .before .before .before .before .before .before .before .before .before .before .check-buffers .ensures .0 in
-    (search needs, counts-room _ _ _ _ sized _ _ d (search needs))
+    let pre = c .before .before .before .before .before .before .before .before .before .before .before .before .before .before .before .before .before .before .before .before .before .before .before .before .before .before .pre in
+    let d = c .before .before .before .before .before .before .before .before .before .before .before .before .before .check-buffers .ensures .0 in (
+      pre .1 .0,
+      (
+        passed-walkable _ _ _ _ (pre .0) (places-placed _ _ _ _ (pre .0) _ _ d (search needs)),
+        (search needs, counts-room _ _ _ _ (pre .0) _ _ d (search needs)),
+      ),
+    )
 
 enum-known-traced : tie.Need-enum-known-traced
 enum-known-traced c = search needs

@@ -10,10 +10,10 @@ use Rattle.mapper.proofs.writing.set_parents.Statement.{statement}
 use Rattle.mapper.proofs.writing.set_parents.Tie as tie
 
 abbrev Inv-loop : tie.InvT-loop
-Inv-loop source s end first next₀ d base row₀ low p₀ next row p = (low ≡ recordAt source d .level) × SinksSoFar (netlist source) s d next₀ p next row
+Inv-loop source caps end first next₀ d base row₀ low p₀ next row p = (low ≡ recordAt source d .level) × SinksSoFar (netlist source) caps d next₀ p next row
 
 abbrev μ-loop : tie.MeasureT-loop
-μ-loop source s end first next₀ d base row₀ low p₀ next row p = end - p
+μ-loop source caps end first next₀ d base row₀ low p₀ next row p = end - p
 
 level-at-requires : tie.Need-level-at-requires Inv-loop μ-loop
 level-at-requires c κs = search needs

@@ -8,10 +8,10 @@ use Rattle.mapper.proofs.writing.write_buffers.Statement.{statement}
 use Rattle.mapper.proofs.writing.write_buffers.Tie as tie
 
 abbrev Inv-loop : tie.InvT-loop
-Inv-loop source s d start top row base₀ area₀ low at₀ from₀ k₀ base area at from k = (low ≡ recordAt source d .level) × LevelsWritten (netlist source) s d start top area₀ base area at from k
+Inv-loop source caps d start top row base₀ area₀ low at₀ from₀ k₀ base area at from k = (low ≡ recordAt source d .level) × LevelsWritten (netlist source) caps d start top area₀ base area at from k
 
 abbrev μ-loop : tie.MeasureT-loop
-μ-loop source s d start top row base₀ area₀ low at₀ from₀ k₀ base area at from k = suc top - k
+μ-loop source caps d start top row base₀ area₀ low at₀ from₀ k₀ base area at from k = suc top - k
 
 level-at-requires : tie.Need-level-at-requires Inv-loop μ-loop
 level-at-requires c κs = search needs

@@ -9,10 +9,10 @@ use Rattle.mapper.proofs.writing.write_nets.Statement.{statement}
 use Rattle.mapper.proofs.writing.write_nets.Tie as tie
 
 abbrev Inv-loop : tie.InvT-loop
-Inv-loop source s n end first next₀ row₀ area₀ base₀ at₀ d₀ next row area base at d = NetsWritten (netlist source) s first end area₀ d at next row base area × (length next ≡ length next₀)
+Inv-loop source caps n end first next₀ row₀ area₀ base₀ at₀ d₀ next row area base at d = NetsWritten (netlist source) caps first end area₀ d at next row base area × (length next ≡ length next₀)
 
 abbrev μ-loop : tie.MeasureT-loop
-μ-loop source s n end first next₀ row₀ area₀ base₀ at₀ d₀ next row area base at d = n - d
+μ-loop source caps n end first next₀ row₀ area₀ base₀ at₀ d₀ next row area base at d = n - d
 
 loop-holds : tie.Need-loop-holds Inv-loop μ-loop
 loop-holds c = (search (needs, nets-start), search needs)

@@ -1,5 +1,5 @@
 -- `size_trees` meets its contract: the chains, then the trees of all records.
-use Rattle.nets.proofs.TreeCounts.{input-source, input-capacity, input-chained, input-sized}
+use Rattle.nets.proofs.TreeCounts.{input-source, input-allowed, input-chained, input-sized}
 use borrow.Author.Needs.{needs}
 use Rattle.nets.proofs.trees.size_trees.Statement.{statement}
 use Rattle.nets.proofs.trees.size_trees.Tie as tie
@@ -8,7 +8,7 @@ link-all-requires : tie.Need-link-all-requires
 link-all-requires c κs = (search input-source, (search needs, search needs))
 
 count-trees-requires : tie.Need-count-trees-requires
-count-trees-requires c κs = (search (needs, input-chained), (search input-capacity, (search needs, search needs)))
+count-trees-requires c κs = (search (needs, input-chained), (search input-allowed, (search needs, search needs)))
 
 same-length : tie.Need-same-length
 same-length c = search needs

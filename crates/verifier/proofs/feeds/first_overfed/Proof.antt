@@ -1,19 +1,18 @@
 -- `first_overfed` meets its contract: the answer from k on is the answer.
-use borrow.Author.Tests.{lt-ltb, le-ltb}
 use borrow.Author.Needs.{needs}
 use Prim.Native.Nat.{_-_}
-use mathlib.Core.Logic.{⊎-elim}
 use Rattle.facts.proofs.Loops.{Scanning, scan-start, scan-end}
+use Rattle.netlist.specs.Records.{netlist}
 use Rattle.verifier.specs.PrivateFeeding.{countCheck}
 use Rattle.verifier.proofs.Feeding.{count-more, count-stop}
 use Rattle.verifier.proofs.feeds.first_overfed.Statement.{statement}
 use Rattle.verifier.proofs.feeds.first_overfed.Tie as tie
 
 abbrev Inv-loop : tie.InvT-loop
-Inv-loop counts capacity n m k₀ k = Scanning (countCheck capacity n counts) m k
+Inv-loop capacities mapped counts m k₀ k = Scanning (countCheck capacities (netlist mapped) counts) m k
 
 abbrev μ-loop : tie.MeasureT-loop
-μ-loop counts capacity n m k₀ k = m - k
+μ-loop capacities mapped counts m k₀ k = m - k
 
 loop-holds : tie.Need-loop-holds Inv-loop μ-loop
 loop-holds c = search scan-start
@@ -27,11 +26,20 @@ shared-slice-read-wide c = search needs
 wide-requires : tie.Need-wide-requires Inv-loop μ-loop
 wide-requires c κs = search needs
 
-cast-if2 : tie.Need-cast-if2 Inv-loop μ-loop
-cast-if2 c = search needs
+cast-kind-at : tie.Need-cast-kind-at Inv-loop μ-loop
+cast-kind-at c = search needs
+
+kind-at-requires : tie.Need-kind-at-requires Inv-loop μ-loop
+kind-at-requires c κs = search needs
+
+capacity-of-requires : tie.Need-capacity-of-requires Inv-loop μ-loop
+capacity-of-requires c κs = search needs
+
+cast-if1 : tie.Need-cast-if1 Inv-loop μ-loop
+cast-if1 c = search needs
 
 returns : tie.Need-returns Inv-loop μ-loop
-returns c = ⊎-elim (λ w. search (count-stop, lt-ltb)) (λ w. search (count-stop, le-ltb)) (c .before .if1 .came)
+returns c = search count-stop
 
 add-k : tie.Need-add-k Inv-loop μ-loop
 add-k c = search needs
@@ -40,7 +48,7 @@ loop-less : tie.Need-loop-less Inv-loop μ-loop
 loop-less c = search needs
 
 loop-again : tie.Need-loop-again Inv-loop μ-loop
-loop-again c = ⊎-elim (λ w. search (count-more, lt-ltb)) (λ w. search (count-more, le-ltb)) (c .before .if1 .came)
+loop-again c = search count-more
 
 returns-2 : tie.Need-returns-2 Inv-loop μ-loop
 returns-2 c = search scan-end
@@ -55,7 +63,10 @@ first-overfed-spec =
     cast-wide
     shared-slice-read-wide
     wide-requires
-    cast-if2
+    cast-kind-at
+    kind-at-requires
+    capacity-of-requires
+    cast-if1
     returns
     add-k
     loop-less

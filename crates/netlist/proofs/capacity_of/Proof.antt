@@ -1,0 +1,13 @@
+-- `capacity_of` meets its contract: each return follows from the test that led there.
+use borrow.Author.Tests.{eq-eqb, ne-eqb}
+use Rattle.netlist.proofs.capacity_of.Statement.{statement}
+use Rattle.netlist.proofs.capacity_of.Tie as tie
+
+returns : tie.Need-returns
+returns c = rw (eq-eqb _ _ (c .if1 .taken))
+
+returns-2 : tie.Need-returns-2
+returns-2 c = rw (ne-eqb _ _ (c .if1 .left))
+
+pub capacity-of-spec : {M : Type 1} → statement M
+capacity-of-spec = tie.close (tie.spec returns returns-2)

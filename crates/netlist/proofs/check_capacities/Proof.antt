@@ -1,0 +1,17 @@
+-- `check_capacities` meets its contract: the answer follows from the test.
+use borrow.Author.Needs.{needs}
+use Rattle.netlist.proofs.Checks.{capacity-refused, capacity-passed}
+use Rattle.netlist.proofs.check_capacities.Statement.{statement}
+use Rattle.netlist.proofs.check_capacities.Tie as tie
+
+bad-capacity-requires : tie.Need-bad-capacity-requires
+bad-capacity-requires c κs = search needs
+
+returns : tie.Need-returns
+returns c = search capacity-refused
+
+returns-2 : tie.Need-returns-2
+returns-2 c = search capacity-passed
+
+pub check-capacities-spec : {M : Type 1} → statement M
+check-capacities-spec = tie.close (tie.spec bad-capacity-requires returns returns-2)
