@@ -1,4 +1,4 @@
--- For functions inside the engine alone: the walk down a driver's row: what it asks of the row, and what it leaves.
+-- For functions inside the engine alone: what the walk down a driver's row asks of it, and what it leaves.
 use Prim.Native.Nat.{ℕ, suc, _*_, _≤_, _<_}
 use mathlib.Core.Path.{_≡_}
 use mathlib.Core.Bool.{Bool, cond}

@@ -1,5 +1,5 @@
--- For functions inside the engine alone: what the local arrays of the chains hold, and what is counted along them. Slots go by number: slot y is slot y % slots of record
--- y / slots.
+-- For functions inside the engine alone: what the local arrays of the chains hold, and what is counted along them. Slots go by
+-- number: slot y is slot y % slots of record y / slots.
 use Prim.Native.Nat.{ℕ, suc, _-_, _*_, _≤_, _<_, _/_, _%_}
 use mathlib.Core.Path.{_≡_}
 use mathlib.Core.Bool.{Bool, true}
