@@ -143,8 +143,7 @@ module _ (n : Netlist) (caps : Capacities) (r : Ready n caps) where
   counted-node : (d k q : ℕ) → d < n .size → k ≤ topLevel → q < buffersOf n caps d k + sinks n d k → IsNode n caps r d k q
   unfolding buffersOf
   counted-node d zero q ld l b = absurd (omega (arith, none-level d))
-  counted-node d (suc k) q ld l b =
-      record { driver = ld; above = omega arith; near = l; number = omega (arith, nodes-split n caps r d k l) }
+  counted-node d (suc k) q ld l b = omega (arith, nodes-split n caps r d (suc k) (omega arith) l)
 
   -- only the nodes at distance 1 of x's own net hang on a driver x
   on-driver : (x d k q : ℕ) → x < n .size → IsNode n caps r d k q → parent n caps d k q ≡ x → (d ≡ x) × (k ≡ 1)
@@ -182,7 +181,7 @@ module _ (n : Netlist) (caps : Capacities) (r : Ready n caps) where
         arith,
         feeds-single x x 1 l (λ d k q h e. on-driver x d k q l h e),
         count-le (hangsOn n caps x x 1) (buffersOf n caps x 1 + sinks n x 1),
-        nodes-split n caps r x 0 (omega arith),
+        nodes-split n caps r x 1 (omega arith) (omega arith),
         leb-true (nodesAt (caps .buffer) (row n x) 1) (capacityOf caps (n .at x .kind)) (r .trees x l),
       )
 

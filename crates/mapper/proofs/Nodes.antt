@@ -19,7 +19,7 @@ use Rattle.netlist.specs.Records.{Netlist, slot, used, fanin, names}
 use Rattle.netlist.proofs.Checks.{arity-slots}
 use Rattle.fanout.specs.Nets.{row, sinks, sinkAt, up, nodesAt}
 use Rattle.fanout.proofs.Nets.{div-up, up-zero, nodes-at, nodes-none, row-at}
-use Rattle.mapper.specs.Mapped.{buffersOf, mappedSize, place, parent, bufferRecord, rank, distance, sinkNumber, sinkParent, rewired, mappedAt}
+use Rattle.mapper.specs.Mapped.{buffersOf, mappedSize, place, parent, bufferRecord, distance, sinkNumber, sinkParent, rewired, mappedAt}
 use Rattle.mapper.specs.PrivateWriting.{Ready}
 use Rattle.fanout.proofs.Rows.{row-none, no-sinks}
 use Rattle.mapper.proofs.Blocks.{rank-below}
@@ -48,9 +48,10 @@ module _ (n : Netlist) (caps : Capacities) (r : Ready n caps) where
   pos = omega (arith, r .allowed .low)
 
   -- the nodes at a distance: its buffers and its sinks
-  pub nodes-split : (d k : ℕ) → suc k ≤ topLevel → nodesAt (caps .buffer) (row n d) (suc k) ≡ buffersOf n caps d (suc k) + sinks n d (suc k)
+  pub nodes-split : (d k : ℕ) → 1 ≤ k → k ≤ topLevel → nodesAt (caps .buffer) (row n d) k ≡ buffersOf n caps d k + sinks n d k
   unfolding buffersOf
-  nodes-split d k l = omega (arith, nodes-at (caps .buffer) (row n d) (suc k) pos, row-at n d (suc k) l)
+  nodes-split d zero a l = absurd (omega arith)
+  nodes-split d (suc k) a l = omega (arith, nodes-at (caps .buffer) (row n d) (suc k) pos, row-at n d (suc k) l)
 
   -- a node of d's tree at distance k
   pub record IsNode (d k q : ℕ) : Type 0 where
@@ -64,26 +65,18 @@ module _ (n : Netlist) (caps : Capacities) (r : Ready n caps) where
   unfolding buffersOf
   hangs d k q h = div-up (caps .buffer) q _ pos (h .number)
 
-  -- a parent stands one level nearer
-  pub parent-level : (d k q : ℕ) → IsNode d k q → n .at d .level + k ≡ suc (mappedAt n caps (parent n caps d k q) .level)
+  -- a parent is a record of the netlist, one level nearer, and no output unless the driver is one
+  pub parent-is : (d k q : ℕ) → IsNode d k q →
+      (parent n caps d k q < mappedSize n caps)
+      × ((n .at d .level + k ≡ suc (mappedAt n caps (parent n caps d k q) .level))
+      × (n .at d .kind ≢ output → mappedAt n caps (parent n caps d k q) .kind ≢ output))
   unfolding parent rewired bufferRecord
-  parent-level d zero q h = absurd (omega (arith, h .above))
-  parent-level d (suc zero) q h = rw (at-source n caps pos d (h .driver)) (omega arith)
-  parent-level d (suc (suc k)) q h =
-      rw (at-place n caps pos d (suc k) (q / (caps .buffer)) (h .driver) (omega (arith, h .near)) (hangs d k q h)) (omega arith)
-
-  pub parent-inside : (d k q : ℕ) → IsNode d k q → parent n caps d k q < mappedSize n caps
-  unfolding parent
-  parent-inside d zero q h = absurd (omega (arith, h .above))
-  parent-inside d (suc zero) q h = omega (arith, h .driver)
-  parent-inside d (suc (suc k)) q h = place-inside n caps pos d (suc k) (q / (caps .buffer)) (h .driver) (omega (arith, h .near)) (hangs d k q h)
-
-  pub parent-kind : (d k q : ℕ) → IsNode d k q → n .at d .kind ≢ output → mappedAt n caps (parent n caps d k q) .kind ≢ output
-  unfolding parent rewired bufferRecord
-  parent-kind d zero q h g = absurd (omega (arith, h .above))
-  parent-kind d (suc zero) q h g = rw (at-source n caps pos d (h .driver)) g
-  parent-kind d (suc (suc k)) q h g =
-      rw (at-place n caps pos d (suc k) (q / (caps .buffer)) (h .driver) (omega (arith, h .near)) (hangs d k q h)) (omega arith)
+  parent-is d zero q h = absurd (omega (arith, h .above))
+  parent-is d (suc zero) q h = rw (at-source n caps pos d (h .driver)) (omega (arith, h .driver))
+  parent-is d (suc (suc k)) q h =
+      let near : suc k ≤ topLevel = omega (arith, h .near) in
+      rw (at-place n caps pos d (suc k) (q / (caps .buffer)) (h .driver) near (hangs d k q h))
+      (omega (arith, place-inside n caps pos d (suc k) (q / (caps .buffer)) (h .driver) near (hangs d k q h)))
 
   -- whatever holds of the driver, and of a buffer where it holds of the buffer's fanin, holds of every parent in its tree
   pub parent-traced : (P : ℕ → Type 0) (d k q : ℕ) → IsNode d k q → P d →
@@ -99,20 +92,13 @@ module _ (n : Netlist) (caps : Capacities) (r : Ready n caps) where
       e = at-place n caps pos d (suc k) (q / (caps .buffer)) (h .driver) (omega (arith, h .near)) (hangs d k q h)
 
       inner : IsNode d (suc k) (q / (caps .buffer))
-      inner =
-          record {
-            driver = h .driver;
-            above = omega arith;
-            near = omega (arith, h .near);
-            number = omega (arith, nodes-split d k (omega (arith, h .near)), hangs d k q h);
-          }
+      inner = omega (arith, nodes-split d (suc k) (omega arith) (omega (arith, h .near)), hangs d k q h)
 
   -- a buffer is a node of its tree
   pub buffer-node : (d k j : ℕ) → d < n .size → k ≤ topLevel → j < buffersOf n caps d k → IsNode d k j
   unfolding buffersOf
   buffer-node d zero j ld l b = absurd (omega arith)
-  buffer-node d (suc k) j ld l b =
-      record { driver = ld; above = omega arith; near = l; number = omega (arith, nodes-split d k l) }
+  buffer-node d (suc k) j ld l b = omega (arith, nodes-split d (suc k) (omega arith) l)
 
   -- without sinks from a distance on there are no nodes
   none-from : (d k : ℕ) → ((x : ℕ) → k ≤ x → sinks n d x ≡ 0) → nodesAt (caps .buffer) (row n d) k ≡ 0
@@ -164,22 +150,15 @@ module _ (n : Netlist) (caps : Capacities) (r : Ready n caps) where
 
   pub source-node : (i j : ℕ) → i < n .size → j < arity (n .at i .kind) → IsNode (fanin n i j) (distance n i j) (sinkNumber n caps i j)
   unfolding sinkNumber sinks
-  source-node i j l b = record {
-    driver = omega (arith, r .source .earlier i j l b);
-    above = omega (arith, r .source .lower i j l b);
-    near = omega (arith, r .source .levels i l);
-    number = go (distance n i j) refl;
-  }
-    where
-      go : (k : ℕ) → k ≡ distance n i j →
-          buffersOf n caps (fanin n i j) (distance n i j) + rank (sinkAt n (fanin n i j) (distance n i j)) i j
-          < nodesAt (caps .buffer) (row n (fanin n i j)) (distance n i j)
-      go zero e = absurd (omega (arith, r .source .lower i j l b))
-      go (suc k) e = rw (← e) (omega (
+  source-node i j l b =
+      omega (
         arith,
-        nodes-split (fanin n i j) k (omega (arith, r .source .levels i l)),
-        rank-below (sinkAt n (fanin n i j) (suc k)) i j (n .size) l (omega (arith, arity-slots (n .at i .kind))) (rw e (is-sink n _ _ i j (source-sink i j l b))),
-      ))
+        r .source .earlier i j l b,
+        r .source .lower i j l b,
+        r .source .levels i l,
+        nodes-split (fanin n i j) (distance n i j) (omega (arith, r .source .lower i j l b)) (omega (arith, r .source .levels i l)),
+        rank-below (sinkAt n (fanin n i j) (distance n i j)) i j (n .size) l (omega (arith, arity-slots (n .at i .kind))) (is-sink n _ _ i j (source-sink i j l b)),
+      )
 
   -- the slots of a source's record in the mapped netlist
   slot-at : (i j : ℕ) → i < n .size → j < slots →
@@ -248,25 +227,19 @@ module _ (n : Netlist) (caps : Capacities) (r : Ready n caps) where
             fanin = ap (λ (x : Record). slot x j) e ∙ ap (slot (bufferRecord n caps (p .d) (p .k) (p .j))) (first _ e refl);
           }
 
-  -- every used slot names a record of the netlist
-  pub named : (i j : ℕ) → i < mappedSize n caps → j < arity (mappedAt n caps i .kind) → slot (mappedAt n caps i) j < mappedSize n caps
-  named i j l b =
-      let h = slot-node i j l b in
-      rw (h .fanin) (parent-inside (h .d) (h .k) (h .q) (h .node))
+  -- every used slot names a record of the netlist, no output, exactly one level lower
+  module _ (i j : ℕ) (l : i < mappedSize n caps) (b : j < arity (mappedAt n caps i .kind)) where
+    hung : SlotNode i j
+    hung = slot-node i j l b
 
-  -- a used slot names no output
-  pub no-output : (i j : ℕ) → i < mappedSize n caps → j < arity (mappedAt n caps i .kind) →
-      mappedAt n caps (slot (mappedAt n caps i) j) .kind ≢ output
-  no-output i j l b =
-      let h = slot-node i j l b in
-      rw (h .fanin) (parent-kind (h .d) (h .k) (h .q) (h .node) (h .drives))
+    pub named : slot (mappedAt n caps i) j < mappedSize n caps
+    named = rw (hung .fanin) (parent-is _ _ _ (hung .node) .0)
 
-  -- every fanin stands exactly one level lower
-  pub balanced : (i j : ℕ) → i < mappedSize n caps → j < arity (mappedAt n caps i .kind) →
-      mappedAt n caps i .level ≡ suc (mappedAt n caps (slot (mappedAt n caps i) j) .level)
-  balanced i j l b =
-      let h = slot-node i j l b in
-      rw (h .fanin) (h .level ∙ parent-level (h .d) (h .k) (h .q) (h .node))
+    pub no-output : mappedAt n caps (slot (mappedAt n caps i) j) .kind ≢ output
+    no-output = rw (hung .fanin) (parent-is _ _ _ (hung .node) .1 .1 (hung .drives))
+
+    pub balanced : mappedAt n caps i .level ≡ suc (mappedAt n caps (slot (mappedAt n caps i) j) .level)
+    balanced = rw (hung .fanin) (hung .level ∙ parent-is _ _ _ (hung .node) .1 .0)
 
   -- each slot of a source's record, traced back through buffers, ends at the fanin that the source names
   pub traced : (P : ℕ → Type 0) (i j : ℕ) → i < n .size → j < arity (n .at i .kind) → P (fanin n i j) →

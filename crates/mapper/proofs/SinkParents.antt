@@ -1,5 +1,5 @@
 -- Laws of hanging the sinks of one driver along its chain: those below slot p hang on their parents.
-use Prim.Native.Nat.{ℕ, zero, suc, _+_, _*_, _≤_, _<_, _/_, _%_}
+use Prim.Native.Nat.{ℕ, suc, _+_, _*_, _≤_, _<_, _/_, _%_}
 use mathlib.Core.Path.{_≡_, refl, sym, _∙_, ap, ap₂, subst}
 use mathlib.Core.Bool.{Bool, true}
 use mathlib.Core.List.{List}
@@ -14,7 +14,7 @@ use Rattle.facts.proofs.Sums.{bit-same, count-append, count-cong, count₂-flat
 use Rattle.netlist.specs.declared.Capacities.{Capacities}
 use Rattle.netlist.specs.Kinds.{slots, topLevel, arity}
 use Rattle.netlist.specs.Records.{Netlist}
-use Rattle.fanout.specs.Nets.{sinks, sinkAt, nodesAt, row, treeSize}
+use Rattle.fanout.specs.Nets.{sinks, sinkAt, treeSize}
 use Rattle.fanout.proofs.Rows.{added-at}
 use Rattle.mapper.specs.Mapped.{buffersOf, parent, rank, sinkNumber, sinkParent}
 use Rattle.mapper.specs.PrivateWriting.{Ready, behind, onParent, ParentsDue, NodeCounts}
@@ -22,7 +22,7 @@ use Rattle.nets.specs.PrivateChains.{slotEnd, usedSlot, faninSlot, namesSlot, n
 use Rattle.nets.proofs.OneChain.{sinks-all, sinks-below, sinks-rise, sinks-more, named-above, chain-none, chain-all, chain-inside, chain-names, chain-apart, chain-near, chain-count}
 use Rattle.facts.proofs.Blocks.{block-before}
 use Rattle.mapper.proofs.Mapped.{tree-sum}
-use Rattle.mapper.proofs.Nodes.{pos, IsNode, nodes-split, source-node, parent-inside}
+use Rattle.mapper.proofs.Nodes.{pos, IsNode, nodes-split, source-node, parent-is}
 use Rattle.mapper.proofs.WriteTree.{parent-from}
 use Rattle.mapper.proofs.ChainParents.{ParentsSoFar, parents-start, parents-next, parents-more}
 
@@ -138,7 +138,7 @@ module _ (n : Netlist) (caps : Capacities) (d : ℕ) (first before : List ℕ) (
           by-level = rw (number-is, ek) refl
 
       pub sinks-parent : getD base k 0 + behind (caps .buffer) k (getD counts k 0) < 65536
-      sinks-parent = omega (arith, on-base, parent-inside n caps (h .ready) d k (getD counts k 0) node, h .ready .fits)
+      sinks-parent = omega (arith, on-base, parent-is n caps (h .ready) d k (getD counts k 0) node .0, h .ready .fits)
 
       pub sinks-fit : Fits w32 (getD counts k 0 + 1)
       sinks-fit =
@@ -174,14 +174,14 @@ module _ (n : Netlist) (caps : Capacities) (d : ℕ) (first before : List ℕ) (
           next-is = parents-next n first before end d (h .parents .chained) (onParent n caps) p next (f .soFar) l q e
 
     pub sinks-end : end ≤ p → NodeCounts n caps d counts
-    sinks-end l = record { size = f .size; at = all }
-      where
-        all : (k : ℕ) → 1 ≤ k → k ≤ topLevel → getD counts k 0 ≡ nodesAt (caps .buffer) (row n d) k
-        all zero a b = absurd (omega arith)
-        all (suc k) a b =
-            omega (
-              arith,
-              f .counted (suc k) a b,
-              chain-all n first before end d (h .parents .chained) p (f .soFar .chain) l (suc k),
-              nodes-split n caps (h .ready) d k b,
-            )
+    sinks-end l =
+        record {
+          size = f .size;
+          at = λ k a b.
+              omega (
+                arith,
+                f .counted k a b,
+                chain-all n first before end d (h .parents .chained) p (f .soFar .chain) l k,
+                nodes-split n caps (h .ready) d k a b,
+              );
+        }

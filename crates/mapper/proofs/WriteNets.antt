@@ -28,6 +28,7 @@ use Rattle.nets.proofs.TreeCounts.{measured-none}
 use Rattle.facts.proofs.Blocks.{block-before}
 use Rattle.fanout.specs.PrivateWalk.{Filled, Walked}
 use Rattle.fanout.proofs.Nets.{nodes-none}
+use borrow.Author.Needs.{needs}
 use Rattle.mapper.proofs.Nodes.{pos}
 use Rattle.mapper.proofs.SinkParents.{named-sink}
 use Rattle.mapper.proofs.Lines.{line-written, line-parents}
@@ -82,13 +83,7 @@ module _ (n : Netlist) (caps : Capacities) (d at : ℕ) (first next : List ℕ) 
       length base′ ≡ suc topLevel → ParentsWritten n d (onParent n caps) next next′ → area′ ≡ withRecords (mapped n caps) at (treeSize n caps d) area →
       Wrote n caps d at first next′ end counts′ base′ area area′ after
   wrote after next′ counts′ base′ area′ e c b k a =
-      record {
-        start = e;
-        clear = c;
-        room = b;
-        parents = parents-next-driver n caps d first next next′ end (w .parents) k;
-        bytes = a;
-      }
+      search (needs, parents-next-driver)
 
   -- without sinks it has no buffers, and no slot names d
   pub net-none : ((k : ℕ) → sinks n d k ≡ 0) → Wrote n caps d at first next end counts base area area at
@@ -164,15 +159,7 @@ module _ (n : Netlist) (caps : Capacities) (first : List ℕ) (end : ℕ) (area�
   module _ (d at N : ℕ) (next counts base area : List ℕ) (h : NetsWritten n caps first end area₀ d at next counts base area) (size : N ≡ n .size) where
     pub nets-writable : d < N → Writable n caps d at first next end counts base area
     nets-writable l =
-        record {
-          ready = r;
-          driver = omega arith;
-          start = h .start;
-          clear = h .clear;
-          room = h .room;
-          parents = h .parents;
-          long = omega (arith, h .long);
-        }
+        search needs
 
     pub nets-more : (after : ℕ) (next′ counts′ base′ area′ : List ℕ) → d < N →
         Wrote n caps d at first next′ end counts′ base′ area area′ after → NetsWritten n caps first end area₀ (d + 1) after next′ counts′ base′ area′

@@ -4,9 +4,9 @@ use mathlib.Core.Path.{_≡_, refl, sym, _∙_, ap, ap₂, subst}
 use mathlib.Core.Bool.{Bool, true, false, cond}
 use mathlib.Core.List.{List}
 use native.Mathlib.Omega.{arith}
-use native.Mathlib.Nat.{add-zero}
+use native.Mathlib.Nat.{add-zero, le-trans}
 use native.Mathlib.Numerals.{add-one}
-use native.Mathlib.Decide.{decLt, ℕ-discrete}
+use native.Mathlib.Decide.{ℕ-discrete}
 use mir.Val.{Fits}
 use mir.Syntax.{w16}
 use lib.ListN.{length, getD, set, length-set}
@@ -142,7 +142,7 @@ module _ (n : Netlist) (first next : List ℕ) where
   pub link-unused : (x : ℕ) → Linked n first next (x + 1) → x < slotEnd n → usedSlot n x ≡ false → Linked n first next x
   link-unused x h l u =
       record {
-        firsts = λ d ld. h .firsts d ld ∙ ap (nextSink n d) (add-one x) ∙ sym (next-skip n d x l (rw u refl));
+        firsts = λ d ld. rw (next-skip n d x l (rw u refl), ← add-one x) (h .firsts d ld);
         nexts = λ y a b v. h .nexts y (further y a v) b v;
         firstLong = h .firstLong;
         nextLong = h .nextLong;
@@ -150,10 +150,7 @@ module _ (n : Netlist) (first next : List ℕ) where
     where
       further : (y : ℕ) → x ≤ y → usedSlot n y ≡ true → x + 1 ≤ y
       further y a v =
-          elim (decLt x y) [
-            | yes b ↦ omega arith
-            | no b ↦ (let e : y ≡ x = omega arith in absurd (true-false (usedSlot n x) (subst (λ (z : ℕ). usedSlot n z ≡ true) e v) u))
-          ]
+          elim (ℕ-discrete y x) [ yes e ↦ absurd (true-false (usedSlot n x) (rw e at v) u) | no e ↦ omega arith ]
 
   -- a used slot comes before what its driver had first
   pub link-used : (x t : ℕ) → Linked n first next (x + 1) → x < slotEnd n → t ≡ faninSlot n x → t < n .size →
@@ -262,23 +259,7 @@ module _ (n : Netlist) (first next : List ℕ) where
 -- once all slots are linked the chains of all drivers stand; those from a driver on stand from each later one on
 module _ (n : Netlist) (first next : List ℕ) (end : ℕ) where
   pub chained-all : IsSource n → Linked n first next 0 → end ≡ slotEnd n → Chained n first next 0 end
-  chained-all s h e =
-      record {
-        source = s;
-        firsts = h .firsts;
-        nexts = λ y l u d. h .nexts y (omega arith) l u;
-        firstLong = h .firstLong;
-        nextLong = h .nextLong;
-        stop = e;
-      }
+  chained-all s h e = let low : (y : ℕ) → 0 ≤ y = λ y. omega arith in search (h .nexts, low)
 
   pub chained-from : (c d : ℕ) → Chained n first next c end → c ≤ d → Chained n first next d end
-  chained-from c d h l =
-      record {
-        source = h .source;
-        firsts = h .firsts;
-        nexts = λ y a u b. h .nexts y a u (omega arith);
-        firstLong = h .firstLong;
-        nextLong = h .nextLong;
-        stop = h .stop;
-      }
+  chained-from c d h l = search (h .nexts, le-trans)

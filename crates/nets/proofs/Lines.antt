@@ -1,6 +1,6 @@
 -- Laws of nets of one or two sinks: their tree is a line, with one buffer at each distance below the largest.
 use Prim.Native.Nat.{ℕ, suc, _+_, _-_, _≤_, _<_}
-use mathlib.Core.Path.{_≡_, sym, _∙_}
+use mathlib.Core.Path.{_≡_, _∙_}
 use native.Mathlib.Omega.{arith}
 use lib.Dec.{ltb}
 use borrow.Author.Tests.{lt-ltb, ltb-true}
@@ -45,14 +45,11 @@ module _ (n : Netlist) (caps : Capacities) (d top atOne : ℕ) (two : 2 ≤ caps
 
   pub measured-few : (x : ℕ) → x ≡ bit (ltb 1 top) → Measured n caps d (record { nodes = x + atOne; buffers = top - 1 })
   measured-few x e =
-      record {
-        nodes =
-            omega (
-              arith,
-              h .ones,
-              line-at 1 (omega arith),
-              nodes-at (caps .buffer) (row n d) 1 positive,
-              row-at n d 1 (omega arith),
-            );
-        buffers = sym line-size;
-      }
+      omega (
+        arith,
+        h .ones,
+        line-at 1 (omega arith),
+        nodes-at (caps .buffer) (row n d) 1 positive,
+        row-at n d 1 (omega arith),
+        line-size,
+      )
