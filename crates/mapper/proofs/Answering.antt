@@ -1,7 +1,7 @@
 -- Laws of the mapper's answer: gates, share and junctions, and which check refuses.
 use Prim.Native.Nat.{ℕ, _+_, _*_, _≤_, _<_, _/_}
-use mathlib.Core.Path.{_≡_, refl, sym, _∙_, ap}
-use mathlib.Core.Bool.{Bool, cond}
+use mathlib.Core.Path.{_≡_, sym, ap}
+use mathlib.Core.Bool.{Bool, true, false, cond}
 use mathlib.Core.List.{List}
 use native.Mathlib.Omega.{arith}
 use mir.Val.{Fits}
@@ -10,7 +10,7 @@ use lib.ListN.{length}
 use borrow.Author.Tests.{eq-eqb, ne-eqb, lt-ltb, le-ltb, not-false}
 use Rattle.facts.specs.declared.Checked.{Checked}
 use Rattle.facts.specs.declared.Checked.the-variants.{Passed, Refused}
-use Rattle.facts.specs.Checks.{check, _andThen_}
+use Rattle.facts.specs.Checks.{check}
 use Rattle.facts.specs.Areas.{onto}
 use Rattle.facts.proofs.Sums.{count-le}
 use Rattle.facts.proofs.Reflect.{check-passed, scan-passed}
@@ -24,7 +24,7 @@ use Rattle.fanout.specs.Nets.{fewestInAll}
 use Rattle.mapper.specs.declared.Mapping.{Mapping}
 use Rattle.mapper.specs.Mapped.{mappedSize, mapped}
 use Rattle.mapper.specs.PrivateWriting.{Ready, Counted, ParentsSet}
-use Rattle.mapper.specs.Answer.{gatePrice, bufferPrice, share, junctions, figures, answerOf, areaOf, refusal, tooLarge, tooShort, sourceMaps, mapChecks, mapAnswer, mapArea}
+use Rattle.mapper.specs.Answer.{gatePrice, bufferPrice, share, junctions, figures, refusal, tooLarge, tooShort, sourceMaps, mapChecks, mapAnswer, mapArea}
 use Rattle.nets.specs.Checks.{treeCheck, treeChecks, noTree}
 use Rattle.nets.specs.declared.trees.Sizing.{Sizing}
 use Rattle.nets.specs.declared.trees.Sizing.the-variants.{Total, Stops}
@@ -69,43 +69,28 @@ module _ (n : Netlist) (N bs g : ℕ) (size : N ≡ n .size) (few : N ≤ source
 pub parents-none : (n : Netlist) (caps : Capacities) (first next : List ℕ) (end : ℕ) → Chained n first next 0 end → ParentsSet n caps first next 0 end
 parents-none n caps first next end h = record { chained = h; at = λ y a b c. absurd (omega arith) }
 
--- the answer and the area that the checks leave
+-- the answer and the area where a check refuses
 module _ (bytes : List ℕ) (caps : Capacities) (area : List ℕ) where
-  answer-is : (a : Checked) → mapChecks bytes caps area ≡ a → answerOf a (netlist bytes) caps ≡ mapAnswer bytes caps area
-  unfolding mapAnswer
-  answer-is a e = ap (λ (a : Checked). answerOf a (netlist bytes) caps) (sym e)
-
-  area-is : (a : Checked) → mapChecks bytes caps area ≡ a → areaOf a (netlist bytes) caps area ≡ mapArea bytes caps area
-  unfolding mapArea
-  area-is a e = ap (λ (a : Checked). areaOf a (netlist bytes) caps area) (sym e)
-
   -- 1 to 7
-  input-refuses : (number place : ℕ) → inputChecks bytes caps ≡ Refused number place → mapChecks bytes caps area ≡ Refused number place
-  unfolding mapChecks sourceMaps
-  input-refuses number place e = rw e refl
-
   pub refused-input : (number place : ℕ) (a : Checked) (r : Mapping) → a ≡ inputChecks bytes caps → a ≡ Refused number place → r ≡ refusal number place →
       r ≡ mapAnswer bytes caps area
-  refused-input number place a r e f g = g ∙ answer-is (Refused number place) (input-refuses number place (sym e ∙ f))
+  unfolding mapAnswer mapChecks sourceMaps
+  refused-input number place a r e f g = cc
 
   pub kept-input : (number place : ℕ) (a : Checked) → a ≡ inputChecks bytes caps → a ≡ Refused number place → area ≡ mapArea bytes caps area
-  kept-input number place a e f = area-is (Refused number place) (input-refuses number place (sym e ∙ f))
+  unfolding mapArea mapChecks sourceMaps
+  kept-input number place a e f = cc
 
-  module _ (i : inputChecks bytes caps ≡ Passed) where
-    -- 8
-    trees-refuse : (number place : ℕ) → treeChecks (netlist bytes) caps ≡ Refused number place → mapChecks bytes caps area ≡ Refused number place
-    unfolding mapChecks sourceMaps
-    trees-refuse number place e = rw (i, e) refl
+  -- 8
+  module _ (i : inputChecks bytes caps ≡ Passed) (number place total : ℕ) (z : Sizing) (e : z ≡ sizingOf (treeChecks (netlist bytes) caps) total)
+      (f : z ≡ Stops number place) where
+    pub refused-tree : (r : Mapping) → r ≡ refusal number place → r ≡ mapAnswer bytes caps area
+    unfolding mapAnswer mapChecks sourceMaps
+    refused-tree r g = cc (refusing (netlist bytes) caps number place total z e f)
 
-    pub refused-tree : (number place total : ℕ) (z : Sizing) (r : Mapping) → z ≡ sizingOf (treeChecks (netlist bytes) caps) total →
-        z ≡ Stops number place → r ≡ refusal number place → r ≡ mapAnswer bytes caps area
-    refused-tree number place total z r e f g =
-        g ∙ answer-is (Refused number place) (trees-refuse number place (refusing (netlist bytes) caps number place total z e f))
-
-    pub kept-tree : (number place total : ℕ) (z : Sizing) → z ≡ sizingOf (treeChecks (netlist bytes) caps) total →
-        z ≡ Stops number place → area ≡ mapArea bytes caps area
-    kept-tree number place total z e f =
-        area-is (Refused number place) (trees-refuse number place (refusing (netlist bytes) caps number place total z e f))
+    pub kept-tree : area ≡ mapArea bytes caps area
+    unfolding mapArea mapChecks sourceMaps
+    kept-tree = cc (refusing (netlist bytes) caps number place total z e f)
 
 -- what 1 to 8 show
 module _ (bytes : List ℕ) (caps : Capacities) (i : inputChecks bytes caps ≡ Passed) (N : ℕ) (size : N ≡ recordCount bytes) where
@@ -152,56 +137,48 @@ module _ (bytes : List ℕ) (caps : Capacities) (N : ℕ) (first next : List ℕ
   counted-ready l = passed-ready bytes caps (h .input) (h .trees) (omega (arith, h .records, h .buffers))
 
   module _ (area : List ℕ) where
-    late : mapChecks bytes caps area
-        ≡ (check 9 0 (tooLarge (netlist bytes) caps) andThen check 10 0 (tooShort (netlist bytes) caps area))
-    unfolding mapChecks sourceMaps
-    late = rw (h .input, h .trees) refl
-
     -- 9
-    large : mappedLimit < N + total → mapChecks bytes caps area ≡ Refused 9 0
-    large l =
-        late
-        ∙ ap (λ (b : Bool). check 9 0 b andThen check 10 0 (tooShort (netlist bytes) caps area))
-        (lt-ltb mappedLimit (mappedSize (netlist bytes) caps) (omega (arith, h .records, h .buffers)))
+    module _ (l : mappedLimit < N + total) where
+      large : tooLarge (netlist bytes) caps ≡ true
+      large = lt-ltb mappedLimit (mappedSize (netlist bytes) caps) (omega (arith, h .records, h .buffers))
 
-    pub refused-large : (r : Mapping) → mappedLimit < N + total → r ≡ refusal 9 0 → r ≡ mapAnswer bytes caps area
-    refused-large r l e = e ∙ answer-is bytes caps area (Refused 9 0) (large l)
+      pub refused-large : (r : Mapping) → r ≡ refusal 9 0 → r ≡ mapAnswer bytes caps area
+      unfolding mapAnswer mapChecks sourceMaps
+      refused-large r e = cc large
 
-    pub kept-large : mappedLimit < N + total → area ≡ mapArea bytes caps area
-    kept-large l = area-is bytes caps area (Refused 9 0) (large l)
+      pub kept-large : area ≡ mapArea bytes caps area
+      unfolding mapArea mapChecks sourceMaps
+      kept-large = cc large
 
     module _ (l : N + total ≤ mappedLimit) where
-      small : mapChecks bytes caps area ≡ check 10 0 (tooShort (netlist bytes) caps area)
-      small =
-          late
-          ∙ ap (λ (b : Bool). check 9 0 b andThen check 10 0 (tooShort (netlist bytes) caps area))
-          (le-ltb mappedLimit (mappedSize (netlist bytes) caps) (omega (arith, h .records, h .buffers)))
+      late : mapChecks bytes caps area ≡ check 10 0 (tooShort (netlist bytes) caps area)
+      unfolding mapChecks sourceMaps
+      late = cc (le-ltb mappedLimit (mappedSize (netlist bytes) caps) (omega (arith, h .records, h .buffers)))
 
       -- 10
-      short : length area < width * (N + total) → mapChecks bytes caps area ≡ Refused 10 0
-      short b =
-          small
-          ∙ ap (check 10 0)
-          (lt-ltb (length area) (width * mappedSize (netlist bytes) caps) (omega (arith, h .records, h .buffers)))
+      module _ (b : length area < width * (N + total)) where
+        short : tooShort (netlist bytes) caps area ≡ true
+        short = lt-ltb (length area) (width * mappedSize (netlist bytes) caps) (omega (arith, h .records, h .buffers))
 
-      pub refused-short : (r : Mapping) → length area < width * (N + total) → r ≡ refusal 10 0 → r ≡ mapAnswer bytes caps area
-      refused-short r b e = e ∙ answer-is bytes caps area (Refused 10 0) (short b)
+        pub refused-short : (r : Mapping) → r ≡ refusal 10 0 → r ≡ mapAnswer bytes caps area
+        unfolding mapAnswer
+        refused-short r e = cc (late, short)
 
-      pub kept-short : length area < width * (N + total) → area ≡ mapArea bytes caps area
-      kept-short b = area-is bytes caps area (Refused 10 0) (short b)
+        pub kept-short : area ≡ mapArea bytes caps area
+        unfolding mapArea
+        kept-short = cc (late, short)
 
       module _ (b : width * (N + total) ≤ length area) where
-        passes : mapChecks bytes caps area ≡ Passed
-        passes =
-            small
-            ∙ ap (check 10 0)
-            (le-ltb (length area) (width * mappedSize (netlist bytes) caps) (omega (arith, h .records, h .buffers)))
-
         pub mapped-room : width * mappedSize (netlist bytes) caps ≤ length area
         mapped-room = omega (arith, h .records, h .buffers)
 
+        long : tooShort (netlist bytes) caps area ≡ false
+        long = le-ltb (length area) (width * mappedSize (netlist bytes) caps) mapped-room
+
         pub mapped-answer : (r : Mapping) → r ≡ figures (netlist bytes) total → r ≡ mapAnswer bytes caps area
-        mapped-answer r e = e ∙ ap (figures (netlist bytes)) (h .buffers) ∙ answer-is bytes caps area Passed passes
+        unfolding mapAnswer
+        mapped-answer r e = cc (late, long)
 
         pub mapped-area : (after : List ℕ) → after ≡ onto (bytesOf (mapped (netlist bytes) caps)) area → after ≡ mapArea bytes caps area
-        mapped-area after e = e ∙ area-is bytes caps area Passed passes
+        unfolding mapArea
+        mapped-area after e = cc (late, long)

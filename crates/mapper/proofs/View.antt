@@ -1,6 +1,6 @@
 -- Laws of the block view: where a block begins, when there is none, and that its part lies within the area.
 use Prim.Native.Nat.{ℕ, suc, _+_, _-_, _*_, _≤_, _<_}
-use mathlib.Core.Path.{_≡_, refl, sym, _∙_, ap, ap₂}
+use mathlib.Core.Path.{_≡_, sym, _∙_}
 use mathlib.Core.Bool.{Bool, true, false, cond}
 use mathlib.Core.List.{List, []}
 use native.Mathlib.Omega.{arith}
@@ -11,12 +11,10 @@ use lib.ListN.{length, take, drop}
 use borrow.Author.Tests.{le-leb, lt-leb, le-ltb, lt-ltb}
 use Rattle.facts.specs.declared.Checked.{Checked}
 use Rattle.facts.specs.declared.Checked.the-variants.{Passed, Refused}
-use Rattle.facts.specs.Checks.{check}
 use Rattle.facts.specs.Sums.{sum}
 use Rattle.facts.proofs.Sums.{sum-more}
 use Rattle.facts.proofs.Reflect.{scan-passed}
 use Rattle.netlist.specs.declared.Capacities.{Capacities}
-use Rattle.netlist.specs.declared.Record.{Record}
 use Rattle.netlist.specs.Kinds.{width, mappedLimit, isDriver}
 use Rattle.netlist.specs.Records.{netlist, recordCount, recordAt}
 use Rattle.netlist.specs.Checks.{inputChecks}
@@ -26,7 +24,7 @@ use Rattle.nets.specs.declared.trees.Sizing.{Sizing}
 use Rattle.nets.specs.declared.trees.Sizing.the-variants.{Total, Stops}
 use Rattle.mapper.specs.declared.Ends.{Ends}
 use Rattle.mapper.specs.Mapped.{blockStart, mappedSize}
-use Rattle.mapper.specs.Answer.{tooLarge, sourceMaps}
+use Rattle.mapper.specs.Answer.{sourceMaps}
 use Rattle.nets.specs.Checks.{treeCheck, treesBelow, treeChecks}
 use Rattle.nets.specs.PrivateChains.{sizingOf}
 use Rattle.mapper.specs.PrivateWriting.{Counted, Mappable}
@@ -34,46 +32,29 @@ use Rattle.nets.proofs.TreeCounts.{input-allowed, total-small, refusing, counti
 use Rattle.mapper.specs.View.{noEnds, ownEnds, endsOf, blockEnds, between}
 
 module _ (bytes : List ℕ) (caps : Capacities) (d : ℕ) where
-  ends-are : (a : Checked) → sourceMaps bytes caps ≡ a → endsOf a (netlist bytes) caps d ≡ blockEnds bytes caps d
-  unfolding blockEnds
-  ends-are a e = ap (λ (a : Checked). endsOf a (netlist bytes) caps d) (sym e)
-
   -- 1 to 7
-  input-refuses : (number place : ℕ) → inputChecks bytes caps ≡ Refused number place → sourceMaps bytes caps ≡ Refused number place
-  unfolding sourceMaps
-  input-refuses number place e = rw e refl
-
   pub ends-input : (number place : ℕ) (a : Checked) (r : Ends) → a ≡ inputChecks bytes caps → a ≡ Refused number place → r ≡ noEnds →
       r ≡ blockEnds bytes caps d
-  ends-input number place a r e f g = g ∙ ends-are (Refused number place) (input-refuses number place (sym e ∙ f))
+  unfolding blockEnds sourceMaps
+  ends-input number place a r e f g = cc
 
-  module _ (i : inputChecks bytes caps ≡ Passed) where
-    -- 8
-    trees-refuse : (number place : ℕ) → treeChecks (netlist bytes) caps ≡ Refused number place → sourceMaps bytes caps ≡ Refused number place
-    unfolding sourceMaps
-    trees-refuse number place e = rw (i, e) refl
-
-    pub ends-tree : (number place total : ℕ) (z : Sizing) (r : Ends) → z ≡ sizingOf (treeChecks (netlist bytes) caps) total →
-        z ≡ Stops number place → r ≡ noEnds → r ≡ blockEnds bytes caps d
-    ends-tree number place total z r e f g =
-        g ∙ ends-are (Refused number place) (trees-refuse number place (refusing (netlist bytes) caps number place total z e f))
+  -- 8
+  pub ends-tree : inputChecks bytes caps ≡ Passed → (number place total : ℕ) (z : Sizing) (r : Ends) → z ≡ sizingOf (treeChecks (netlist bytes) caps) total →
+      z ≡ Stops number place → r ≡ noEnds → r ≡ blockEnds bytes caps d
+  unfolding blockEnds sourceMaps
+  ends-tree i number place total z r e f g = cc (refusing (netlist bytes) caps number place total z e f)
 
 -- 9
 module _ (bytes : List ℕ) (caps : Capacities) (N : ℕ) (first next : List ℕ) (end total : ℕ) (h : Counted bytes caps N first next end total) where
-  late : sourceMaps bytes caps ≡ check 9 0 (tooLarge (netlist bytes) caps)
-  unfolding sourceMaps
-  late = rw (h .input, h .trees) refl
-
   pub ends-large : (d : ℕ) (r : Ends) → mappedLimit < N + total → r ≡ noEnds → r ≡ blockEnds bytes caps d
-  ends-large d r l e =
-      e
-      ∙ ends-are bytes caps d (Refused 9 0)
-      (late ∙ ap (check 9 0) (lt-ltb mappedLimit (mappedSize (netlist bytes) caps) (omega (arith, h .records, h .buffers))))
+  unfolding blockEnds sourceMaps
+  ends-large d r l e = cc (lt-ltb mappedLimit (mappedSize (netlist bytes) caps) (omega (arith, h .records, h .buffers)))
 
   pub ends-maps : N + total ≤ mappedLimit → Mappable bytes caps N first next end
+  unfolding sourceMaps
   ends-maps l =
       record {
-        maps = late ∙ ap (check 9 0) (le-ltb mappedLimit (mappedSize (netlist bytes) caps) (omega (arith, h .records, h .buffers)));
+        maps = cc (le-ltb mappedLimit (mappedSize (netlist bytes) caps) (omega (arith, h .records, h .buffers)));
         allowed = input-allowed bytes caps (h .input);
         trees = h .trees;
         chained = h .chained;
@@ -111,26 +92,19 @@ module _ (bytes : List ℕ) (caps : Capacities) (N : ℕ) (first next : List ℕ
         go (Refused n′ p′) p g = let z : _≡_ {A = ℕ} 0 1 = cc in omega arith
 
   module _ (d : ℕ) where
-    maps-ends : cond (isDriver (recordAt bytes d .kind)) (ownEnds (netlist bytes) caps d) noEnds
-        ≡ blockEnds bytes caps d
-    maps-ends = ends-are bytes caps d Passed (h .maps)
-
     pub ends-past : (r : Ends) → N ≤ d → r ≡ noEnds → r ≡ blockEnds bytes caps d
-    ends-past r l e =
-        e
-        ∙ ap (λ (x : Record). cond (isDriver (x .kind)) (ownEnds (netlist bytes) caps d) noEnds) (sym (record-past bytes d (omega (arith, h .records))))
-        ∙ maps-ends
+    unfolding blockEnds
+    ends-past r l e = cc (record-past bytes d (omega (arith, h .records)))
 
     module _ (kind : ℕ) (b : Bool) (k : kind ≡ recordAt bytes d .kind) (e : b ≡ isDriver kind) where
       pub ends-other : (r : Ends) → b ≡ false → r ≡ noEnds → r ≡ blockEnds bytes caps d
-      ends-other r f g = g ∙ ap (λ (b : Bool). cond b (ownEnds (netlist bytes) caps d) noEnds) (sym f ∙ e ∙ ap isDriver k) ∙ maps-ends
+      unfolding blockEnds
+      ends-other r f g = cc
 
       pub ends-driver : (x y : ℕ) → b ≡ true → x ≡ blockStart (netlist bytes) caps d → y ≡ blockStart (netlist bytes) caps (d + 1) →
           record { from = x; to = y } ≡ blockEnds bytes caps d
-      ends-driver x y f g i =
-          ap₂ (λ (x y : ℕ). record { from = x; to = y }) g (i ∙ ap (blockStart (netlist bytes) caps) (add-one d))
-          ∙ ap (λ (b : Bool). cond b (ownEnds (netlist bytes) caps d) noEnds) (sym f ∙ e ∙ ap isDriver k)
-          ∙ maps-ends
+      unfolding blockEnds
+      ends-driver x y f g i = cc (add-one d)
 
 -- a block ends behind its beginning
 ends-order : (bytes : List ℕ) (caps : Capacities) (d : ℕ) → blockEnds bytes caps d .from ≤ blockEnds bytes caps d .to
@@ -151,9 +125,7 @@ module _ (bytes area : List ℕ) (caps : Capacities) (d : ℕ) (e : Ends) (h : e
   ordered = rw h (ends-order bytes caps d)
 
   pub view-empty : (m : ℕ) → m ≡ recordCount area → m < e .to → [] ≡ between area (blockEnds bytes caps d)
-  view-empty m c l =
-      ap (λ (b : Bool). cond b (take (width * e .to - width * e .from) (drop (width * e .from) area)) []) (sym (lt-leb (e .to) (recordCount area) (omega arith)))
-      ∙ ap (between area) h
+  view-empty m c l = cc (lt-leb (e .to) (recordCount area) (omega arith))
 
   module _ (m : ℕ) (c : m ≡ recordCount area) (l : e .to ≤ m) where
     pub view-order : width * e .from ≤ width * e .to
@@ -163,6 +135,4 @@ module _ (bytes area : List ℕ) (caps : Capacities) (d : ℕ) (e : Ends) (h : e
     view-end = omega arith
 
     pub view-part : take (width * e .to - width * e .from) (drop (width * e .from) area) ≡ between area (blockEnds bytes caps d)
-    view-part =
-        ap (λ (b : Bool). cond b (take (width * e .to - width * e .from) (drop (width * e .from) area)) []) (sym (le-leb (e .to) (recordCount area) (omega arith)))
-        ∙ ap (between area) h
+    view-part = cc (le-leb (e .to) (recordCount area) (omega arith))
