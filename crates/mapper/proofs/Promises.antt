@@ -184,16 +184,8 @@ accepted-maps bytes caps area e = accepts bytes caps area e
 part-recs : (m : Netlist) (i c k : ℕ) (rest : List ℕ) →
     take (width * c) (drop (width * i) (recs m 0 (i + (c + k)) ++ rest)) ≡ recs m i c
 part-recs m i c k rest =
-    ap (λ (l : List ℕ). take (width * c) (drop (width * i) l)) split
-    ∙ ap (take (width * c)) (drop-at (recs m 0 i) (recs m i c ++ (recs m (i + c) k ++ rest)) (width * i) (length-recs m 0 i))
-    ∙ take-at (recs m i c) (recs m (i + c) k ++ rest) (width * c) (length-recs m i c)
-  where
-    split : recs m 0 (i + (c + k)) ++ rest ≡ recs m 0 i ++ (recs m i c ++ (recs m (i + c) k ++ rest))
-    split =
-        ap (λ (l : List ℕ). l ++ rest)
-        (recs-append m 0 i (c + k) ∙ ap (λ (x : ℕ). recs m 0 i ++ recs m x (c + k)) (zero-add i) ∙ ap (λ (l : List ℕ). recs m 0 i ++ l) (recs-append m i c k))
-        ∙ append-assoc (recs m 0 i) (recs m i c ++ recs m (i + c) k) rest
-        ∙ ap (λ (l : List ℕ). recs m 0 i ++ l) (append-assoc (recs m i c) (recs m (i + c) k) rest)
+    rw (recs-append m 0 i (c + k), zero-add i, recs-append m i c k, append-assoc, append-assoc, drop-at (recs m 0 i) _ (width * i) (length-recs m 0 i))
+    (take-at (recs m i c) (recs m (i + c) k ++ rest) (width * c) (length-recs m i c))
 
 module _ (bytes : List ℕ) (caps : Capacities) (d : ℕ) where
   ends-driver : sourceMaps bytes caps ≡ Passed → isDriver (recordAt bytes d .kind) ≡ true →
@@ -222,13 +214,9 @@ module _ (bytes : List ℕ) (caps : Capacities) (d : ℕ) where
       ≡ recs (mapped (netlist bytes) caps) (blockStart (netlist bytes) caps d) (treeSize (netlist bytes) caps d)
   unfolding sum
   block area e b =
-      ap (between (mapArea bytes caps area)) (ends-driver (parts bytes caps area e .0) b)
-      ∙ ap (λ (c : Bool). cond c (take (width * to - width * start) (drop (width * start) (mapArea bytes caps area))) [])
-      (le-leb to (recordCount (mapArea bytes caps area)) inside)
-      ∙ ap₂ (λ (k : ℕ) (l : List ℕ). take k (drop (width * start) l)) wide
-      (area-written bytes caps area e
-      ∙ ap (λ (k : ℕ). recs (mapped (netlist bytes) caps) 0 k ++ drop (length (bytesOf (mapped (netlist bytes) caps))) area) all)
-      ∙ part-recs (mapped (netlist bytes) caps) start c rest (drop (length (bytesOf (mapped (netlist bytes) caps))) area)
+      rw (ends-driver (parts bytes caps area e .0) b, le-leb to (recordCount (mapArea bytes caps area)) inside, wide, area-written bytes caps area e)
+      (ap (λ (k : ℕ). take (width * c) (drop (width * start) (recs (mapped (netlist bytes) caps) 0 k ++ past))) all
+      ∙ part-recs (mapped (netlist bytes) caps) start c rest past)
     where
       start : ℕ
       start = blockStart (netlist bytes) caps d
@@ -241,6 +229,9 @@ module _ (bytes : List ℕ) (caps : Capacities) (d : ℕ) where
 
       rest : ℕ
       rest = mappedSize (netlist bytes) caps - to
+
+      past : List ℕ
+      past = drop (length (bytesOf (mapped (netlist bytes) caps))) area
 
       before : to ≤ mappedSize (netlist bytes) caps
       before = omega (arith, sum-more (treeSize (netlist bytes) caps) (suc d) (recordCount bytes) (driver-inside bytes d b))

@@ -172,17 +172,15 @@ module _ (n : Netlist) (caps : Capacities) (first : List ℕ) (end : ℕ) (area�
           parents = w .parents;
           long = ap length (w .bytes) ∙ records-length (mapped n caps) at (treeSize n caps d) area (omega (arith, inside, h .long)) ∙ h .long;
           bytes =
-              w .bytes
-              ∙ ap₂ (λ (xs : List ℕ) (i : ℕ). withRecords (mapped n caps) i (treeSize n caps d) xs) (h .bytes) (h .start)
-              ∙ records-more (mapped n caps) (n .size) (sum (treeSize n caps) d) area₀ (treeSize n caps d) (omega (arith, inside, h .start))
-              ∙ ap (λ (c : ℕ). withRecords (mapped n caps) (n .size) c area₀) (sum-last (treeSize n caps) d);
+              rw (w .bytes, h .bytes, h .start, ← sum-last (treeSize n caps) d)
+              (records-more (mapped n caps) (n .size) (sum (treeSize n caps) d) area₀ (treeSize n caps d) (omega (arith, inside, h .start)));
         }
       where
         inside : at + treeSize n caps d ≤ mappedSize n caps
         inside = omega (arith, h .start, block-before (treeSize n caps) d (n .size) (omega arith))
 
     pub nets-parents : N ≤ d → ParentsSet n caps first next (n .size) end
-    nets-parents l = let e : d ≡ n .size = omega (arith, h .within) in subst (λ (x : ℕ). ParentsSet n caps first next x end) e (h .parents)
+    nets-parents l = let e : n .size ≡ d = omega (arith, h .within) in subst (λ (x : ℕ). ParentsSet n caps first next x end) (sym e) (h .parents)
 
     pub nets-bytes : N ≤ d → area ≡ withRecords (mapped n caps) (n .size) (sum (treeSize n caps) (n .size)) area₀
     nets-bytes l =

@@ -43,8 +43,7 @@ module _ (area₀ : List ℕ) (at : ℕ) (f : ℕ → Record) (n : ℕ) where
 
     pub written-end : n ≤ j → area ≡ put area₀ (width * at) (encoded f n)
     written-end l =
-        let e : j ≡ n = omega (arith, h .within) in
-        h .bytes ∙ ap (λ (k : ℕ). put area₀ (width * at) (encoded f k)) e
+        let e : n ≡ j = omega (arith, h .within) in rw e (h .bytes)
 
     pub written-more : (r : Record) (after : List ℕ) → width * (at + n) ≤ length area₀ → j < n → r ≡ f j →
         after ≡ put area (width * (at + j)) (encode r) → RecordsSoFar area₀ at f n after (j + 1)
@@ -52,26 +51,13 @@ module _ (area₀ : List ℕ) (at : ℕ) (f : ℕ → Record) (n : ℕ) where
     written-more r after room l e g =
         record {
           within = omega arith;
-          long =
-              ap length g
-              ∙ length-put area (width * (at + j)) (encode r) (omega (arith, h .long, length-encode r))
-              ∙ h .long;
+          long = rw g (length-put area (width * (at + j)) (encode r) (omega (arith, h .long, length-encode r)) ∙ h .long);
           bytes =
-              g
-              ∙ ap₂ (λ (xs : List ℕ) (k : ℕ). put xs k (encode r)) (h .bytes) place
-              ∙ put-behind area₀ (width * at) so-far (encode r) (omega (arith, long-so-far))
-              ∙ ap (λ (r : Record). put area₀ (width * at) (so-far ++ encode r)) e
-              ∙ ap (λ (k : ℕ). put area₀ (width * at) (encoded f k)) (sym (add-one j));
+              rw (g, h .bytes, place, add-one j, ← e) (put-behind area₀ (width * at) (encoded f j) (encode r) (omega (arith, length-encoded f j)));
         }
       where
-        so-far : List ℕ
-        so-far = encoded f j
-
-        long-so-far : length so-far ≡ width * j
-        long-so-far = length-encoded f j
-
-        place : width * (at + j) ≡ width * at + length so-far
-        place = omega (arith, long-so-far)
+        place : width * (at + j) ≡ width * at + length (encoded f j)
+        place = omega (arith, length-encoded f j)
 
 -- what node q of distance k hangs on, by distance
 pub behind-near : (s k q base : ℕ) → k < 2 → base ≡ base + behind s k q

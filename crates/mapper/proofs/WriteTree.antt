@@ -143,16 +143,10 @@ module _ (n : Netlist) (caps : Capacities) (d start top : ℕ) (counts area₀ :
             parents = rw (add-one k) (at-place-k ∙ sym (parent-next n caps d (h .driver) k (p .above)));
             size = length-set base k from ∙ p .size;
             firstParents = λ x a b. at-distance x a b (ℕ-discrete x k);
-            long =
-                ap length g
-                ∙ ap (λ (l : List ℕ). length (put area (width * at) l)) level-bytes
-                ∙ records-length (mapped n caps) at (getD counts k 0) area tree-room ∙ p .long;
+            long = rw (g, level-bytes) (records-length (mapped n caps) at (getD counts k 0) area tree-room ∙ p .long);
             bytes =
-                g
-                ∙ ap (put area (width * at)) level-bytes
-                ∙ ap₂ (λ (xs : List ℕ) (i : ℕ). withRecords (mapped n caps) i (getD counts k 0) xs) (p .bytes) (p .here)
-                ∙ records-more (mapped n caps) start (sum (buffersOf n caps d) k) area₀ (getD counts k 0) (omega (arith, ends, p .here))
-                ∙ ap (λ (c : ℕ). withRecords (mapped n caps) start c area₀) so-far;
+                rw (g, level-bytes, p .bytes, p .here, ← so-far)
+                (records-more (mapped n caps) start (sum (buffersOf n caps d) k) area₀ (getD counts k 0) (omega (arith, ends, p .here)));
           }
         where
           at-place-k : at ≡ place n caps d k 0
