@@ -98,14 +98,7 @@ module _ (bytes : List ℕ) (caps : Capacities) (i : inputChecks bytes caps ≡ 
       z ≡ Total total → (first next : List ℕ) (end : ℕ) → Chained (netlist bytes) first next 0 end →
       Counted bytes caps N first next end total
   counted-all total z e f first next end l =
-      let c = counting (netlist bytes) caps (recordCount bytes) total z e f in
-      record {
-        input = i;
-        trees = c .0;
-        chained = l;
-        records = size;
-        buffers = c .1;
-      }
+      let c = counting (netlist bytes) caps (recordCount bytes) total z e f in search
 
 -- what 1 to 9 show
 pub passed-ready : (bytes : List ℕ) (caps : Capacities) → inputChecks bytes caps ≡ Passed → treeChecks (netlist bytes) caps ≡ Passed →

@@ -3,7 +3,7 @@
 use Prim.Native.Nat.{ℕ, zero, suc, _+_, _-_, _≤_, _<_, _/_}
 use mathlib.Core.Path.{_≡_, refl, _∙_, ap, subst, subst⁻¹}
 use mathlib.Core.Logic.{_≢_}
-use mathlib.Core.Bool.{Bool, true, cond}
+use mathlib.Core.Bool.{true, cond}
 use native.Mathlib.Omega.{arith}
 use native.Mathlib.Decide.{decLt}
 use lib.ListN.{drop}
@@ -100,21 +100,19 @@ module _ (n : Netlist) (caps : Capacities) (r : Ready n caps) where
   buffer-node d zero j ld l b = absurd (omega arith)
   buffer-node d (suc k) j ld l b = omega (arith, nodes-split d (suc k) (omega arith) l)
 
-  -- without sinks from a distance on there are no nodes
-  none-from : (d k : ℕ) → ((x : ℕ) → k ≤ x → sinks n d x ≡ 0) → nodesAt (caps .buffer) (row n d) k ≡ 0
-  none-from d k z =
-      nodes-none (caps .buffer) (drop k (row n d)) pos (λ x. getD-drop k (row n d) x 0 ∙ row-none n d (k + x) (z (k + x) (omega arith)))
+  -- without sinks from a distance on there are no buffers
+  none-from : (d k : ℕ) → ((x : ℕ) → k ≤ x → sinks n d x ≡ 0) → buffersOf n caps d k ≡ 0
+  unfolding buffersOf
+  none-from d zero z = refl
+  none-from d (suc k) z =
+      ap (up (caps .buffer))
+      (nodes-none (caps .buffer) (drop (suc (suc k)) (row n d)) pos
+      (λ x. getD-drop (suc (suc k)) (row n d) x 0 ∙ row-none n d _ (z (suc (suc k) + x) (omega arith))))
+      ∙ up-zero (caps .buffer) pos
 
   -- an output has no buffer
   pub buffer-drives : (d k j : ℕ) → j < buffersOf n caps d k → n .at d .kind ≢ output
-  unfolding buffersOf
-  buffer-drives d zero j b e = omega arith
-  buffer-drives d (suc k) j b e =
-      omega (
-        arith,
-        ap (up (caps .buffer)) (none-from d (suc (suc k)) (λ x l. no-sinks n d (r .source) (ap isDriver e) x)),
-        up-zero (caps .buffer) pos,
-      )
+  buffer-drives d k j b e = omega (arith, none-from d k (λ x l. no-sinks n d (r .source) (ap isDriver e) x))
 
   -- no sink stands above the top level
   sinks-far : (d x : ℕ) → topLevel < n .at d .level + x → sinks n d x ≡ 0
@@ -125,11 +123,9 @@ module _ (n : Netlist) (caps : Capacities) (r : Ready n caps) where
 
   -- a buffer stands on a level: some sink stands further on
   pub buffer-level : (d k j : ℕ) → j < buffersOf n caps d k → n .at d .level + k ≤ topLevel
-  unfolding buffersOf
-  buffer-level d zero j b = absurd (omega arith)
-  buffer-level d (suc k) j b =
-      elim (decLt topLevel (n .at d .level + suc k)) [
-        | yes h ↦ absurd (omega (arith, ap (up (caps .buffer)) (none-from d (suc (suc k)) (λ x l. sinks-far d x (omega arith))), up-zero (caps .buffer) pos))
+  buffer-level d k j b =
+      elim (decLt topLevel (n .at d .level + k)) [
+        | yes h ↦ absurd (omega (arith, none-from d k (λ x l. sinks-far d x (omega arith))))
         | no h ↦ omega arith
       ]
 
@@ -167,14 +163,10 @@ module _ (n : Netlist) (caps : Capacities) (r : Ready n caps) where
   slot-at i j l b = rw (at-source n caps pos i l) (getD-tabulate (λ j. cond (used n i j) (sinkParent n caps i j) (fanin n i j)) slots j unused b)
 
   pub slot-used : (i j : ℕ) → i < n .size → j < arity (n .at i .kind) → slot (mappedAt n caps i) j ≡ sinkParent n caps i j
-  slot-used i j l b =
-      slot-at i j l (omega (arith, arity-slots (n .at i .kind)))
-      ∙ ap (λ (c : Bool). cond c (sinkParent n caps i j) (fanin n i j)) (lt-ltb j (arity (n .at i .kind)) b)
+  slot-used i j l b = rw (slot-at i j l (omega (arith, arity-slots (n .at i .kind))), lt-ltb j (arity (n .at i .kind)) b) refl
 
   pub slot-kept : (i j : ℕ) → i < n .size → arity (n .at i .kind) ≤ j → j < slots → slot (mappedAt n caps i) j ≡ fanin n i j
-  slot-kept i j l a b =
-      slot-at i j l b
-      ∙ ap (λ (c : Bool). cond c (sinkParent n caps i j) (fanin n i j)) (le-ltb j (arity (n .at i .kind)) a)
+  slot-kept i j l a b = rw (slot-at i j l b, le-ltb j (arity (n .at i .kind)) a) refl
 
   -- outside its used slots a source's record is kept
   pub kind-kept : (i : ℕ) → i < n .size → mappedAt n caps i .kind ≡ n .at i .kind

@@ -2,13 +2,12 @@
 use Prim.Native.Nat.{ℕ, suc, _+_, _-_, _*_, _≤_, _<_}
 use mathlib.Core.Path.{_≡_, refl, sym, _∙_, ap, ap₂}
 use mathlib.Core.Logic.{_↔_, ⊎-elim}
-use mathlib.Core.Bool.{Bool, true, false, cond, not}
+use mathlib.Core.Bool.{Bool, true, false, not}
 use mathlib.Core.List.{List, [], _++_, append-assoc}
 use native.Mathlib.Omega.{arith}
 use native.Mathlib.Nat.{zero-add}
 use lib.ListN.{length, take, drop, length-append, length-drop}
 use lib.Seq.{take-at, drop-at}
-use lib.Dec.{leb}
 use borrow.Author.Tests.{le-leb, not-true}
 use Rattle.facts.specs.declared.Checked.{Checked}
 use Rattle.facts.specs.declared.Checked.the-variants.{Passed, Refused}
@@ -38,7 +37,7 @@ use Rattle.fanout.proofs.Rows.{row-of-net, no-sinks}
 use Rattle.mapper.specs.declared.Mapping.{Mapping}
 use Rattle.mapper.specs.Mapped.{blockStart, mappedSize, mapped}
 use Rattle.mapper.specs.PrivateWriting.{Ready}
-use Rattle.mapper.specs.View.{noEnds, ownEnds, blockEnds, between, blockView}
+use Rattle.mapper.specs.View.{noEnds, endsOf, blockEnds, between}
 use Rattle.mapper.specs.Answer.{figures, tooLarge, tooShort, sourceMaps, mapChecks, answerOf, areaOf, mapAnswer, mapArea}
 use Rattle.mapper.specs.Promises.{Treeless, TooLarge, TooShort, SourceMapFails, MapFails, MapExact, RefusedLeaves, Accepts, AcceptedMaps, BlockWritten, BlockNone}
 use Rattle.mapper.proofs.Answering.{passed-ready}
@@ -187,69 +186,47 @@ part-recs m i c k rest =
     rw (recs-append m 0 i (c + k), zero-add i, recs-append m i c k, append-assoc, append-assoc, drop-at (recs m 0 i) _ (width * i) (length-recs m 0 i))
     (take-at (recs m i c) (recs m (i + c) k ++ rest) (width * c) (length-recs m i c))
 
-module _ (bytes : List ℕ) (caps : Capacities) (d : ℕ) where
-  ends-driver : sourceMaps bytes caps ≡ Passed → isDriver (recordAt bytes d .kind) ≡ true →
-      blockEnds bytes caps d ≡ ownEnds (netlist bytes) caps d
-  unfolding blockEnds
-  ends-driver e b = rw (e, b) refl
-
-  ends-refused : (number place : ℕ) → sourceMaps bytes caps ≡ Refused number place → blockEnds bytes caps d ≡ noEnds
-  unfolding blockEnds
-  ends-refused number place e = rw e refl
-
-  ends-other : (a : Checked) → sourceMaps bytes caps ≡ a → isDriver (recordAt bytes d .kind) ≡ false → blockEnds bytes caps d ≡ noEnds
-  unfolding blockEnds
-  ends-other Passed e b = rw (e, b) refl
-  ends-other (Refused number place) e b = rw e refl
-
-  none-between : (area : List ℕ) → between area noEnds ≡ []
-  none-between area = go (leb 0 (recordCount area))
-    where
-      go : (b : Bool) → cond b (take 0 (drop 0 area)) [] ≡ []
-      go true = refl
-      go false = refl
-
-  block : (area : List ℕ) → mapChecks bytes caps area ≡ Passed → isDriver (recordAt bytes d .kind) ≡ true →
-      blockView bytes caps (mapArea bytes caps area) d
-      ≡ recs (mapped (netlist bytes) caps) (blockStart (netlist bytes) caps d) (treeSize (netlist bytes) caps d)
-  unfolding sum
-  block area e b =
-      rw (ends-driver (parts bytes caps area e .0) b, le-leb to (recordCount (mapArea bytes caps area)) inside, wide, area-written bytes caps area e)
-      (ap (λ (k : ℕ). take (width * c) (drop (width * start) (recs (mapped (netlist bytes) caps) 0 k ++ past))) all
-      ∙ part-recs (mapped (netlist bytes) caps) start c rest past)
-    where
-      start : ℕ
-      start = blockStart (netlist bytes) caps d
-
-      to : ℕ
-      to = blockStart (netlist bytes) caps (suc d)
-
-      c : ℕ
-      c = treeSize (netlist bytes) caps d
-
-      rest : ℕ
-      rest = mappedSize (netlist bytes) caps - to
-
-      past : List ℕ
-      past = drop (length (bytesOf (mapped (netlist bytes) caps))) area
-
-      before : to ≤ mappedSize (netlist bytes) caps
-      before = omega (arith, sum-more (treeSize (netlist bytes) caps) (suc d) (recordCount bytes) (driver-inside bytes d b))
-
-      inside : to ≤ recordCount (mapArea bytes caps area)
-      inside = omega (arith, before, accepts bytes caps area e .long, room bytes caps area e)
-
-      wide : width * to - width * start ≡ width * c
-      wide = omega arith
-
-      all : mappedSize (netlist bytes) caps ≡ start + (c + rest)
-      all = omega (arith, before)
-
 pub block-written : BlockWritten
-block-written bytes caps area d e b = block bytes caps d area e b
+unfolding sum blockEnds
+block-written bytes caps area d e b =
+    rw (parts bytes caps area e .0, b, le-leb to (recordCount (mapArea bytes caps area)) inside, wide, area-written bytes caps area e)
+    (ap (λ (k : ℕ). take (width * c) (drop (width * start) (recs (mapped (netlist bytes) caps) 0 k ++ past))) all
+    ∙ part-recs (mapped (netlist bytes) caps) start c rest past)
+  where
+    start : ℕ
+    start = blockStart (netlist bytes) caps d
+
+    to : ℕ
+    to = blockStart (netlist bytes) caps (suc d)
+
+    c : ℕ
+    c = treeSize (netlist bytes) caps d
+
+    rest : ℕ
+    rest = mappedSize (netlist bytes) caps - to
+
+    past : List ℕ
+    past = drop (length (bytesOf (mapped (netlist bytes) caps))) area
+
+    before : to ≤ mappedSize (netlist bytes) caps
+    before = omega (arith, sum-more (treeSize (netlist bytes) caps) (suc d) (recordCount bytes) (driver-inside bytes d b))
+
+    inside : to ≤ recordCount (mapArea bytes caps area)
+    inside = omega (arith, before, accepts bytes caps area e .long, room bytes caps area e)
+
+    wide : width * to - width * start ≡ width * c
+    wide = omega arith
+
+    all : mappedSize (netlist bytes) caps ≡ start + (c + rest)
+    all = omega (arith, before)
+
+none-between : (area : List ℕ) → between area noEnds ≡ []
+none-between area = rw (le-leb 0 (recordCount area) (omega arith)) refl
 
 pub block-none : BlockNone
-block-none bytes caps area d = (
-  λ number place e. ap (between area) (ends-refused bytes caps d number place e) ∙ none-between bytes caps d area,
-  λ b. ap (between area) (ends-other bytes caps d (sourceMaps bytes caps) refl b) ∙ none-between bytes caps d area,
-)
+unfolding blockEnds
+block-none bytes caps area d = (λ number place e. rw e (none-between area), other (sourceMaps bytes caps))
+  where
+    other : (a : Checked) → isDriver (recordAt bytes d .kind) ≡ false → between area (endsOf a (netlist bytes) caps d) ≡ []
+    other Passed b = rw b (none-between area)
+    other (Refused number place) b = none-between area

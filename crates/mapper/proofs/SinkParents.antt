@@ -132,10 +132,7 @@ module _ (n : Netlist) (caps : Capacities) (d : ℕ) (first before : List ℕ) (
           ∙ ap (λ (x : ℕ). x + behind (caps .buffer) k (getD counts k 0)) (sym (h .firstParents .at k (node .above) (omega (arith, node .number))))
 
       hangs-on : onParent n caps p ≡ getD base k 0 + behind (caps .buffer) k (getD counts k 0)
-      hangs-on = sink-parent n caps (h .ready) d p inside names ∙ by-level ∙ on-base
-        where
-          by-level : parent n caps d (slotDistance n d p) (flatNumbered n caps p d) ≡ parent n caps d k (getD counts k 0)
-          by-level = rw (number-is, ek) refl
+      hangs-on = rw (← on-base, number-is, ek) (sink-parent n caps (h .ready) d p inside names)
 
       pub sinks-parent : getD base k 0 + behind (caps .buffer) k (getD counts k 0) < 65536
       sinks-parent = omega (arith, on-base, parent-is n caps (h .ready) d k (getD counts k 0) node .0, h .ready .fits)

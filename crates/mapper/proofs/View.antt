@@ -53,13 +53,8 @@ module _ (bytes : List ℕ) (caps : Capacities) (N : ℕ) (first next : List ℕ
   pub ends-maps : N + total ≤ mappedLimit → Mappable bytes caps N first next end
   unfolding sourceMaps
   ends-maps l =
-      record {
-        maps = cc (le-ltb mappedLimit (mappedSize (netlist bytes) caps) (omega (arith, h .records, h .buffers)));
-        allowed = input-allowed bytes caps (h .input);
-        trees = h .trees;
-        chained = h .chained;
-        records = h .records;
-      }
+      let maps : sourceMaps bytes caps ≡ Passed = cc (le-ltb mappedLimit (mappedSize (netlist bytes) caps) (omega (arith, h .records, h .buffers))) in
+      search input-allowed
 
 module _ (bytes : List ℕ) (caps : Capacities) (N : ℕ) (first next : List ℕ) (end : ℕ) (h : Mappable bytes caps N first next end) where
   module _ (m : ℕ) (l : m ≤ N) (z : Sizing) (e : z ≡ sizingOf (treesBelow (netlist bytes) caps m) (sum (treeSize (netlist bytes) caps) m)) where

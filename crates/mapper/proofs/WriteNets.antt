@@ -1,6 +1,6 @@
 -- Laws of writing one net: what each step leaves is what the next one asks.
 use Prim.Native.Nat.{ℕ, zero, suc, _+_, _-_, _*_, _≤_, _<_}
-use mathlib.Core.Path.{_≡_, refl, sym, _∙_, ap, ap₂, subst}
+use mathlib.Core.Path.{_≡_, refl, sym, _∙_, ap, subst}
 use mathlib.Core.Bool.{true}
 use mathlib.Core.List.{List}
 use native.Mathlib.Omega.{arith}
@@ -146,15 +146,7 @@ module _ (n : Netlist) (caps : Capacities) (first : List ℕ) (end : ℕ) (area�
       ParentsSet n caps first next 0 end → NetsWritten n caps first end area₀ 0 N next counts base area₀
   unfolding sum
   nets-start N next counts base e c b h =
-      record {
-        within = omega arith;
-        start = omega arith;
-        clear = c;
-        room = b;
-        parents = h;
-        long = refl;
-        bytes = sym (records-none (mapped n caps) (n .size) area₀);
-      }
+      let bytes = sym (records-none (mapped n caps) (n .size) area₀) in search arith
 
   module _ (d at N : ℕ) (next counts base area : List ℕ) (h : NetsWritten n caps first end area₀ d at next counts base area) (size : N ≡ n .size) where
     pub nets-writable : d < N → Writable n caps d at first next end counts base area
@@ -180,7 +172,7 @@ module _ (n : Netlist) (caps : Capacities) (first : List ℕ) (end : ℕ) (area�
         inside = omega (arith, h .start, block-before (treeSize n caps) d (n .size) (omega arith))
 
     pub nets-parents : N ≤ d → ParentsSet n caps first next (n .size) end
-    nets-parents l = let e : n .size ≡ d = omega (arith, h .within) in subst (λ (x : ℕ). ParentsSet n caps first next x end) (sym e) (h .parents)
+    nets-parents l = let e : d ≡ n .size = omega (arith, h .within) in subst (λ (x : ℕ). ParentsSet n caps first next x end) e (h .parents)
 
     pub nets-bytes : N ≤ d → area ≡ withRecords (mapped n caps) (n .size) (sum (treeSize n caps) (n .size)) area₀
     nets-bytes l =

@@ -1,7 +1,7 @@
 -- Laws of writing records one after the other: the first j of n are written; and of one record, slot by slot.
 use Prim.Native.Nat.{ℕ, zero, suc, _+_, _-_, _*_, _≤_, _<_, _/_}
 use mathlib.Core.Path.{_≡_, refl, sym, _∙_, ap, ap₂}
-use mathlib.Core.List.{List, _++_}
+use mathlib.Core.List.{List}
 use native.Mathlib.Omega.{arith}
 use native.Mathlib.Nat.{add-zero, zero-add, div-le-self}
 use native.Mathlib.Numerals.{add-one}
@@ -30,12 +30,7 @@ pub record RecordsSoFar (area₀ : List ℕ) (at : ℕ) (f : ℕ → Record) (n 
 module _ (area₀ : List ℕ) (at : ℕ) (f : ℕ → Record) (n : ℕ) where
   pub written-start : RecordsSoFar area₀ at f n area₀ 0
   unfolding encoded joined
-  written-start =
-      record {
-        within = omega arith;
-        long = refl;
-        bytes = sym (put-none area₀ (width * at));
-      }
+  written-start = let bytes = sym (put-none area₀ (width * at)) in search arith
 
   module _ (area : List ℕ) (j : ℕ) (h : RecordsSoFar area₀ at f n area j) where
     pub written-room : width * (at + n) ≤ length area₀ → j < n → width * (at + j) + width ≤ length area

@@ -1,6 +1,6 @@
 -- Laws of writing one tree: the buffers at distances below k are written.
 use Prim.Native.Nat.{ℕ, zero, suc, _+_, _-_, _*_, _≤_, _<_}
-use mathlib.Core.Path.{_≡_, refl, sym, _∙_, ap, ap₂}
+use mathlib.Core.Path.{_≡_, refl, sym, _∙_, ap}
 use mathlib.Core.List.{List}
 use native.Mathlib.Omega.{arith}
 use native.Mathlib.Nat.{zero-div}
@@ -82,16 +82,9 @@ module _ (n : Netlist) (caps : Capacities) (d start top : ℕ) (counts area₀ :
   pub tree-start : (base : List ℕ) → length base ≡ suc topLevel → LevelsWritten n caps d start top area₀ base area₀ start d 1
   unfolding parent
   tree-start base b =
-      record {
-        above = omega arith;
-        within = omega arith;
-        here = omega (arith, at-one);
-        parents = refl;
-        size = b;
-        firstParents = λ x l m. absurd (omega arith);
-        long = refl;
-        bytes = sym (ap (λ (c : ℕ). withRecords (mapped n caps) start c area₀) at-one ∙ records-none (mapped n caps) start area₀);
-      }
+      let here = at-one in
+      let bytes = sym (ap (λ (c : ℕ). withRecords (mapped n caps) start c area₀) at-one ∙ records-none (mapped n caps) start area₀) in
+      search arith
 
   pub tree-driver : Fits w16 d
   tree-driver = omega (arith, h .driver, h .ready .source .few)

@@ -165,23 +165,14 @@ module _ (n : Netlist) (first next : List ℕ) where
     where
       at-driver : (d : ℕ) → d < n .size → Dec (d ≡ t) → getD (set first t x) d 0 ≡ nextSink n d x
       at-driver d m (yes f) =
-          rw f
-          (getD-set-same first t x 0 (omega (arith, h .firstLong))
-          ∙ sym (next-here n t x l (and-i (usedSlot n x) _ u (eq-eqb _ t (sym e)))))
+          rw (f, next-here n t x l (and-i (usedSlot n x) _ u (eq-eqb _ t (sym e)))) (getD-set-same first t x 0 (omega (arith, h .firstLong)))
       at-driver d m (no f) =
-          getD-set-other first t d x 0 f
-          ∙ h .firsts d m
-          ∙ ap (nextSink n d) (add-one x)
-          ∙ sym (next-skip n d x l (rw u (ne-eqb (faninSlot n x) d (λ g. f (sym g ∙ sym e)))))
+          rw (getD-set-other first t d x 0 f, next-skip n d x l (rw u (ne-eqb (faninSlot n x) d (λ g. f (sym g ∙ sym e)))), ← add-one x) (h .firsts d m)
 
       at-slot : (y : ℕ) → x ≤ y → y < slotEnd n → usedSlot n y ≡ true → Dec (y ≡ x) →
           getD (set next x (getD first t 0)) y 0 ≡ nextSink n (faninSlot n y) (suc y)
       at-slot y a b v (yes f) =
-          rw f
-          (getD-set-same next x (getD first t 0) 0 (omega (arith, h .nextLong))
-          ∙ h .firsts t ld
-          ∙ ap (nextSink n t) (add-one x)
-          ∙ ap (λ (d : ℕ). nextSink n d (suc x)) e)
+          rw (f, getD-set-same next x (getD first t 0) 0 (omega (arith, h .nextLong)), ← e, ← add-one x) (h .firsts t ld)
       at-slot y a b v (no f) = getD-set-other next x y (getD first t 0) 0 f ∙ h .nexts y (omega arith) b v
 
 pub record-slots : (kind used : ℕ) → used ≡ arity kind → used ≤ slots
