@@ -23,7 +23,7 @@ use Rattle.netlist.specs.Bytes.{bytesOf}
 use Rattle.fanout.specs.Nets.{fewestInAll}
 use Rattle.mapper.specs.declared.Mapping.{Mapping}
 use Rattle.mapper.specs.Mapped.{mappedSize, mapped}
-use Rattle.mapper.specs.PrivateWriting.{Ready, Counted, ParentsSet}
+use Rattle.mapper.specs.PrivateWriting.{Ready, Counted}
 use Rattle.mapper.specs.Answer.{gatePrice, bufferPrice, share, junctions, figures, refusal, tooLarge, tooShort, sourceMaps, mapChecks, mapAnswer, mapArea}
 use Rattle.nets.specs.Checks.{treeCheck, treeChecks, noTree}
 use Rattle.nets.specs.declared.trees.Sizing.{Sizing}
@@ -64,10 +64,6 @@ module _ (n : Netlist) (N bs g : ℕ) (size : N ≡ n .size) (few : N ≤ source
         share = part;
       } ≡ figures n bs
   accepted D part f h = cc
-
--- no sink hangs yet
-pub parents-none : (n : Netlist) (caps : Capacities) (first next : List ℕ) (end : ℕ) → Chained n first next 0 end → ParentsSet n caps first next 0 end
-parents-none n caps first next end h = record { chained = h; at = λ y a b c. absurd (omega arith) }
 
 -- the answer and the area where a check refuses
 module _ (bytes : List ℕ) (caps : Capacities) (area : List ℕ) where

@@ -38,9 +38,6 @@ module _ (n : Netlist) (first before : List ℕ) (end d : ℕ) (h : Chained n fi
 
   module _ (p : ℕ) (after : List ℕ) (t : ParentsSoFar n d f before p after) where
     module _ (l : p < end) where
-      pub parents-inside : p < length after
-      parents-inside = omega (arith, t .size, h .nextLong, h .stop)
-
       inside : p < slotEnd n
       inside = chain-inside n first before end d h p (t .chain) l
 
@@ -76,7 +73,7 @@ module _ (n : Netlist) (first before : List ℕ) (end d : ℕ) (h : Chained n fi
           where
             at : (y : ℕ) → y < q → y < slotEnd n → namesSlot n d y ≡ true → Dec (y ≡ p) → getD (set after p v) y 0 ≡ f y
             at y a b c (yes x) =
-                rw x (getD-set-same after p v 0 parents-inside ∙ g)
+                rw x (getD-set-same after p v 0 (omega (arith, t .size, h .nextLong, h .stop)) ∙ g)
             at y a b c (no x) =
                 getD-set-other after p y v 0 x
                 ∙ elim (decLt y p) [
@@ -91,9 +88,6 @@ module _ (n : Netlist) (first before : List ℕ) (end d : ℕ) (h : Chained n fi
           at = λ y a c. t .below y (omega (arith, t .chain .within, h .stop)) a c;
           others = t .others;
         }
-
-pub driver-fits : (n : Netlist) (first next : List ℕ) (d end : ℕ) → Chained n first next d end → d < n .size → d < 65536
-driver-fits n first next d end h l = omega (arith, h .source .few)
 
 pub line-parent-is : (n : Netlist) (d start p k v : ℕ) → k ≡ slotDistance n d p → v ≡ lineParent d start k → v ≡ onLine n d start p
 unfolding onLine

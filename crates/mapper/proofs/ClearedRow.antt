@@ -8,7 +8,6 @@ use lib.ListN.{length, getD, set, replicate, length-set}
 use lib.Seq.{getD-set-same, getD-set-other}
 use Rattle.facts.proofs.Lists.{zeros}
 use Rattle.netlist.specs.Kinds.{topLevel}
-use Rattle.mapper.specs.PrivateWriting.{Stale}
 
 -- entries below k are zero, and those beyond top
 pub record Clearing (counts : List ℕ) (top k : ℕ) : Type 0 where
@@ -18,13 +17,6 @@ pub record Clearing (counts : List ℕ) (top k : ℕ) : Type 0 where
   pub beyond : (x : ℕ) → top < x → getD counts x 0 ≡ 0
 
 module _ (counts : List ℕ) (top : ℕ) where
-  pub clear-start : Stale counts top → Clearing counts top 0
-  clear-start h =
-      record { size = h .size; near = h .near; before = λ x l. absurd (omega arith); beyond = h .beyond }
-
-  pub clear-room : (k : ℕ) → Clearing counts top k → k ≤ top → k < suc topLevel
-  clear-room k h l = omega (arith, h .near)
-
   pub clear-more : (k : ℕ) → Clearing counts top k → k ≤ top → Clearing (set counts k 0) top (k + 1)
   clear-more k h l =
       record {

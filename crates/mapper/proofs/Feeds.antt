@@ -1,6 +1,6 @@
 -- How many slots each record of the mapped netlist feeds: the nodes that hang on it, and so at most as many as its kind may.
 use Prim.Native.Nat.{ℕ, zero, suc, _+_, _≤_, _<_, _/_}
-use mathlib.Core.Path.{_≡_, refl, sym, _∙_, ap, ap₂, subst⁻¹, subst, subst₂}
+use mathlib.Core.Path.{_≡_, refl, sym, _∙_, ap, ap₂, subst⁻¹, subst₂}
 use mathlib.Core.Bool.{Bool, true, false, _&&_}
 use native.Mathlib.Omega.{arith}
 use native.Mathlib.Nat.{add-assoc}
@@ -11,7 +11,7 @@ use Rattle.facts.proofs.Bools.{and-l, and-r, and-i}
 use Rattle.facts.proofs.Sums.{sum-none, sum-single-le, sum-cong, sum-add, sum-append, count-append, count₂-cong, count-none, count-all, count-le, count-mono, count₂-none, count-div, fibres}
 use Rattle.netlist.specs.declared.Capacities.{Capacities}
 use Rattle.netlist.specs.Kinds.{slots, topLevel, buffer, arity}
-use Rattle.netlist.specs.Records.{Netlist, used, fanin, names, feeds}
+use Rattle.netlist.specs.Records.{Netlist, slot, used, fanin, names, feeds}
 use Rattle.netlist.specs.Capacities.{capacityOf}
 use Rattle.netlist.proofs.Source.{no-buffer}
 use Rattle.fanout.specs.Nets.{sinks, sinkAt, nodesAt, treeSize, row}
@@ -62,14 +62,11 @@ module _ (n : Netlist) (caps : Capacities) (r : Ready n caps) (x : ℕ) where
   goes i j = used n i j && eqb (sinkParent n caps i j) x
 
   source-goes : (i j : ℕ) → i < n .size → names (mapped n caps) x i j ≡ goes i j
-  source-goes i j l =
-      both (names (mapped n caps) x i j) (goes i j)
-      (λ e.
-      let u : j < arity (n .at i .kind) = subst (λ (k : ℕ). j < arity k) (kind-kept n caps r i l) (ltb-true j _ (and-l (used (mapped n caps) i j) _ e)) in
-      and-i (used n i j) _ (lt-ltb j _ u) (eq-eqb _ x (sym (slot-used n caps r i j l u) ∙ eqb-true _ x (and-r (used (mapped n caps) i j) _ e))))
-      (λ e.
-      let u : j < arity (n .at i .kind) = ltb-true j _ (and-l (used n i j) _ e) in
-      and-i (used (mapped n caps) i j) _ (lt-ltb j _ (rw (kind-kept n caps r i l) u)) (eq-eqb _ x (slot-used n caps r i j l u ∙ eqb-true _ x (and-r (used n i j) _ e))))
+  source-goes i j l = rw (kind-kept n caps r i l) (go (used n i j) refl)
+    where
+      go : (u : Bool) → used n i j ≡ u → (u && eqb (slot (mappedAt n caps i) j) x) ≡ (u && eqb (sinkParent n caps i j) x)
+      go true e = rw (slot-used n caps r i j l (ltb-true j _ e)) refl
+      go false e = refl
 
   -- those of d's net
   abbrev ofNet : ℕ → ℕ → ℕ → Bool

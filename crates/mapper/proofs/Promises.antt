@@ -109,10 +109,7 @@ map-exact bytes caps area = exact (map-first bytes caps area)
 pub refused-leaves : RefusedLeaves
 unfolding mapAnswer mapArea
 refused-leaves bytes caps area number place e =
-    record {
-      answer = ap (λ (a : Checked). answerOf a (netlist bytes) caps) e;
-      kept = ap (λ (a : Checked). areaOf a (netlist bytes) caps area) e;
-    }
+    record { answer = cc; kept = cc }
 
 -- what an accepted call shows
 module _ (bytes : List ℕ) (caps : Capacities) where

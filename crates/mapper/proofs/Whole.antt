@@ -4,6 +4,7 @@ use mathlib.Core.Path.{_≡_, refl, sym, _∙_, ap, ap₂}
 use mathlib.Core.Bool.{Bool, true, false, cond}
 use mathlib.Core.List.{List}
 use native.Mathlib.Omega.{arith}
+use native.Mathlib.Nat.{zero-add}
 use lib.ListN.{length, getD}
 use borrow.Author.Tests.{ltb-true}
 use Rattle.netlist.specs.declared.Capacities.{Capacities}
@@ -60,10 +61,6 @@ module _ (bytes : List ℕ) (caps : Capacities) (first parents : List ℕ) (end 
       area ≡ put area₁ 0 (encoded (relinkedAt bytes parents) (netlist bytes .size)) → area ≡ onto (bytesOf (mapped (netlist bytes) caps)) area₀
   whole-area area₀ area₁ area room f g =
       g
-      ∙ ap (put area₁ 0)
-      (encoded-cong _ _ (netlist bytes .size) (λ i l. new-record i l ∙ ap (mappedAt (netlist bytes) caps) (from-zero i)))
+      ∙ ap (put area₁ 0) (encoded-cong _ _ (netlist bytes .size) (λ i l. rw (zero-add i) (new-record i l)))
       ∙ ap (withRecords (mapped (netlist bytes) caps) 0 (netlist bytes .size)) f
       ∙ records-all (mapped (netlist bytes) caps) (netlist bytes .size) (fewestInAll (netlist bytes) caps) area₀ (omega arith) refl
-    where
-      from-zero : (i : ℕ) → i ≡ 0 + i
-      from-zero i = omega arith

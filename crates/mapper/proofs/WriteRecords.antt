@@ -33,9 +33,6 @@ module _ (area₀ : List ℕ) (at : ℕ) (f : ℕ → Record) (n : ℕ) where
   written-start = let bytes = sym (put-none area₀ (width * at)) in search arith
 
   module _ (area : List ℕ) (j : ℕ) (h : RecordsSoFar area₀ at f n area j) where
-    pub written-room : width * (at + n) ≤ length area₀ → j < n → width * (at + j) + width ≤ length area
-    written-room room l = omega (arith, h .long)
-
     pub written-end : n ≤ j → area ≡ put area₀ (width * at) (encoded f n)
     written-end l =
         let e : n ≡ j = omega (arith, h .within) in rw e (h .bytes)
@@ -183,9 +180,6 @@ module _ (r : Record) (parents : List ℕ) (i : ℕ) where
 
 -- record i of the source: read, then written with its used slots anew
 module _ (bytes parents area₀ : List ℕ) (n : ℕ) (area : List ℕ) (i : ℕ) (h : RecordsSoFar area₀ 0 (relinkedAt bytes parents) n area i) where
-  pub source-room : width * n ≤ length area₀ → i < n → width * i + width ≤ length area
-  source-room room l = omega (arith, h .long)
-
   pub source-more : (r : Record) (after : List ℕ) → width * n ≤ length area₀ → i < n → r ≡ recordAt bytes i →
       after ≡ put area (width * i) (encode (relinked r parents i)) → RecordsSoFar area₀ 0 (relinkedAt bytes parents) n after (i + 1)
   unfolding relinkedAt

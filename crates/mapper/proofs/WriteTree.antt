@@ -86,9 +86,6 @@ module _ (n : Netlist) (caps : Capacities) (d start top : ℕ) (counts area₀ :
       let bytes = sym (ap (λ (c : ℕ). withRecords (mapped n caps) start c area₀) at-one ∙ records-none (mapped n caps) start area₀) in
       search arith
 
-  pub tree-driver : Fits w16 d
-  tree-driver = omega (arith, h .driver, h .ready .source .few)
-
   module _ (base area : List ℕ) (at from k : ℕ) (p : LevelsWritten n caps d start top area₀ base area at from k) where
     -- what is written of the tree stays within M
     up-to : (k : ℕ) → k ≤ suc topLevel → start + sum (buffersOf n caps d) k ≤ mappedSize n caps

@@ -96,6 +96,3 @@ module _ (n : Netlist) (first next : List ℕ) (end d : ℕ) (h : Chained n firs
           near = f .near;
           beyond = f .beyond;
         }
-
-    pub fill-stretches : end ≤ p → InStretches counts (suc topLevel) stretches
-    fill-stretches l = f .inStretches

@@ -97,9 +97,6 @@ module _ (n : Netlist) (d : ℕ) where
 
 -- the first d chains are empty
 module _ (end : ℕ) (first : List ℕ) where
-  pub empty-none : Emptied 0 end first
-  empty-none = record { long = omega arith; at = λ d h. absurd (omega arith) }
-
   pub empty-more : (n d : ℕ) (first₀ : List ℕ) → Emptied d end first → d < n → n ≤ length first₀ → length first ≡ length first₀ → Emptied (d + 1) end (set first d end)
   empty-more n d first₀ h l room same =
       record {

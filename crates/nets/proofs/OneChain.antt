@@ -5,7 +5,7 @@ use mathlib.Core.Bool.{true}
 use mathlib.Core.List.{List}
 use native.Mathlib.Omega.{arith}
 use native.Mathlib.Decide.{ℕ-discrete}
-use lib.ListN.{length, getD}
+use lib.ListN.{getD}
 use lib.Dec.{eqb}
 use borrow.Author.Tests.{ltb-true, eq-eqb, ne-eqb, eqb-true}
 use Rattle.facts.specs.Sums.{bit}
@@ -71,13 +71,6 @@ on-chain : (n : Netlist) (d y p : ℕ) → y ≤ slotEnd n → p ≡ nextSink n 
 on-chain n d y p l e = subst (OnChain n d) (sym e) record { within = next-within n d y l .1; sink = next-names n d y l }
 
 module _ (n : Netlist) (first next : List ℕ) (end d : ℕ) (h : Chained n first next d end) where
-  -- what may be read
-  pub first-inside : d < n .size → d < length first
-  first-inside l = omega (arith, h .firstLong)
-
-  pub next-inside : (p : ℕ) → p < end → p < length next
-  next-inside p l = omega (arith, h .nextLong, h .stop)
-
   -- where d's chain begins: no sink stands below
   module _ (p : ℕ) (l : d < n .size) (e : p ≡ getD first d 0) where
     pub chain-first : p ≡ nextSink n d 0

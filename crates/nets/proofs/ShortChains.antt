@@ -14,7 +14,7 @@ use Rattle.netlist.specs.Kinds.{topLevel}
 use Rattle.netlist.specs.Records.{Netlist}
 use Rattle.fanout.specs.Nets.{sinks}
 use Rattle.nets.specs.declared.sinks.Chain.{Chain}
-use Rattle.nets.specs.declared.sinks.Chain.the-variants.{Empty, Short, Long}
+use Rattle.nets.specs.declared.sinks.Chain.the-variants.{Empty, Short}
 use Rattle.nets.specs.PrivateChains.{nextSink, slotDistance, sinksBelow, Chained, ShortChain, ChainIs}
 use Rattle.nets.proofs.OneChain.{OnChain, chain-start, chain-none, chain-next, chain-all, chain-apart, chain-near, chain-on, chain-count}
 
@@ -100,10 +100,6 @@ module _ (n : Netlist) (first next : List ℕ) (end d p : ℕ) (h : Chained n fi
         o-is : o ≡ nextSink n d (suc q)
         o-is = chain-next n first next end d h q q-on m o j
 
-pub chain-long : (n : Netlist) (d : ℕ) → ChainIs n d Long
-unfolding ChainIs
-chain-long n d = tt
-
 -- how many of two sinks stand at distance 1
 pub ones-fit : (a b x y : ℕ) → x ≡ bit (eqb a 1) → y ≡ bit (eqb b 1) → Fits w32 (x + y)
 ones-fit a b x y e f = omega (arith, bit-le (eqb a 1), bit-le (eqb b 1))
@@ -117,11 +113,8 @@ pub few-sinks : (n : Netlist) (d : ℕ) (f : Chain) (top atOne : ℕ) → ChainI
 unfolding ChainIs
 few-sinks n d f top atOne h e = subst (ChainIs n d) e h
 
--- the numbers of one or two sinks are small
+-- the nodes of one or two sinks are few
 module _ (n : Netlist) (d top atOne : ℕ) (h : ShortChain n d top atOne) where
-  pub few-cast : Fits w32 top
-  few-cast = omega (arith, h .near)
-
   pub few-fit : (x : ℕ) → x ≡ bit (ltb 1 top) → Fits w32 (x + atOne)
   few-fit x e = omega (arith, h .ones, most (decLt 1 top), bit-le (ltb 1 top))
     where

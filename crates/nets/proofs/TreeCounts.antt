@@ -21,7 +21,7 @@ use Rattle.netlist.specs.Kinds.{topLevel, slots}
 use Rattle.netlist.specs.Records.{Netlist, netlist, recordCount}
 use Rattle.netlist.specs.Source.{IsSource}
 use Rattle.netlist.specs.Capacities.{driverCapacity, capacityOf, Allowed}
-use Rattle.fanout.specs.Nets.{nodesAt, treeSize, row, fewestInAll, sinks, fewest}
+use Rattle.fanout.specs.Nets.{treeSize, row, fewestInAll, sinks}
 use Rattle.fanout.specs.declared.TreeTotals.{TreeTotals}
 use Rattle.nets.specs.declared.trees.Sizing.{Sizing}
 use Rattle.nets.specs.declared.trees.Sizing.the-variants.{Total, Stops}
@@ -51,11 +51,7 @@ measured-none n caps d p z =
 
 pub measured : (n : Netlist) (caps : Capacities) (d top : ℕ) (counts : List ℕ) → Filled n d counts top → (after : List ℕ) (t : TreeTotals) →
     Walked (caps .buffer) counts false after t → Measured n caps d t
-measured n caps d top counts f after t w =
-    record {
-      nodes = w .nodes ∙ ap (λ (r : List ℕ). nodesAt (caps .buffer) r 1) (f .counted);
-      buffers = w .buffers ∙ ap (fewest (caps .buffer)) (f .counted);
-    }
+measured n caps d top counts f after t w = record { nodes = cc; buffers = cc }
 
 -- one node hangs on any driver
 pub one-hangs : (caps : Capacities) (kind nodes : ℕ) → Allowed caps → nodes ≤ driverCapacity → true ≡ leb nodes (capacityOf caps kind)

@@ -2,7 +2,7 @@
 use Prim.Native.Nat.{_-_}
 use Rattle.netlist.specs.Records.{recordCount}
 use Rattle.mapper.specs.PrivateWriting.{relinkedAt}
-use Rattle.mapper.proofs.WriteRecords.{RecordsSoFar, written-start, source-room, source-more, source-end}
+use Rattle.mapper.proofs.WriteRecords.{RecordsSoFar, written-start, source-more, source-end}
 use borrow.Author.Needs.{needs}
 use Rattle.mapper.proofs.records.write_source.Statement.{statement}
 use Rattle.mapper.proofs.records.write_source.Tie as tie
@@ -23,7 +23,7 @@ record-at-requires : tie.Need-record-at-requires Inv-loop μ-loop
 record-at-requires c κs = search needs
 
 write-relinked-requires : tie.Need-write-relinked-requires Inv-loop μ-loop
-write-relinked-requires c κs = search (needs, source-room)
+write-relinked-requires c κs = search needs
 
 add-i : tie.Need-add-i Inv-loop μ-loop
 add-i c = search needs

@@ -1,6 +1,6 @@
 -- `clear_row` meets its contract: entries below k are zero, and those beyond top.
 use Prim.Native.Nat.{suc, _-_}
-use Rattle.mapper.proofs.ClearedRow.{Clearing, clear-start, clear-room, clear-more, clear-end}
+use Rattle.mapper.proofs.ClearedRow.{Clearing, clear-more, clear-end}
 use borrow.Author.Needs.{needs}
 use Rattle.mapper.proofs.writing.clear_row.Statement.{statement}
 use Rattle.mapper.proofs.writing.clear_row.Tie as tie
@@ -12,13 +12,13 @@ abbrev μ-loop : tie.MeasureT-loop
 μ-loop top row₀ k₀ row k = suc top - k
 
 loop-holds : tie.Need-loop-holds Inv-loop μ-loop
-loop-holds c = search clear-start
+loop-holds c = search needs
 
 mul-row : tie.Need-mul-row Inv-loop μ-loop
-mul-row c = search (needs, clear-room)
+mul-row c = search needs
 
 element-write-row : tie.Need-element-write-row Inv-loop μ-loop
-element-write-row c = search (needs, clear-room)
+element-write-row c = search needs
 
 add-k : tie.Need-add-k Inv-loop μ-loop
 add-k c = search needs

@@ -3,8 +3,8 @@ use Prim.Native.Nat.{_-_}
 use mathlib.Core.Path.{_≡_}
 use Rattle.netlist.specs.Records.{netlist, recordAt}
 use Rattle.mapper.specs.PrivateWriting.{onLine}
-use Rattle.nets.proofs.OneChain.{first-inside, distance-is, chain-above}
-use Rattle.mapper.proofs.ChainParents.{ParentsSoFar, parents-start, parents-reach, parents-inside, parents-less, parents-more, parents-end, driver-fits, line-parent-is}
+use Rattle.nets.proofs.OneChain.{distance-is, chain-above}
+use Rattle.mapper.proofs.ChainParents.{ParentsSoFar, parents-start, parents-reach, parents-less, parents-more, parents-end, line-parent-is}
 use borrow.Author.Needs.{needs}
 use Rattle.mapper.proofs.writing.set_line_parents.Statement.{statement}
 use Rattle.mapper.proofs.writing.set_line_parents.Tie as tie
@@ -22,7 +22,7 @@ mul-index : tie.Need-mul-index Inv-loop μ-loop
 mul-index c = search needs
 
 shared-slice-read-index : tie.Need-shared-slice-read-index Inv-loop μ-loop
-shared-slice-read-index c = search first-inside
+shared-slice-read-index c = search needs
 
 index-requires : tie.Need-index-requires Inv-loop μ-loop
 index-requires c κs = search needs
@@ -34,7 +34,7 @@ mul-index-2 : tie.Need-mul-index-2 Inv-loop μ-loop
 mul-index-2 c = search needs
 
 slice-read-index : tie.Need-slice-read-index Inv-loop μ-loop
-slice-read-index c = search parents-inside
+slice-read-index c = search needs
 
 index-requires-2 : tie.Need-index-requires-2 Inv-loop μ-loop
 index-requires-2 c κs = search needs
@@ -43,13 +43,13 @@ distance-requires : tie.Need-distance-requires Inv-loop μ-loop
 distance-requires c κs = search chain-above
 
 line-parent-requires : tie.Need-line-parent-requires Inv-loop μ-loop
-line-parent-requires c κs = search (driver-fits, parents-reach, distance-is)
+line-parent-requires c κs = search (needs, parents-reach, distance-is)
 
 mul-next : tie.Need-mul-next Inv-loop μ-loop
 mul-next c = search needs
 
 slice-write-next : tie.Need-slice-write-next Inv-loop μ-loop
-slice-write-next c = search parents-inside
+slice-write-next c = search needs
 
 loop-less : tie.Need-loop-less Inv-loop μ-loop
 loop-less c = search parents-less

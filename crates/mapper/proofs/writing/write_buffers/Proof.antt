@@ -2,7 +2,7 @@
 use Prim.Native.Nat.{suc, _-_}
 use mathlib.Core.Path.{_≡_}
 use Rattle.netlist.specs.Records.{netlist, recordAt}
-use Rattle.mapper.proofs.WriteTree.{LevelsWritten, tree-driver, tree-start, tree-room, tree-parents, tree-fits, tree-next, tree-level, tree-more, tree-end, tree-first-parents, tree-bytes}
+use Rattle.mapper.proofs.WriteTree.{LevelsWritten, tree-start, tree-room, tree-parents, tree-fits, tree-next, tree-level, tree-more, tree-end, tree-first-parents, tree-bytes}
 use borrow.Author.Needs.{needs}
 use Rattle.mapper.proofs.writing.write_buffers.Statement.{statement}
 use Rattle.mapper.proofs.writing.write_buffers.Tie as tie
@@ -17,7 +17,7 @@ level-at-requires : tie.Need-level-at-requires Inv-loop μ-loop
 level-at-requires c κs = search needs
 
 cast-from : tie.Need-cast-from Inv-loop μ-loop
-cast-from c = search tree-driver
+cast-from c = search needs
 
 loop-holds : tie.Need-loop-holds Inv-loop μ-loop
 loop-holds c = (search needs, search tree-start)

@@ -1,7 +1,7 @@
 -- `write_level` meets its contract: the first j buffers are written.
 use Prim.Native.Nat.{_-_}
 use Rattle.mapper.specs.PrivateWriting.{levelRecord}
-use Rattle.mapper.proofs.WriteRecords.{RecordsSoFar, written-start, written-room, written-end, level-parent, level-more}
+use Rattle.mapper.proofs.WriteRecords.{RecordsSoFar, written-start, written-end, level-parent, level-more}
 use borrow.Author.Needs.{needs}
 use Rattle.mapper.proofs.writing.write_level.Statement.{statement}
 use Rattle.mapper.proofs.writing.write_level.Tie as tie
@@ -28,7 +28,7 @@ buffer-of-requires : tie.Need-buffer-of-requires Inv-loop μ-loop
 buffer-of-requires c κs = search needs
 
 write-record-requires : tie.Need-write-record-requires Inv-loop μ-loop
-write-record-requires c κs = search (needs, written-room)
+write-record-requires c κs = search needs
 
 add-j : tie.Need-add-j Inv-loop μ-loop
 add-j c = search needs

@@ -1,7 +1,7 @@
 -- `write_line` meets its contract: the first j buffers are written.
 use Prim.Native.Nat.{_-_}
 use Rattle.mapper.specs.PrivateWriting.{lineRecord}
-use Rattle.mapper.proofs.WriteRecords.{RecordsSoFar, written-start, written-room, written-end, line-more}
+use Rattle.mapper.proofs.WriteRecords.{RecordsSoFar, written-start, written-end, line-more}
 use borrow.Author.Needs.{needs}
 use Rattle.mapper.proofs.writing.write_line.Statement.{statement}
 use Rattle.mapper.proofs.writing.write_line.Tie as tie
@@ -34,7 +34,7 @@ buffer-of-requires : tie.Need-buffer-of-requires Inv-loop μ-loop
 buffer-of-requires c κs = search needs
 
 write-record-requires : tie.Need-write-record-requires Inv-loop μ-loop
-write-record-requires c κs = search (needs, written-room)
+write-record-requires c κs = search needs
 
 loop-less : tie.Need-loop-less Inv-loop μ-loop
 loop-less c = search needs

@@ -1,12 +1,11 @@
 -- `write_mapped` meets its contract: the buffers, then the source.
-use Rattle.mapper.proofs.Answering.{parents-none}
 use Rattle.mapper.proofs.Whole.{whole-area}
 use borrow.Author.Needs.{needs}
 use Rattle.mapper.proofs.writing.write_mapped.Statement.{statement}
 use Rattle.mapper.proofs.writing.write_mapped.Tie as tie
 
 write-nets-requires : tie.Need-write-nets-requires
-write-nets-requires c κs = (search needs, (search needs, (search parents-none, (search needs, search needs))))
+write-nets-requires c κs = (search needs, (search needs, (search needs, (search needs, search needs))))
 
 write-source-requires : tie.Need-write-source-requires
 write-source-requires c κs = search needs

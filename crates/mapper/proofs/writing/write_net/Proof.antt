@@ -1,7 +1,6 @@
 -- `write_net` meets its contract: no sink, a line, or a tree.
 use Rattle.nets.proofs.ShortChains.{no-sink, few-sinks}
 use Rattle.mapper.proofs.WriteNets.{net-none, line-start, line-room, line-fits, line-levels, line-next, net-line}
-use Rattle.mapper.proofs.ChainParents.{driver-fits}
 use borrow.Author.Needs.{needs}
 use Rattle.mapper.proofs.writing.write_net.Statement.{statement}
 use Rattle.mapper.proofs.writing.write_net.Tie as tie
@@ -30,7 +29,7 @@ write-line-requires : tie.Need-write-line-requires
 write-line-requires c κs =
     let b = c .before .before .before .before .before .before .before in
     let few = few-sinks _ _ _ _ _ (b .before .before .chain-of .ensures) (b .chain .given .1) in
-    (search (line-room, few), (search (needs, driver-fits), search (line-fits, few), search (line-levels, few)))
+    (search (line-room, few), (search needs, search (line-fits, few), search (line-levels, few)))
 
 add-result : tie.Need-add-result
 add-result c =

@@ -1,6 +1,7 @@
 -- `chain_of` meets its contract: no sink, one, two, or more.
-use Rattle.nets.proofs.OneChain.{first-inside, next-inside, chain-start, chain-next, chain-above, chain-on, distance-is}
-use Rattle.nets.proofs.ShortChains.{chain-empty, chain-one, chain-two, chain-long, ones-fit}
+use Rattle.nets.proofs.OneChain.{chain-start, chain-next, chain-above, chain-on, distance-is}
+use Rattle.nets.proofs.ShortChains.{chain-empty, chain-one, chain-two, ones-fit}
+use Rattle.nets.specs.PrivateChains.{ChainIs}
 use borrow.Author.Needs.{needs}
 use Rattle.nets.proofs.sinks.chain_of.Statement.{statement}
 use Rattle.nets.proofs.sinks.chain_of.Tie as tie
@@ -9,7 +10,7 @@ mul-index : tie.Need-mul-index
 mul-index c = search needs
 
 shared-slice-read-index : tie.Need-shared-slice-read-index
-shared-slice-read-index c = search first-inside
+shared-slice-read-index c = search needs
 
 index-requires : tie.Need-index-requires
 index-requires c κs = search needs
@@ -27,7 +28,7 @@ mul-index-2 : tie.Need-mul-index-2
 mul-index-2 c = search needs
 
 shared-slice-read-index-2 : tie.Need-shared-slice-read-index-2
-shared-slice-read-index-2 c = search next-inside
+shared-slice-read-index-2 c = search needs
 
 index-requires-2 : tie.Need-index-requires-2
 index-requires-2 c κs = search needs
@@ -42,7 +43,7 @@ mul-index-3 : tie.Need-mul-index-3
 mul-index-3 c = search needs
 
 shared-slice-read-index-3 : tie.Need-shared-slice-read-index-3
-shared-slice-read-index-3 c = search next-inside
+shared-slice-read-index-3 c = search needs
 
 index-requires-3 : tie.Need-index-requires-3
 index-requires-3 c κs = search needs
@@ -66,7 +67,8 @@ returns-3 : tie.Need-returns-3
 returns-3 c = search (chain-two, distance-is)
 
 returns-4 : tie.Need-returns-4
-returns-4 c = search chain-long
+unfolding ChainIs
+returns-4 c = search needs
 
 pub chain-of-spec : {M : Type 1} → statement M
 chain-of-spec =

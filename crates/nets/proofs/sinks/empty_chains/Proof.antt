@@ -4,7 +4,7 @@ use Prim.Native.Nat.{_-_, _≤_}
 use mathlib.Core.Path.{_≡_}
 use lib.ListN.{length}
 use Rattle.nets.specs.PrivateChains.{Emptied}
-use Rattle.nets.proofs.Chains.{empty-none, empty-more, empty-all}
+use Rattle.nets.proofs.Chains.{empty-more, empty-all}
 use Rattle.nets.proofs.sinks.empty_chains.Statement.{statement}
 use Rattle.nets.proofs.sinks.empty_chains.Tie as tie
 
@@ -15,7 +15,7 @@ abbrev μ-loop : tie.MeasureT-loop
 μ-loop n end first₀ d₀ first d = n - d
 
 loop-holds : tie.Need-loop-holds Inv-loop μ-loop
-loop-holds c = search (needs, empty-none)
+loop-holds c = search needs
 
 mul-first : tie.Need-mul-first Inv-loop μ-loop
 mul-first c = search needs

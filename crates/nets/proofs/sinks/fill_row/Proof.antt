@@ -2,8 +2,8 @@
 use Prim.Native.Nat.{_-_}
 use mathlib.Core.Path.{_≡_}
 use Rattle.netlist.specs.Records.{netlist, recordAt}
-use Rattle.nets.proofs.OneChain.{first-inside, next-inside, distance-is, chain-above, chain-near, chain-next, chain-less}
-use Rattle.nets.proofs.ChainRow.{Filling, fill-start, fill-fits, fill-near, fill-more, fill-end, fill-stretches}
+use Rattle.nets.proofs.OneChain.{distance-is, chain-above, chain-near, chain-next, chain-less}
+use Rattle.nets.proofs.ChainRow.{Filling, fill-start, fill-fits, fill-near, fill-more, fill-end}
 use borrow.Author.Needs.{needs}
 use Rattle.nets.proofs.sinks.fill_row.Statement.{statement}
 use Rattle.nets.proofs.sinks.fill_row.Tie as tie
@@ -22,7 +22,7 @@ mul-index : tie.Need-mul-index Inv-loop μ-loop
 mul-index c = search needs
 
 shared-slice-read-index : tie.Need-shared-slice-read-index Inv-loop μ-loop
-shared-slice-read-index c = search first-inside
+shared-slice-read-index c = search needs
 
 index-requires : tie.Need-index-requires Inv-loop μ-loop
 index-requires c κs = search needs
@@ -37,7 +37,7 @@ mul-index-2 : tie.Need-mul-index-2 Inv-loop μ-loop
 mul-index-2 c = search needs
 
 shared-slice-read-index-2 : tie.Need-shared-slice-read-index-2 Inv-loop μ-loop
-shared-slice-read-index-2 c = search next-inside
+shared-slice-read-index-2 c = search needs
 
 index-requires-2 : tie.Need-index-requires-2 Inv-loop μ-loop
 index-requires-2 c κs = search needs
@@ -67,7 +67,7 @@ loop-again : tie.Need-loop-again Inv-loop μ-loop
 loop-again c = search (needs, fill-more, distance-is)
 
 returns : tie.Need-returns Inv-loop μ-loop
-returns c = (search fill-end, search fill-stretches)
+returns c = (search fill-end, search needs)
 
 pub fill-row-spec : {M : Type 1} → statement M
 fill-row-spec =

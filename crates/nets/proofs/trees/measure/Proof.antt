@@ -1,8 +1,9 @@
 -- `measure` meets its contract: no sink, a line, or a row that is filled and walked.
-use Rattle.nets.proofs.ShortChains.{no-sink, few-sinks, few-cast, few-fit}
+use Rattle.nets.proofs.ShortChains.{no-sink, few-sinks, few-fit}
 use Rattle.nets.proofs.Lines.{measured-few}
 use Rattle.nets.proofs.TreeCounts.{measured-none, measured}
 use Rattle.fanout.proofs.Walking.{walkable, walked-clear}
+use native.Mathlib.Omega.{arith}
 use borrow.Author.Needs.{needs}
 use Rattle.nets.proofs.trees.measure.Statement.{statement}
 use Rattle.nets.proofs.trees.measure.Tie as tie
@@ -23,7 +24,7 @@ add-t15 : tie.Need-add-t15
 add-t15 c = search (few-fit _ _ _ _ (few-sinks _ _ _ _ _ (c .before .before .before .before .chain-of .ensures) (c .before .before .chain .given .1)))
 
 cast-t16 : tie.Need-cast-t16
-cast-t16 c = search (few-cast, few-sinks _ _ _ _ _ (c .before .before .before .before .chain-of .ensures) (c .before .before .chain .given .1))
+cast-t16 c = omega (arith, few-sinks _ _ _ _ _ (c .before .before .before .before .chain-of .ensures) (c .before .before .chain .given .1) .near)
 
 sub-t17 : tie.Need-sub-t17
 sub-t17 c = few-sinks _ _ _ _ _ (c .before .before .before .before .chain-of .ensures) (c .before .before .chain .given .1) .above
