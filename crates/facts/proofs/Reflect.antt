@@ -145,3 +145,18 @@ side k n a b = go (ltb k n) refl
       λ h. inr (ltb-false k n e, h),
       ⊎-elim (λ h. absurd (true-false (ltb k n) (lt-ltb k n (h .0)) e)) (λ h. h .1),
     )
+
+-- the answer of checks in order, as code finds it: one check by its test, and a list by what its first part answers
+module _ (number place : ℕ) (b c : Bool) (e : b ≡ c) where
+  pub check-bad : b ≡ true → Refused number place ≡ check number place c
+  check-bad h = rw (← e, h)
+
+  pub check-good : b ≡ false → Passed ≡ check number place c
+  check-good h = rw (← e, h)
+
+module _ (a x y : Checked) (e : a ≡ x) where
+  pub then-stop : (number place : ℕ) → a ≡ Refused number place → Refused number place ≡ (x andThen y)
+  then-stop number place h = rw (← e, h)
+
+  pub then-go : (b : Checked) → a ≡ Passed → b ≡ y → b ≡ (x andThen y)
+  then-go b h q = rw (← e, h) q

@@ -22,11 +22,10 @@ use Rattle.facts.proofs.Bools.{or-false, or-r}
 use Rattle.facts.proofs.Sums.{any-none}
 use Rattle.facts.proofs.Reflect.{check-passed, then-passed, or-none, most-none, side-is}
 use Rattle.facts.proofs.Loops.{Seeking, seek-start, seek-more, seek-here, seek-end}
-use Rattle.netlist.specs.declared.Capacities.{Capacities}
 use Rattle.netlist.specs.declared.Record.{Record}
 use Rattle.netlist.specs.Kinds.{width, slots, unused, topLevel, sourceLimit, input, output, arities, arity, isGate, invertible}
 use Rattle.netlist.specs.Records.{Netlist, netlist, recordCount, recordBytes, recordAt, slot, isOutput, depth}
-use Rattle.netlist.specs.Checks.{badCapacity, ragged, tooMany, badLevel, sizeChecks, badKind, badInversion, badSlot, badSlots, notBelow, misplaced, structureOf, levelOf, recordChecks, capacityChecks, sourceChecks, inputChecks}
+use Rattle.netlist.specs.Checks.{ragged, tooMany, badLevel, sizeChecks, badKind, badInversion, badSlot, badSlots, notBelow, misplaced, structureOf, levelOf, recordChecks, sourceChecks}
 use Rattle.netlist.specs.View.{viewOf}
 use Rattle.netlist.proofs.Records.{record-past}
 
@@ -90,19 +89,8 @@ fanin-unused m r j a q h = rw (le-ltb j (arity (r .kind)) (rw q at h))
 pub these-slots : (kind named a : ℕ) → kind ≡ named → a ≡ arity named → a ≡ arity kind
 these-slots kind named a n e = e ∙ ap arity (sym n)
 
-module _ (deep : ℕ) (r : Record) where
-  pub level-large : topLevel < r .level → true ≡ misplaced deep r
-  level-large h = rw (lt-ltb topLevel (r .level) h)
-
-  module _ (h : r .level ≤ topLevel) where
-    pub level-input : r .kind ≡ input → not (eqb (r .level) 0) ≡ misplaced deep r
-    level-input e = rw (le-ltb topLevel (r .level) h, e) (sym (or-false (not (eqb (r .level) 0))))
-
-    pub level-output : r .kind ≡ output → not (eqb (r .level) deep) ≡ misplaced deep r
-    level-output e = rw (le-ltb topLevel (r .level) h, e)
-
-    pub level-gate : (r .kind ≡ input → ⊥) → (r .kind ≡ output → ⊥) → false ≡ misplaced deep r
-    level-gate e f = rw (le-ltb topLevel (r .level) h, ne-eqb (r .kind) input e, ne-eqb (r .kind) output f)
+pub level-input : (deep : ℕ) (r : Record) → r .level ≤ topLevel → r .kind ≡ input → not (eqb (r .level) 0) ≡ misplaced deep r
+level-input deep r h e = rw (le-ltb topLevel (r .level) h, e) (sym (or-false (not (eqb (r .level) 0))))
 
 -- D, as the loop finds it: n is the count, the first n records are searched
 module _ (bytes : List ℕ) (n : ℕ) (c : n ≡ recordCount bytes) where
@@ -182,9 +170,6 @@ module _ (bytes : List ℕ) where
     record-checked a f = f ∙ ap (λ (x : Record). structureOf (netlist bytes) k x andThen levelOf (netlist bytes) k x) e
 
 module _ (m : Netlist) (k : ℕ) (r : Record) where
-  pub kind-bad : output < r .kind → Refused 4 k ≡ structureOf m k r
-  kind-bad h = rw (lt-ltb output (r .kind) h)
-
   module _ (l : r .kind ≤ output) (x : ℕ) (e : x ≡ 2 ^ invertible (r .kind)) where
     pub inversion-bad : x ≤ r .inversion → Refused 5 k ≡ structureOf m k r
     inversion-bad h = rw (le-ltb output (r .kind) l, ← e, le-leb x (r .inversion) h)
@@ -203,30 +188,13 @@ module _ (m : Netlist) (k : ℕ) (r : Record) where
     pub fanins-bad : (f : Bool) → b ≡ false → f ≡ any (notBelow m r) slots → f ≡ badLevel m r
     fanins-bad f t g = g ∙ rw (← d, ← e, t)
 
-  module _ (b : Bool) (e : b ≡ badLevel m r) where
-    pub level-bad : b ≡ true → Refused 7 k ≡ levelOf m k r
-    level-bad t = rw (← e, t)
-
-    pub level-good : b ≡ false → Passed ≡ levelOf m k r
-    level-good t = rw (← e, t)
-
-  module _ (a : Checked) (e : a ≡ structureOf m k r) where
-    -- where checks 4 to 6 pass, no slot is bad
-    pub slots-good : a ≡ Passed → badSlots m k r ≡ false
-    slots-good p =
-        let h = then-passed (check 4 k (badKind r)) _ .0 (sym e ∙ p) .1 in
-        check-passed 6 k (badSlots m k r) .0 (then-passed (check 5 k (badInversion r)) _ .0 h .1)
-
-    pub record-level : (b : Checked) → a ≡ Passed → b ≡ levelOf m k r → b ≡ (structureOf m k r andThen levelOf m k r)
-    record-level b p f = f ∙ rw (← e, p)
-
-    pub record-structure : (number place : ℕ) → a ≡ Refused number place → Refused number place ≡ (structureOf m k r andThen levelOf m k r)
-    record-structure number place p = rw (← e, p)
+  -- where checks 4 to 6 pass, no slot is bad
+  pub slots-good : (a : Checked) → a ≡ structureOf m k r → a ≡ Passed → badSlots m k r ≡ false
+  slots-good a e p =
+      let h = then-passed (check 4 k (badKind r)) _ .0 (sym e ∙ p) .1 in
+      check-passed 6 k (badSlots m k r) .0 (then-passed (check 5 k (badInversion r)) _ .0 h .1)
 
 module _ (bytes : List ℕ) where
-  pub length-ragged : (length bytes % width ≡ 0 → ⊥) → Refused 2 0 ≡ sizeChecks bytes
-  length-ragged h = rw (ne-eqb (length bytes % width) 0 h)
-
   module _ (whole : length bytes % width ≡ 0) (n : ℕ) (e : n ≡ recordCount bytes) where
     pub length-large : sourceLimit < n → Refused 3 0 ≡ sizeChecks bytes
     length-large h = rw (whole, lt-ltb sourceLimit (recordCount bytes) (rw e at h))
@@ -235,10 +203,6 @@ module _ (bytes : List ℕ) where
     length-good h = rw (whole, le-ltb sourceLimit (recordCount bytes) (rw e at h))
 
   module _ (a : Checked) (e : a ≡ sizeChecks bytes) where
-    pub size-refused : (number place : ℕ) → a ≡ Refused number place → Refused number place ≡ sourceChecks bytes
-    unfolding sourceChecks
-    size-refused number place p = rw (← e, p)
-
     pub size-fits : (n : ℕ) → a ≡ Passed → n ≡ recordCount bytes → n < 2 ^ 32
     size-fits n p f =
         let few = check-passed 3 0 (tooMany bytes) .0 (then-passed (check 2 0 (ragged bytes)) _ .0 (sym e ∙ p) .1) in
@@ -247,27 +211,6 @@ module _ (bytes : List ℕ) where
     pub records-checked : (b : Checked) (n : ℕ) → a ≡ Passed → n ≡ recordCount bytes → b ≡ scan (recordChecks (netlist bytes)) 0 n → b ≡ sourceChecks bytes
     unfolding sourceChecks
     records-checked b n p f g = g ∙ rw (← e, p, f)
-
-pub capacity-small : (s : ℕ) → s < 2 → true ≡ badCapacity s
-capacity-small s h = rw (lt-ltb s 2 h)
-
-pub capacity-large : (s : ℕ) → 2 ≤ s → ltb 4 s ≡ badCapacity s
-capacity-large s l = rw (le-ltb s 2 l)
-
-module _ (caps : Capacities) (b : Bool) (e : b ≡ badCapacity (caps .buffer)) where
-  pub capacity-refused : b ≡ true → Refused 1 0 ≡ capacityChecks caps
-  capacity-refused t = rw (← e, t)
-
-  pub capacity-passed : b ≡ false → Passed ≡ capacityChecks caps
-  capacity-passed t = rw (← e, t)
-
--- the capacities, then the source
-module _ (bytes : List ℕ) (caps : Capacities) (a : Checked) (e : a ≡ capacityChecks caps) where
-  pub input-refused : (number place : ℕ) → a ≡ Refused number place → Refused number place ≡ inputChecks bytes caps
-  input-refused number place p = rw (← e, p)
-
-  pub input-source : (b : Checked) → a ≡ Passed → b ≡ sourceChecks bytes → b ≡ inputChecks bytes caps
-  input-source b p f = f ∙ rw (← e, p)
 
 module _ (source mapped : List ℕ) (k m : ℕ) (e : m ≡ recordCount mapped) where
   pub view-past : m ≤ k → [] ≡ viewOf source mapped k

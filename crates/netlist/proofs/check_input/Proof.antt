@@ -1,6 +1,6 @@
 -- `check_input` meets its contract: the capacities first, then the source.
 use borrow.Author.Needs.{needs}
-use Rattle.netlist.proofs.Checks.{input-refused, input-source}
+use Rattle.facts.proofs.Reflect.{then-stop, then-go}
 use Rattle.netlist.proofs.check_input.Statement.{statement}
 use Rattle.netlist.proofs.check_input.Tie as tie
 
@@ -17,10 +17,10 @@ enum-known-allowed : tie.Need-enum-known-allowed
 enum-known-allowed c = search needs
 
 returns : tie.Need-returns
-returns c = search input-source
+returns c = search then-go
 
 returns-2 : tie.Need-returns-2
-returns-2 c = search input-refused
+returns-2 c = search then-stop
 
 pub check-input-spec : {M : Type 1} → statement M
 check-input-spec =

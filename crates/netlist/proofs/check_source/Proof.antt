@@ -1,6 +1,8 @@
 -- `check_source` meets its contract: the size first, then every record.
 use borrow.Author.Needs.{needs}
-use Rattle.netlist.proofs.Checks.{size-fits, records-checked, size-refused}
+use Rattle.facts.proofs.Reflect.{then-stop}
+use Rattle.netlist.specs.Checks.{sourceChecks}
+use Rattle.netlist.proofs.Checks.{size-fits, records-checked}
 use Rattle.netlist.proofs.check_source.Statement.{statement}
 use Rattle.netlist.proofs.check_source.Tie as tie
 
@@ -26,7 +28,8 @@ returns : tie.Need-returns
 returns c = search records-checked
 
 returns-2 : tie.Need-returns-2
-returns-2 c = search size-refused
+unfolding sourceChecks
+returns-2 c = search then-stop
 
 pub check-source-spec : {M : Type 1} → statement M
 check-source-spec =

@@ -1,13 +1,13 @@
 -- `bad_capacity` meets its contract: too small, or else too large.
 use Rattle.netlist.proofs.source_reader.bad_capacity.Statement.{statement}
-use Rattle.netlist.proofs.Checks.{capacity-small, capacity-large}
+use borrow.Author.Tests.{lt-ltb, le-ltb}
 use Rattle.netlist.proofs.source_reader.bad_capacity.Tie as tie
 
 returns : tie.Need-returns
-returns c = search capacity-small
+returns c = search lt-ltb
 
 returns-2 : tie.Need-returns-2
-returns-2 c = search capacity-large
+returns-2 c = search le-ltb
 
 pub bad-capacity-spec : {M : Type 1} → statement M
 bad-capacity-spec = tie.close (tie.spec returns returns-2)

@@ -1,11 +1,12 @@
 -- `check_size` meets its contract: each return follows from the tests that led there.
 use borrow.Author.Needs.{needs}
-use Rattle.netlist.proofs.Checks.{length-ragged, length-large, length-good}
+use borrow.Author.Tests.{ne-eqb}
+use Rattle.netlist.proofs.Checks.{length-large, length-good}
 use Rattle.netlist.proofs.source_reader.check_size.Statement.{statement}
 use Rattle.netlist.proofs.source_reader.check_size.Tie as tie
 
 returns : tie.Need-returns
-returns c = search length-ragged
+returns c = search ne-eqb
 
 record-count-requires : tie.Need-record-count-requires
 record-count-requires c κs = search needs

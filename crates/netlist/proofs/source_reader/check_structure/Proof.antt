@@ -1,11 +1,12 @@
 -- `check_structure` meets its contract: each return follows from the tests that led there.
 use borrow.Author.Needs.{needs}
-use Rattle.netlist.proofs.Checks.{kind-bad, inversion-bad, slots-bad, structure-good}
+use borrow.Author.Tests.{lt-ltb}
+use Rattle.netlist.proofs.Checks.{inversion-bad, slots-bad, structure-good}
 use Rattle.netlist.proofs.source_reader.check_structure.Statement.{statement}
 use Rattle.netlist.proofs.source_reader.check_structure.Tie as tie
 
 returns : tie.Need-returns
-returns c = search kind-bad
+returns c = search lt-ltb
 
 inversions-requires : tie.Need-inversions-requires
 inversions-requires c κs = search needs

@@ -1,6 +1,7 @@
 -- `check_used` meets its contract: the structure is checked first, the level where it passed.
 use borrow.Author.Needs.{needs}
-use Rattle.netlist.proofs.Checks.{slots-good, record-level, record-structure}
+use Rattle.facts.proofs.Reflect.{then-stop, then-go}
+use Rattle.netlist.proofs.Checks.{slots-good}
 use Rattle.netlist.proofs.source_reader.check_used.Statement.{statement}
 use Rattle.netlist.proofs.source_reader.check_used.Tie as tie
 
@@ -17,10 +18,10 @@ enum-known-structure : tie.Need-enum-known-structure
 enum-known-structure c = search needs
 
 returns : tie.Need-returns
-returns c = search record-level
+returns c = search then-go
 
 returns-2 : tie.Need-returns-2
-returns-2 c = search record-structure
+returns-2 c = search then-stop
 
 pub check-used-spec : {M : Type 1} → statement M
 check-used-spec =
