@@ -85,10 +85,6 @@ module _ (m : Netlist) (k : ℕ) (r : Record) (j : ℕ) (t a : ℕ) (p : t ≡ s
 pub fanin-unused : (m : Netlist) (r : Record) (j a : ℕ) → a ≡ arity (r .kind) → a ≤ j → false ≡ notBelow m r j
 fanin-unused m r j a q h = rw (le-ltb j (arity (r .kind)) (rw q at h))
 
--- a kind that the arms name uses the slots of that kind
-pub these-slots : (kind named a : ℕ) → kind ≡ named → a ≡ arity named → a ≡ arity kind
-these-slots kind named a n e = e ∙ ap arity (sym n)
-
 pub level-input : (deep : ℕ) (r : Record) → r .level ≤ topLevel → r .kind ≡ input → not (eqb (r .level) 0) ≡ misplaced deep r
 level-input deep r h e = rw (le-ltb topLevel (r .level) h, e) (sym (or-false (not (eqb (r .level) 0))))
 
