@@ -4,7 +4,7 @@ use mathlib.Core.Path.{_≡_, refl, sym, _∙_, ap, ap₂}
 use mathlib.Core.List.{List, [], _∷_, _++_, append-assoc, append-nil}
 use native.Mathlib.Omega.{arith}
 use native.Mathlib.Nat.{add-sub-of-le, add-sub-cancel-left, add-zero}
-use lib.ListN.{length, getD, take, drop, set, replicate, length-append, length-set, length-drop, take-append-drop, drop-of-length-le}
+use lib.ListN.{length, getD, take, drop, set, replicate, length-append, length-take, length-set, length-drop, take-append-drop, drop-of-length-le}
 use lib.Seq.{sets, sets-eq, drop-cons, set-at, append-snoc, take-at, drop-at, drop-drop, drop-append-add, length-take-le, take-append-le, take-append-add, drop-append-le, take-take}
 use borrow.Author.Fill.{fill-more}
 use Rattle.facts.specs.Areas.{put}
@@ -14,14 +14,7 @@ put-none xs a = ap (λ (k : ℕ). take a xs ++ drop k xs) (add-zero a) ∙ take-
 
 module _ (xs : List ℕ) (a : ℕ) (bs : List ℕ) where
   pub length-put : a + length bs ≤ length xs → length (put xs a bs) ≡ length xs
-  length-put l =
-      omega (
-        arith,
-        length-append (take a xs) (bs ++ drop (a + length bs) xs),
-        length-append bs (drop (a + length bs) xs),
-        length-take-le a xs (omega arith),
-        length-drop (a + length bs) xs,
-      )
+  length-put l = simp (length-append, length-take, length-drop) (omega arith)
 
   -- further bytes right behind
   pub put-behind : (cs : List ℕ) → a + length bs ≤ length xs → put (put xs a bs) (a + length bs) cs ≡ put xs a (bs ++ cs)

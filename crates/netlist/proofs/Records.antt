@@ -1,8 +1,9 @@
 -- Laws of records read off bytes: within the end a record is its ten bytes, from the end on it is blank.
-use Prim.Native.Nat.{ℕ, zero, suc, _+_, _-_, _*_, _<_, _≤_}
+use Prim.Native.Nat.{ℕ, _+_, _-_, _*_, _<_, _≤_}
 use native.Mathlib.Nat.{add-sub-cancel-left}
+use native.Mathlib.Decide.{ℕ-discrete}
 use native.Mathlib.Omega.{arith}
-use mathlib.Core.Path.{_≡_, refl, sym, ap, _∙_}
+use mathlib.Core.Path.{_≡_, sym, ap, _∙_}
 use mathlib.Core.List.{List}
 use lib.ListN.{length, take, drop, length-take, length-drop, List·getD-eq-default}
 use borrow.Author.Tests.{lt-ltb, le-ltb}
@@ -16,23 +17,13 @@ no-arity kind h = sym (List·getD-eq-default arities 0 h)
 
 -- the kinds that use two slots, one, or none
 pub two-slots : (kind : ℕ) → 1 ≤ kind → kind < 3 → 2 ≡ arity kind
-two-slots zero l h = absurd (omega arith)
-two-slots (suc zero) l h = refl
-two-slots (suc (suc zero)) l h = refl
-two-slots (suc (suc (suc k))) l h = absurd (omega arith)
+two-slots kind l h = elim (ℕ-discrete kind 1) [ yes e ↦ rw e | no n ↦ (let e : kind ≡ 2 = omega arith in rw e) ]
 
 pub one-slot : (kind : ℕ) → 3 ≤ kind → (kind ≡ 3 → ⊥) → kind < 6 → 1 ≡ arity kind
-one-slot zero l n h = absurd (omega arith)
-one-slot (suc zero) l n h = absurd (omega arith)
-one-slot (suc (suc zero)) l n h = absurd (omega arith)
-one-slot (suc (suc (suc zero))) l n h = absurd (n refl)
-one-slot (suc (suc (suc (suc zero)))) l n h = refl
-one-slot (suc (suc (suc (suc (suc zero))))) l n h = refl
-one-slot (suc (suc (suc (suc (suc (suc k)))))) l n h = absurd (omega arith)
+one-slot kind l n h = elim (ℕ-discrete kind 4) [ yes e ↦ rw e | no m ↦ (let e : kind ≡ 5 = omega arith in rw e) ]
 
 pub no-slot : (kind : ℕ) → kind < 1 → 0 ≡ arity kind
-no-slot zero h = refl
-no-slot (suc k) h = absurd (omega arith)
+no-slot kind h = let e : kind ≡ 0 = omega arith in rw e
 
 module _ (bytes : List ℕ) (k : ℕ) where
   -- a part as code cuts it, as the definition has it

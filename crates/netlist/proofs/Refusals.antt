@@ -6,12 +6,12 @@ use mathlib.Core.Logic.{_⊎_, ⊎-elim, _↔_, _≢_}
 use mathlib.Core.Bool.{true, not, _&&_, _||_}
 use mathlib.Core.List.{List}
 use lib.ListN.{length}
-use lib.Dec.{ltb, leb, eqb}
+use lib.Dec.{leb, eqb}
 use Rattle.facts.specs.Sums.{any}
 use Rattle.facts.specs.Refusals.{rowOf, Fails, _or_, Each, First}
 use Rattle.facts.proofs.Bits.{bit-from}
 use Rattle.facts.proofs.Sums.{any-some}
-use Rattle.facts.proofs.Reflect.{iff-sum, iff-pair, iff-trans, iff-some, less, most, same, unlike, both, either, side}
+use Rattle.facts.proofs.Reflect.{iff-sum, iff-pair, iff-trans, iff-some, less, most, same, unlike, either-is, both-is, side}
 use Rattle.facts.proofs.Refusals.{InRow, UpTo, After, Within, rows-before, one-row, within-one, within-or, within-before, first-check, first-then, first-scan, scan-rows, exact}
 use Rattle.netlist.specs.declared.Capacities.{Capacities}
 use Rattle.netlist.specs.declared.Record.{Record}
@@ -22,7 +22,7 @@ use Rattle.netlist.proofs.Checks.{arity-slots}
 use Rattle.netlist.specs.Refusals.{BadCapacity, Ragged, TooMany, BadInversion, BadSlots, Misplaced, BadLevel, SizeFails, StructureFails, RecordFails, SourceFails, InputFails, SourceExact, InputExact}
 
 capacity-is : (s : ℕ) → (badCapacity s ≡ true) ↔ BadCapacity s
-capacity-is s = iff-trans (either (ltb s 2) (ltb 4 s)) (iff-sum (less s 2) (less 4 s))
+capacity-is s = either-is (less s 2) (less 4 s)
 
 inversion-is : (r : Record) → (badInversion r ≡ true) ↔ BadInversion r
 inversion-is r = iff-trans (most (2 ^ invertible (r .kind)) (r .inversion)) (bit-from (invertible (r .kind)) (r .inversion))
@@ -33,9 +33,7 @@ slots-are m k r = iff-trans (any-some (badSlot m k r) slots) (iff-some slots _ _
     one : (j : ℕ) → (badSlot m k r j ≡ true) ↔ (((j < arity (r .kind)) × ((k ≤ slot r j) ⊎ (m .at (slot r j) .kind ≡ output))) ⊎ ((arity (r .kind) ≤ j) × (slot r j ≢ unused)))
     one j =
         iff-trans (side j (arity (r .kind)) (leb k (slot r j) || eqb (m .at (slot r j) .kind) output) (not (eqb (slot r j) unused)))
-        (iff-sum
-        (iff-pair (λ l. l, λ l. l) (iff-trans (either (leb k (slot r j)) (eqb (m .at (slot r j) .kind) output)) (iff-sum (most k (slot r j)) (same (m .at (slot r j) .kind) output))))
-        (iff-pair (λ l. l, λ l. l) (unlike (slot r j) unused)))
+        (iff-sum (iff-pair (λ l. l, λ l. l) (either-is (most k (slot r j)) (same (m .at (slot r j) .kind) output))) (iff-pair (λ l. l, λ l. l) (unlike (slot r j) unused)))
 
 fanins-are : (m : Netlist) (r : Record) → (any (notBelow m r) slots ≡ true) ↔ ((j : ℕ) × (j < arity (r .kind)) × (r .level ≤ m .at (slot r j) .level))
 fanins-are m r = iff-trans (any-some (notBelow m r) slots) (
@@ -44,23 +42,16 @@ fanins-are m r = iff-trans (any-some (notBelow m r) slots) (
 )
   where
     one : (j : ℕ) → (notBelow m r j ≡ true) ↔ ((j < arity (r .kind)) × (r .level ≤ m .at (slot r j) .level))
-    one j =
-        iff-trans (both (ltb j (arity (r .kind))) (leb (r .level) (m .at (slot r j) .level)))
-        (iff-pair (less j (arity (r .kind))) (most (r .level) (m .at (slot r j) .level)))
+    one j = both-is (less j (arity (r .kind))) (most (r .level) (m .at (slot r j) .level))
 
 level-is : (m : Netlist) (r : Record) → (badLevel m r ≡ true) ↔ BadLevel m r
-level-is m r =
-    iff-trans (either (misplaced (depth m) r) (any (notBelow m r) slots)) (iff-sum own (fanins-are m r))
+level-is m r = either-is own (fanins-are m r)
   where
     at : (kind level : ℕ) → ((eqb (r .kind) kind && not (eqb (r .level) level)) ≡ true) ↔ ((r .kind ≡ kind) × (r .level ≢ level))
-    at kind level =
-        iff-trans (both (eqb (r .kind) kind) (not (eqb (r .level) level)))
-        (iff-pair (same (r .kind) kind) (unlike (r .level) level))
+    at kind level = both-is (same (r .kind) kind) (unlike (r .level) level)
 
     own : (misplaced (depth m) r ≡ true) ↔ Misplaced (depth m) r
-    own =
-        iff-trans (either (ltb topLevel (r .level)) _)
-        (iff-sum (less topLevel (r .level)) (iff-trans (either _ _) (iff-sum (at input 0) (at output (depth m)))))
+    own = either-is (less topLevel (r .level)) (either-is (at input 0) (at output (depth m)))
 
 -- 4 to 7 stand at one place of one row
 later-within : (m : Netlist) (k : ℕ) → Within (rowOf 7) k 5 6 (Fails 5 k (BadInversion (m .at k)) or Fails 6 k (BadSlots m k (m .at k)))
