@@ -43,12 +43,6 @@ use Rattle.fanout.specs.Promises.{
 use Rattle.fanout.proofs.Rows.{row-of-net}
 use Rattle.fanout.proofs.Promises.{count-true}
 
-tree-refused : (n p : ℕ) → NoTree ≡ Refused n p → ⊥
-tree-refused n p e = let z : _≡_ {A = ℕ} 0 1 = cc in omega arith
-
-fewest-refused : (k n p : ℕ) → Fewest k ≡ Refused n p → ⊥
-fewest-refused k n p e = let z : _≡_ {A = ℕ} 0 1 = cc in omega arith
-
 module _ (source : List ℕ) (caps : Capacities) (d : ℕ) where
   abbrev counted : Count
   counted = netCount (netlist source) caps d
@@ -103,13 +97,13 @@ gives source caps d a q says =
 
 pub no-tree-exactly : NoTreeExactly
 no-tree-exactly source caps d = (
-  answered source caps d (countChecks source caps d) refl NoTree tree-refused,
+  answered source caps d (countChecks source caps d) refl NoTree (λ n p e. let z : _≡_ {A = ℕ} 0 1 = cc in omega arith),
   λ x. gives source caps d NoTree (x .0) (x .1),
 )
 
 pub fewest-exactly : FewestExactly
 fewest-exactly source caps d n = (
-  answered source caps d (countChecks source caps d) refl (Fewest n) (fewest-refused n),
+  answered source caps d (countChecks source caps d) refl (Fewest n) (λ n p e. let z : _≡_ {A = ℕ} 0 1 = cc in omega arith),
   λ x. gives source caps d (Fewest n) (x .0) (x .1),
 )
 

@@ -4,11 +4,13 @@ use mathlib.Core.Path.{_≡_, refl, ap}
 use mathlib.Core.List.{List}
 use mathlib.Core.Logic.{⊎-elim}
 use native.Mathlib.Omega.{arith}
-use Rattle.facts.specs.Refusals.{FirstAt}
+use Rattle.facts.specs.Refusals.{rowOf, FirstAt}
+use Rattle.facts.proofs.Refusals.{row-positive}
 use Rattle.netlist.specs.Records.{netlist, recordAt}
 use Rattle.netlist.specs.declared.Capacities.{Capacities}
 use Rattle.netlist.specs.Capacities.{capacityOf}
 use Rattle.netlist.proofs.Source.{input-passed}
+use Rattle.netlist.proofs.Refusals.{input-numbered}
 use Rattle.fanout.specs.declared.Count.{Count}
 use Rattle.fanout.specs.declared.Count.the-variants.{Fewest, NoTree, Refused}
 use Rattle.fanout.specs.Nets.{row, fewest}
@@ -61,14 +63,7 @@ module _ (source : List ℕ) (caps : Capacities) (d : ℕ) where
   -- refusals are numbered from 1 on
   refused-positive : (number place : ℕ) → FirstAt (CountFails source caps d) number place → 0 < number
   refused-positive number place f =
-      ⊎-elim
-      (⊎-elim
-      (λ x. omega arith)
-      (⊎-elim
-      (⊎-elim (λ x. omega arith) (λ x. omega arith))
-      (λ e. ⊎-elim (⊎-elim (λ x. omega arith) (⊎-elim (λ x. omega arith) (λ x. omega arith))) (λ x. omega arith) (e .2))))
-      (λ x. omega arith)
-      (f .0)
+      ⊎-elim (λ x. row-positive number (rowOf 0) (input-numbered source caps number place x)) (λ x. omega arith) (f .0)
 
   valid : (a : Count) → countAnswer source caps d ≡ a → Valid a
   valid (Fewest n) e = let x = fewest-exactly source caps d n .0 e in least-small n (x .0) (x .1)

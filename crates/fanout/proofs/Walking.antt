@@ -253,15 +253,6 @@ walked-clear s counts after t w = zeros (suc topLevel) after (w .size) (λ x. at
     at x (yes m) = w .at x (omega arith)
     at x (no m) = let e : x ≡ 0 = omega arith in rw e (w .apart)
 
--- the count that the walk gives
-module _ (s : ℕ) (counts after : List ℕ) (keep : Bool) (t : TreeTotals) (c : ℕ) (w : Walked s counts keep after t) where
-  walked-tree : t .nodes ≤ c → Fewest (t .buffers) ≡ treeCount c s counts
-  walked-tree h =
-      rw (le-leb (nodesAt s counts 1) c (omega (arith, w .nodes))) (ap Fewest (w .buffers))
-
-  walked-none : c < t .nodes → NoTree ≡ treeCount c s counts
-  walked-none h = rw (lt-leb (nodesAt s counts 1) c (omega (arith, w .nodes))) refl
-
 -- the row of a source's driver can be walked
 pub walkable : (n : Netlist) (caps : Capacities) (d : ℕ) (counts : List ℕ) (reach : Reach) → IsSource n → Allowed caps →
     Filled n d counts (reach .far) → InStretches counts (suc topLevel) (reach .stretches) → Walkable (caps .buffer) counts reach
@@ -289,7 +280,7 @@ module _ (source : List ℕ) (caps : Capacities) (d far : ℕ) (counts : List �
     net-count = rw (q, k, f .counted)
 
     pub counted-tree : t .nodes ≤ most → Fewest (t .buffers) ≡ netCount (netlist source) caps d
-    counted-tree h = walked-tree (caps .buffer) counts after false t most w h ∙ net-count
+    counted-tree h = rw (← net-count, le-leb (nodesAt (caps .buffer) counts 1) most (omega (arith, w .nodes))) (ap Fewest (w .buffers))
 
     pub counted-none : most < t .nodes → NoTree ≡ netCount (netlist source) caps d
-    counted-none h = walked-none (caps .buffer) counts after false t most w h ∙ net-count
+    counted-none h = rw (← net-count, lt-leb (nodesAt (caps .buffer) counts 1) most (omega (arith, w .nodes)))

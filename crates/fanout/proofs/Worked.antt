@@ -40,17 +40,9 @@ holds w f e =
       said = subst (Says driverCapacity s net) e (count-true driverCapacity s net (rowAt (w .distances)) pos r);
     }
 
--- equal lists have equal parts
-cons-head : {a b : Count} {xs bs : List Count} → (a ∷ xs) ≡ (b ∷ bs) → a ≡ b
-cons-head e = cc
-
-cons-tail : {a b : Count} {xs bs : List Count} → (a ∷ xs) ≡ (b ∷ bs) → xs ≡ bs
-cons-tail e = cc
-
 every : (ws : List Case) → allFit ws ≡ true → map answerOf ws ≡ map (λ w. w .answer) ws → Every Holds ws
 every [] f e = tt
-every (w ∷ ws) f e =
-    (holds w (and-l (fits w) _ f) (cons-head e), every ws (and-r (fits w) _ f) (cons-tail e))
+every (w ∷ ws) f e = (holds w (and-l (fits w) _ f) (cc), every ws (and-r (fits w) _ f) (cc))
 
 pub worked-true : WorkedTrue
 unfolding nodes buffers answerOf
