@@ -14,35 +14,27 @@ use Rattle.facts.proofs.Bools.{true-false}
 passed-refused : (n p : ℕ) → Passed ≡ Refused n p → ⊥
 passed-refused n p e = let z : _≡_ {A = ℕ} 0 1 = cc in omega arith
 
+abbrev Compared : ℕ → ℕ → Type 0
+Compared a b = (a < b) ⊎ ((b < a) ⊎ (a ≡ b))
+
+compare : (a b : ℕ) → Compared a b
+compare a b = elim (decLt a b) [ yes l ↦ inl l | no l ↦ elim (decLt b a) [ yes g ↦ inr (inl g) | no g ↦ inr (inr (omega arith)) ] ]
+
 -- of two checks at two places one is earlier, or they are the same
 abbrev Order : ℕ → ℕ → ℕ → ℕ → Type 0
 Order m q n p = Earlier m q n p ⊎ (Earlier n p m q ⊎ ((m ≡ n) × (q ≡ p)))
 
 order : (m q n p : ℕ) → Order m q n p
-order m q n p =
-    elim (decLt (rowOf m) (rowOf n)) [
-      | yes a ↦ inl (inl a)
-      | no a ↦ elim (decLt (rowOf n) (rowOf m)) [
-        | yes b ↦ inr (inl (inl b))
-        | no b ↦ same (rowOf m) (rowOf n) (omega arith)
-      ]
-    ]
+order m q n p = go (compare (rowOf m) (rowOf n)) (compare q p) (compare m n)
   where
-    same : (a b : ℕ) → a ≡ b → ((a < b) ⊎ ((a ≡ b) × ((q < p) ⊎ ((q ≡ p) × (m < n))))) ⊎ (((b < a) ⊎ ((b ≡ a) × ((p < q) ⊎ ((p ≡ q) × (n < m))))) ⊎ ((m ≡ n) × (q ≡ p)))
-    same a b e =
-        elim (decLt q p) [
-          | yes l ↦ inl (inr (e, inl l))
-          | no l ↦ elim (decLt p q) [
-            | yes g ↦ inr (inl (inr (sym e, inl g)))
-            | no g ↦ elim (decLt m n) [
-              | yes x ↦ inl (inr (e, inr (omega arith, x)))
-              | no x ↦ elim (decLt n m) [
-                | yes y ↦ inr (inl (inr (sym e, inr (omega arith, y))))
-                | no y ↦ inr (inr (omega arith, omega arith))
-              ]
-            ]
-          ]
-        ]
+    go : Compared (rowOf m) (rowOf n) → Compared q p → Compared m n → Order m q n p
+    go (inl a) x y = inl (inl a)
+    go (inr (inl a)) x y = inr (inl (inl a))
+    go (inr (inr e)) (inl l) y = inl (inr (e, inl l))
+    go (inr (inr e)) (inr (inl l)) y = inr (inl (inr (sym e, inl l)))
+    go (inr (inr e)) (inr (inr s)) (inl l) = inl (inr (e, inr (s, l)))
+    go (inr (inr e)) (inr (inr s)) (inr (inl l)) = inr (inl (inr (sym e, inr (sym s, l))))
+    go (inr (inr e)) (inr (inr s)) (inr (inr t)) = inr (inr (t, s))
 
 -- an answer that is the first failing check is exact
 pub exact : {F : Conditions} {a : Checked} → First F a → Exact F a

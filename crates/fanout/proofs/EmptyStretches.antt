@@ -152,17 +152,15 @@ module _ (counts : List ℕ) (k stretches : ℕ) (far : (1 < k) × (k ≤ suc to
         record {
           above = n .above;
           below = omega (arith, n .below, s .below);
-          between = λ y a b. at y a b (ℕ-discrete y x);
-        }
-      where
-        at : (y : ℕ) → r < y → y < k → Dec (y ≡ x) → getD counts y 0 ≡ 0
-        at y a b (yes e) = rw e z
-        at y a b (no e) =
-            elim (decLt x y) [
-              | yes l ↦ s .between y l b
-              | no l ↦
-                  elim (decLt 0 (getD counts y 0)) [
+          between = λ y a b.
+              elim (decLt x y) [
+                | yes l ↦ s .between y l b
+                | no l ↦ elim (ℕ-discrete y x) [
+                  | yes e ↦ rw e z
+                  | no e ↦ elim (decLt 0 (getD counts y 0)) [
                     | yes p ↦ absurd (omega (arith, h .at y b p, n .between y a (omega arith)))
                     | no p ↦ omega arith
                   ]
-            ]
+                ]
+              ];
+        }

@@ -139,40 +139,28 @@ module _ (s : ℕ) (r : List ℕ) (top : ℕ) (two : 2 ≤ s) (farthest : 0 < ge
 
   -- one buffer carries the buffer and the sinks one level further on
   carries : (k : ℕ) → 1 ≤ k → bit (ltb (suc k) top) + getD r (suc k) 0 ≤ s * bit (ltb k top)
-  carries k a = elim (decLt k top) [ yes l ↦ below l (decLt (suc k) top) | no l ↦ none l ]
-    where
-      below : k < top → Dec (suc k < top) → bit (ltb (suc k) top) + getD r (suc k) 0 ≤ s * bit (ltb k top)
-      below l (yes b) = rw (lt-ltb k top l, lt-ltb (suc k) top b) (omega (arith, nearer (suc k) b))
-      below l (no b) =
-          let e : suc k ≡ top = omega arith in
-          rw (lt-ltb k top l, le-ltb (suc k) top (omega arith)) (omega (arith, ap (λ (x : ℕ). getD r x 0) e))
-
-      none : (k < top → ⊥) → bit (ltb (suc k) top) + getD r (suc k) 0 ≤ s * bit (ltb k top)
-      none l = rw (le-ltb k top (omega arith), le-ltb (suc k) top (omega arith)) (omega (arith, beyond (suc k) (omega arith)))
+  carries k a =
+      elim (decLt (suc k) top) [
+        | yes b ↦ rw (lt-ltb k top (omega arith), lt-ltb (suc k) top b) (omega (arith, nearer (suc k) b))
+        | no b ↦ rw (le-ltb (suc k) top (omega arith)) (elim (decLt k top) [
+          | yes l ↦ (let e : suc k ≡ top = omega arith in rw (lt-ltb k top l) (omega (arith, ap (λ (x : ℕ). getD r x 0) e)))
+          | no l ↦ rw (le-ltb k top (omega arith)) (omega (arith, beyond (suc k) (omega arith)))
+        ])
+      ]
 
   -- has one buffer at each distance below top
   pub line-row : (k : ℕ) → 1 ≤ k → buffersAt s r k ≡ bit (ltb k top)
-  line-row k a = elim (decLt k top) [ yes l ↦ one l | no l ↦ none l ]
-    where
-      most : buffersAt s r k ≤ bit (ltb k top)
-      most = minimal s r (λ k. bit (ltb k top)) positive carries k a
-
-      back : k < top → suc k + (top - suc k) ≡ top
-      back l = omega arith
-
-      one : k < top → buffersAt s r k ≡ bit (ltb k top)
-      one l =
-          rw (lt-ltb k top l)
-          (omega (
-            arith,
-            rw (lt-ltb k top l) at most,
-            div-up s 0 (nodesAt s r (suc k)) positive
-                (nodes-some s (drop (suc k) r) (top - suc k) positive
-                (omega (arith, getD-drop (suc k) r (top - suc k) 0, ap (λ (x : ℕ). getD r x 0) (back l)))),
-          ))
-
-      none : (k < top → ⊥) → buffersAt s r k ≡ bit (ltb k top)
-      none l = rw (le-ltb k top (omega arith)) (omega (arith, rw (le-ltb k top (omega arith)) at most))
+  line-row k a =
+      let most = minimal s r (λ k. bit (ltb k top)) positive carries k a in
+      elim (decLt k top) [
+        | yes l ↦
+            let back : suc k + (top - suc k) ≡ top = omega arith in
+            let some =
+            nodes-some s (drop (suc k) r) (top - suc k) positive
+            (omega (arith, getD-drop (suc k) r (top - suc k) 0, ap (λ (x : ℕ). getD r x 0) back)) in
+            rw (lt-ltb k top l) (omega (arith, rw (lt-ltb k top l) at most, div-up s 0 (nodesAt s r (suc k)) positive some))
+        | no l ↦ rw (le-ltb k top (omega arith)) (omega (arith, rw (le-ltb k top (omega arith)) at most))
+      ]
 
 pub row-length : (m : Netlist) (d : ℕ) → length (row m d) ≡ suc topLevel
 unfolding row

@@ -247,11 +247,9 @@ step-over counts keep nodes k r h e f = record { next = h; single = λ l. e; unk
 
 -- a row whose buffers are not kept is all zero after the walk
 pub walked-clear : (s : ℕ) (counts after : List ℕ) (t : TreeTotals) → Walked s counts false after t → after ≡ replicate (suc topLevel) 0
-walked-clear s counts after t w = zeros (suc topLevel) after (w .size) (λ x. at x (decLt 0 x))
-  where
-    at : (x : ℕ) → Dec (0 < x) → getD after x 0 ≡ 0
-    at x (yes m) = w .at x (omega arith)
-    at x (no m) = let e : x ≡ 0 = omega arith in rw e (w .apart)
+walked-clear s counts after t w =
+    zeros (suc topLevel) after (w .size)
+    (λ x. elim (decLt 0 x) [ yes m ↦ w .at x (omega arith) | no m ↦ (let e : x ≡ 0 = omega arith in rw e (w .apart)) ])
 
 -- the row of a source's driver can be walked
 pub walkable : (n : Netlist) (caps : Capacities) (d : ℕ) (counts : List ℕ) (reach : Reach) → IsSource n → Allowed caps →
