@@ -1,6 +1,6 @@
 -- Laws of stretches: one more with sinks, and the way down over those without.
 use Prim.Native.Nat.{ℕ, suc, _+_, _*_, _-_, _/_, _%_, _^_, _≤_, _<_, max}
-use mathlib.Core.Path.{_≡_, sym, _∙_, ap, subst}
+use mathlib.Core.Path.{_≡_, sym, _∙_, ap}
 use mathlib.Core.List.{List}
 use native.Mathlib.Omega.{arith}
 use native.Mathlib.Nat.{div-eq-of-lt, div-self, mod-lt, pow-le-pow-right}
@@ -66,21 +66,15 @@ stretches-none counts k stretches z = record { at = λ x l p. absurd (omega (ari
 
 pub stretches-added : (counts : List ℕ) (k stretches x : ℕ) → InStretches counts k stretches → x < length counts →
     InStretches (added counts x) k (bitOr stretches (2 ^ (x / stretch)))
-stretches-added counts k stretches x h l = record { at = λ y b p. at y b p (ℕ-discrete x y) }
-  where
-    at : (y : ℕ) → y < k → 0 < getD (added counts x) y 0 → Dec (x ≡ y) →
-        bitAt (bitOr stretches (2 ^ (x / stretch))) (y / stretch) ≡ 1
-    at y b p (yes e) =
-        subst (λ (y : ℕ). bitAt (bitOr stretches (2 ^ (x / stretch))) (y / stretch) ≡ 1) e
-        (or-bit stretches (2 ^ (x / stretch)) (x / stretch)
-        ∙ omega (arith, own-bit (x / stretch), bit-small stretches (x / stretch)))
-    at y b p (no e) =
-        or-bit stretches (2 ^ (x / stretch)) (y / stretch)
-        ∙ omega (
-          arith,
-          h .at y b (omega (arith, added-at counts x y l, bit-other x y e)),
-          bit-small (2 ^ (x / stretch)) (y / stretch),
-        )
+stretches-added counts k stretches x h l =
+    record {
+      at = λ y b p.
+          or-bit stretches (2 ^ (x / stretch)) (y / stretch)
+          ∙ elim (ℕ-discrete x y) [
+            | yes e ↦ rw (← e) (omega (arith, own-bit (x / stretch), bit-small stretches (x / stretch)))
+            | no e ↦ omega (arith, h .at y b (omega (arith, added-at counts x y l, bit-other x y e)), bit-small (2 ^ (x / stretch)) (y / stretch))
+          ];
+    }
 
 -- a word of set bits has every stretch
 pub stretches-all : (counts : List ℕ) → length counts ≡ suc topLevel → InStretches counts (suc topLevel) (2 ^ 64 - 1)
@@ -124,19 +118,14 @@ module _ (stretches x : ℕ) (far : (1 < x) × (x ≤ topLevel)) where
 
     pub next-found : (h : ℕ) → (2 ^ h ≤ word) × (word < 2 ^ suc h) × (h < stretch) → NextByStretch stretches x (stretch * h + 63)
     next-found h t =
-        record { above = omega arith; below = near (decLt h (x / stretch)); between = λ y a b. unset y (suc h) b (t .1) (omega arith) }
-      where
-        near : Dec (h < x / stretch) → stretch * h + 63 < x
-        near (yes l) = omega arith
-        near (no l) =
-            absurd
-            (omega (
-              arith,
-              t .0,
-              w,
-              mod-lt stretches (pow-pos (x / stretch)),
-              pow-le-pow-right {n = 2} (omega arith) {i = x / stretch} {j = h} (omega arith),
-            ))
+        record {
+          above = omega arith;
+          below = elim (decLt h (x / stretch)) [
+            | yes l ↦ omega arith
+            | no l ↦ absurd (omega (arith, t .0, w, mod-lt stretches (pow-pos (x / stretch)), pow-le-pow-right {n = 2} (omega arith) {i = x / stretch} {j = h} (omega arith)))
+          ];
+          between = λ y a b. unset y (suc h) b (t .1) (omega arith);
+        }
 
 -- the way down from k: no sinks stand between x and k
 module _ (counts : List ℕ) (k stretches : ℕ) (far : (1 < k) × (k ≤ suc topLevel)) (h : InStretches counts k stretches) where
