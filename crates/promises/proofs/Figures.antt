@@ -4,7 +4,7 @@ use Prim.Native.Nat.{ℕ, suc, _+_, _*_, _-_, _/_, _<_}
 use native.Mathlib.Decide.{decLt}
 use native.Mathlib.Omega.{arith}
 use native.Mathlib.Nat.{add-sub-of-le, le-div-iff-mul-le, div-lt-iff-lt-mul}
-use mathlib.Core.Path.{_≡_, sym, ap, subst, _∙_}
+use mathlib.Core.Path.{_≡_, refl, sym, ap, subst, _∙_}
 use mathlib.Core.List.{List, [], _∷_}
 use lib.ListN.{take}
 use Rattle.facts.specs.Sums.{count}
@@ -55,17 +55,11 @@ rounded-one part whole a b f g =
     quotient x h p = omega (arith, le-div-iff-mul-le {x = x} {y = 100 * part} p .1 (h .reached p), div-lt-iff-lt-mul {x = 100 * part} {y = suc x} p .1 (h .next p))
 
 module _ (source : List ℕ) (caps : Capacities) (area : List ℕ) (maps : Maps source caps area) where
-  answer-depth : mapAnswer source caps area .depth ≡ depth (netlist source)
+  answers : (mapAnswer source caps area .depth ≡ depth (netlist source))
+      × (mapAnswer source caps area .junctions ≡ 6 * gates (netlist source) + 2 * mapAnswer source caps area .buffers)
+      × (mapAnswer source caps area .share ≡ share (2 * mapAnswer source caps area .buffers) (mapAnswer source caps area .junctions))
   unfolding mapAnswer
-  answer-depth = rw (maps-passed source caps area maps)
-
-  answer-junctions : mapAnswer source caps area .junctions ≡ 6 * gates (netlist source) + 2 * mapAnswer source caps area .buffers
-  unfolding mapAnswer
-  answer-junctions = rw (maps-passed source caps area maps)
-
-  answer-share : mapAnswer source caps area .share ≡ share (2 * mapAnswer source caps area .buffers) (mapAnswer source caps area .junctions)
-  unfolding mapAnswer
-  answer-share = rw (maps-passed source caps area maps)
+  answers = rw (maps-passed source caps area maps) (refl, refl, refl)
 
   pub figures-hold :
       Figures source caps (written source caps area) (mapAnswer source caps area .size) (mapAnswer source caps area .buffers)
@@ -80,9 +74,9 @@ module _ (source : List ℕ) (caps : Capacities) (area : List ℕ) (maps : Maps 
         added = one .added;
         kinds = sym (one .kinds);
         fewest = sym (one .counts);
-        outputs = rw answer-depth (outputs-kept n caps m (a .isSource .isSource) (a .legal) (outputs-at source (a .isSource)));
-        prices = rw (one .kinds) (omega (arith, answer-junctions, gates-kept n caps m (a .legal)));
-        part = rw (one .kinds, answer-share) (share-rounded _ _);
+        outputs = rw (answers .0) (outputs-kept n caps m (a .isSource .isSource) (a .legal) (outputs-at source (a .isSource)));
+        prices = rw (one .kinds) (omega (arith, answers .1, gates-kept n caps m (a .legal)));
+        part = rw (one .kinds, answers .2) (share-rounded _ _);
       }
 
 -- two lists of figures for one netlist written
