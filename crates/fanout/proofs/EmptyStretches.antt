@@ -72,7 +72,12 @@ stretches-added counts k stretches x h l =
           or-bit stretches (2 ^ (x / stretch)) (y / stretch)
           ∙ elim (ℕ-discrete x y) [
             | yes e ↦ rw (← e) (omega (arith, own-bit (x / stretch), bit-small stretches (x / stretch)))
-            | no e ↦ omega (arith, h .at y b (omega (arith, added-at counts x y l, bit-other x y e)), bit-small (2 ^ (x / stretch)) (y / stretch))
+            | no e ↦
+                omega (
+                  arith,
+                  h .at y b (omega (arith, added-at counts x y l, bit-other x y e)),
+                  bit-small (2 ^ (x / stretch)) (y / stretch),
+                )
           ];
     }
 
@@ -122,7 +127,15 @@ module _ (stretches x : ℕ) (far : (1 < x) × (x ≤ topLevel)) where
           above = omega arith;
           below = elim (decLt h (x / stretch)) [
             | yes l ↦ omega arith
-            | no l ↦ absurd (omega (arith, t .0, w, mod-lt stretches (pow-pos (x / stretch)), pow-le-pow-right {n = 2} (omega arith) {i = x / stretch} {j = h} (omega arith)))
+            | no l ↦
+                absurd
+                (omega (
+                  arith,
+                  t .0,
+                  w,
+                  mod-lt stretches (pow-pos (x / stretch)),
+                  pow-le-pow-right {n = 2} (omega arith) {i = x / stretch} {j = h} (omega arith),
+                ))
           ];
           between = λ y a b. unset y (suc h) b (t .1) (omega arith);
         }

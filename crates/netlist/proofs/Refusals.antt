@@ -33,7 +33,9 @@ slots-are m k r = iff-trans (any-some (badSlot m k r) slots) (iff-some slots _ _
     one : (j : ℕ) → (badSlot m k r j ≡ true) ↔ (((j < arity (r .kind)) × ((k ≤ slot r j) ⊎ (m .at (slot r j) .kind ≡ output))) ⊎ ((arity (r .kind) ≤ j) × (slot r j ≢ unused)))
     one j =
         iff-trans (side j (arity (r .kind)) (leb k (slot r j) || eqb (m .at (slot r j) .kind) output) (not (eqb (slot r j) unused)))
-        (iff-sum (iff-pair (λ l. l, λ l. l) (either-is (most k (slot r j)) (same (m .at (slot r j) .kind) output))) (iff-pair (λ l. l, λ l. l) (unlike (slot r j) unused)))
+        (iff-sum
+        (iff-pair (λ l. l, λ l. l) (either-is (most k (slot r j)) (same (m .at (slot r j) .kind) output)))
+        (iff-pair (λ l. l, λ l. l) (unlike (slot r j) unused)))
 
 fanins-are : (m : Netlist) (r : Record) → (any (notBelow m r) slots ≡ true) ↔ ((j : ℕ) × (j < arity (r .kind)) × (r .level ≤ m .at (slot r j) .level))
 fanins-are m r = iff-trans (any-some (notBelow m r) slots) (
