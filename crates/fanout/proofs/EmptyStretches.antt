@@ -123,22 +123,19 @@ module _ (stretches x : ℕ) (far : (1 < x) × (x ≤ topLevel)) where
 
     pub next-found : (h : ℕ) → (2 ^ h ≤ word) × (word < 2 ^ suc h) × (h < stretch) → NextByStretch stretches x (stretch * h + 63)
     next-found h t =
-        record {
-          above = omega arith;
-          below = elim (decLt h (x / stretch)) [
-            | yes l ↦ omega arith
-            | no l ↦
-                absurd
-                (omega (
-                  arith,
-                  t .0,
-                  w,
-                  mod-lt stretches (pow-pos (x / stretch)),
-                  pow-le-pow-right {n = 2} (omega arith) {i = x / stretch} {j = h} (omega arith),
-                ))
-          ];
-          between = λ y a b. unset y (suc h) b (t .1) (omega arith);
-        }
+        record { above = omega arith; below = near (decLt h (x / stretch)); between = λ y a b. unset y (suc h) b (t .1) (omega arith) }
+      where
+        near : Dec (h < x / stretch) → stretch * h + 63 < x
+        near (yes l) = omega arith
+        near (no l) =
+            absurd
+            (omega (
+              arith,
+              t .0,
+              w,
+              mod-lt stretches (pow-pos (x / stretch)),
+              pow-le-pow-right {n = 2} (omega arith) {i = x / stretch} {j = h} (omega arith),
+            ))
 
 -- the way down from k: no sinks stand between x and k
 module _ (counts : List ℕ) (k stretches : ℕ) (far : (1 < k) × (k ≤ suc topLevel)) (h : InStretches counts k stretches) where
