@@ -160,3 +160,10 @@ module _ (a x y : Checked) (e : a ≡ x) where
 
   pub then-go : (b : Checked) → a ≡ Passed → b ≡ y → b ≡ (x andThen y)
   then-go b h q = rw (← e, h) q
+
+module _ (b c : Bool) (e : b ≡ c) (number place : ℕ) (y : Checked) where
+  pub check-stop : b ≡ true → Refused number place ≡ (check number place c andThen y)
+  check-stop h = rw (← e, h)
+
+  pub check-go : (a : Checked) → b ≡ false → a ≡ y → a ≡ (check number place c andThen y)
+  check-go a h q = rw (← e, h) q

@@ -32,21 +32,6 @@ use Rattle.simulator.specs.Run.{runAnswer}
 use Rattle.simulator.specs.PrivateRun.{IsRun}
 use Rattle.simulator.proofs.Accepted.{evaluate-passed, step-passed, run-passed}
 
--- a check that refuses is the answer, and one that passes leaves it to the next
-module _ (a x y : Checked) (e : a ≡ x) where
-  pub then-stop : (number place : ℕ) → a ≡ Refused number place → Refused number place ≡ (x andThen y)
-  then-stop number place h = rw (← e, h)
-
-  pub then-go : (b : Checked) → a ≡ Passed → b ≡ y → b ≡ (x andThen y)
-  then-go b h q = rw (← e, h) q
-
-module _ (b c : Bool) (e : b ≡ c) (number place : ℕ) (y : Checked) where
-  pub check-stop : b ≡ true → Refused number place ≡ (check number place c andThen y)
-  check-stop h = rw (← e, h)
-
-  pub check-go : (a : Checked) → b ≡ false → a ≡ y → a ≡ (check number place c andThen y)
-  check-go a h q = rw (← e, h) q
-
 -- an area is written where the answer passes, and else is as it was
 module _ (a x : Checked) (e : a ≡ x) (new old : List ℕ) where
   pub area-writes : (area : List ℕ) → a ≡ Passed → area ≡ new → area ≡ unlessRefused x new old

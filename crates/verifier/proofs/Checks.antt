@@ -181,10 +181,6 @@ module _ (records : ℕ) (bytes : List ℕ) (b : Bool) (f : b ≡ badLength reco
   mapped-fits m e = omega (arith, within)
 
 module _ (source : List ℕ) (caps : Capacities) (mapped : List ℕ) (input : Checked) (e : input ≡ inputChecks source caps) where
-  pub verify-input : (number place : ℕ) → input ≡ Refused number place → Refused number place ≡ verifyChecks source caps mapped
-  unfolding verifyChecks
-  verify-input number place f = rw (← e, f)
-
   module _ (p : input ≡ Passed) where
     pub verify-allowed : Allowed caps
     verify-allowed = input-passed source caps (sym e ∙ p) .allowed

@@ -1,6 +1,8 @@
 -- `check_mapping` meets its contract: 1 to 7, the length, then 12 to 17; what 1 to 7 and 11 leave lets every count fit.
 use borrow.Author.Needs.{needs}
-use Rattle.verifier.proofs.Checks.{verify-input, verify-length, verify-legal, records-fit, mapped-fits, mapped-sized, verify-allowed}
+use Rattle.facts.proofs.Reflect.{then-stop}
+use Rattle.verifier.specs.Checks.{verifyChecks}
+use Rattle.verifier.proofs.Checks.{verify-length, verify-legal, records-fit, mapped-fits, mapped-sized, verify-allowed}
 use Rattle.verifier.proofs.check_mapping.Statement.{statement}
 use Rattle.verifier.proofs.check_mapping.Tie as tie
 
@@ -14,7 +16,8 @@ enum-known-input : tie.Need-enum-known-input
 enum-known-input c = search needs
 
 returns : tie.Need-returns
-returns c = search verify-input
+unfolding verifyChecks
+returns c = search then-stop
 
 record-count-requires : tie.Need-record-count-requires
 record-count-requires c κs = search needs

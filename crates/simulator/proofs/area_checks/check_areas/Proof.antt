@@ -1,5 +1,6 @@
 -- `check_areas` meets its contract: 18 by its test, then 19.
-use Rattle.simulator.proofs.Checks.{check-stop, check-go, row-short}
+use Rattle.facts.proofs.Reflect.{check-stop, check-go}
+use Rattle.simulator.proofs.Checks.{row-short}
 use Rattle.simulator.specs.Evaluate.{evaluateChecks}
 use borrow.Author.Needs.{needs}
 use Rattle.simulator.proofs.area_checks.check_areas.Statement.{statement}

@@ -1,5 +1,6 @@
 -- `check_evaluate` meets its contract: the source is checked first, the areas where it passed.
-use Rattle.simulator.proofs.Checks.{answer-is, then-stop, then-go}
+use Rattle.facts.proofs.Reflect.{then-stop, then-go}
+use Rattle.simulator.proofs.Checks.{answer-is}
 use Rattle.simulator.specs.Evaluate.{evaluateAnswer}
 use borrow.Author.Needs.{needs}
 use Rattle.simulator.proofs.area_checks.check_evaluate.Statement.{statement}

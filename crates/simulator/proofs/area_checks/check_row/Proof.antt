@@ -1,5 +1,6 @@
 -- `check_row` meets its contract: 18 by its test, then 19.
-use Rattle.simulator.proofs.Checks.{rows-fit, check-stop, check-go}
+use Rattle.facts.proofs.Reflect.{check-stop, check-go}
+use Rattle.simulator.proofs.Checks.{rows-fit}
 use Rattle.simulator.specs.Step.{stepChecks}
 use borrow.Author.Needs.{needs}
 use Rattle.simulator.proofs.area_checks.check_row.Statement.{statement}

@@ -1,5 +1,6 @@
 -- `check_rows` meets its contract: 18 by its tests, then 19.
-use Rattle.simulator.proofs.Checks.{few-rows, rows-fit, check-stop, check-go}
+use Rattle.facts.proofs.Reflect.{check-stop, check-go}
+use Rattle.simulator.proofs.Checks.{few-rows, rows-fit}
 use Rattle.simulator.specs.Run.{runChecks}
 use borrow.Author.Needs.{needs}
 use Rattle.simulator.proofs.area_checks.check_rows.Statement.{statement}

@@ -1,5 +1,6 @@
 -- `check_run` meets its contract: the verifier first, the areas where it accepted.
-use Rattle.simulator.proofs.Checks.{judged-few, then-stop, then-go}
+use Rattle.facts.proofs.Reflect.{then-stop, then-go}
+use Rattle.simulator.proofs.Checks.{judged-few}
 use Rattle.simulator.specs.Run.{runAnswer}
 use borrow.Author.Needs.{needs}
 use Rattle.simulator.proofs.area_checks.check_run.Statement.{statement}
