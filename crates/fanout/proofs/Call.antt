@@ -1,5 +1,5 @@
 -- The promises about the call: its answer is a refusal exactly by its checks, and otherwise what is counted from the driver's row.
-use Prim.Native.Nat.{ℕ}
+use Prim.Native.Nat.{ℕ, _<_}
 use mathlib.Core.Path.{_≡_, refl, sym, _∙_, ap, subst}
 use mathlib.Core.Bool.{Bool, true, false, not}
 use mathlib.Core.List.{List}
@@ -21,7 +21,7 @@ use Rattle.netlist.specs.Checks.{inputChecks}
 use Rattle.netlist.specs.Source.{Source}
 use Rattle.netlist.specs.declared.Record.{Record}
 use Rattle.netlist.proofs.Records.{record-past}
-use Rattle.netlist.proofs.Source.{input-passed, is-output}
+use Rattle.netlist.proofs.Source.{input-passed, is-output, driver-inside}
 use Rattle.netlist.proofs.Refusals.{input-rows, input-first}
 use Rattle.netlist.specs.PrivateInput.{Input}
 use Rattle.fanout.specs.declared.Count.{Count}
@@ -154,6 +154,9 @@ module _ (source : List ℕ) (caps : Capacities) (d : ℕ) (c : Checked) (e : c 
   call-refused number place p = rw (← e, p)
 
   module _ (kind : ℕ) (b : Bool) (k : kind ≡ recordAt source d .kind) (q : b ≡ isDriver kind) where
+    pub call-present : b ≡ true → d < recordCount source
+    call-present t = driver-inside source d (ap isDriver (sym k) ∙ sym q ∙ t)
+
     pub call-counted : (a : Count) → c ≡ checked.Passed → b ≡ true →
         a ≡ netCount (netlist source) caps d → a ≡ countAnswer source caps d
     unfolding countAnswer

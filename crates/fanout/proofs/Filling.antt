@@ -1,25 +1,25 @@
 -- Laws of filling the row of one driver, with premises as the code has them: one slot, one record, all records.
 use Prim.Native.Nat.{ℕ, suc, _+_, _-_, _≤_, _<_, _^_}
 use mathlib.Core.Path.{_≡_, refl, sym, _∙_, ap, subst}
-use mathlib.Core.Bool.{Bool, true, false, cond}
+use mathlib.Core.Bool.{Bool, true, false, cond, _&&_}
 use mathlib.Core.List.{List}
 use native.Mathlib.Omega.{arith}
+use native.Mathlib.Decide.{decLt}
 use lib.ListN.{length, getD, length-set, length-replicate}
 use lib.Seq.{ext-getD}
 use native.Mathlib.Numerals.{add-one}
 use lib.Dec.{ltb, eqb}
-use borrow.Author.Tests.{eq-eqb, ne-eqb, lt-ltb, le-ltb, ltb-true, ltb-false}
-use Rattle.facts.proofs.Bools.{and-i, and-l}
+use borrow.Author.Tests.{eq-eqb, ne-eqb, lt-ltb, le-ltb, ltb-true, ltb-false, eqb-true}
+use Rattle.facts.proofs.Bools.{and-i}
 use Rattle.facts.proofs.Lists.{zeros-at}
 use Rattle.facts.specs.Sums.{bit, sum, count, count₂}
-use Rattle.facts.proofs.Sums.{count-suc, count-false, count-le, count-stop, count₂-le}
-use Rattle.netlist.proofs.Checks.{arity-slots}
+use Rattle.facts.proofs.Sums.{count-suc, count-false, count-le, count₂-le}
 use Rattle.fanout.specs.PrivateWalk.{Filled}
 use Rattle.fanout.proofs.Nets.{row-length, row-at}
 use Rattle.fanout.proofs.Rows.{added-at, level-test, sink-above}
 use Rattle.netlist.specs.declared.Record.{Record}
 use Rattle.netlist.specs.Kinds.{slots, topLevel, arity}
-use Rattle.netlist.specs.Records.{Netlist, slot, used, fanin, names}
+use Rattle.netlist.specs.Records.{Netlist, slot, used, fanin}
 use Rattle.netlist.specs.Source.{IsSource}
 use Rattle.fanout.specs.Nets.{sinkAt, sinks, added}
 use Rattle.fanout.specs.PrivateFilling.{sinksSoFar, RowSoFar, RowAtRecord, Empty, SinkRoom, Slot, farther, rowWith, farWith}
@@ -66,19 +66,29 @@ next-record : (m : Netlist) (d i x : ℕ) → sinksSoFar m d (suc i) 0 x ≡ sin
 unfolding count₂ count sum
 next-record m d i x = omega arith
 
-module _ (m : Netlist) (d i j : ℕ) (source : IsSource m) (inside : i < m .size) (l : j < arity (m .at i .kind)) where
+module _ (m : Netlist) (d i j : ℕ) (source : IsSource m) (present : d < m .size) (inside : i < m .size) (l : j < slots) where
   -- a slot that names another record is no sink
   no-sink : (x : ℕ) → eqb (fanin m i j) d ≡ false → sinkAt m d x i j ≡ false
-  no-sink x e = rw (lt-ltb j (arity (m .at i .kind)) l, e) refl
+  no-sink x e = rw e (go (used m i j))
+    where
+      go : (b : Bool) → ((b && false) && eqb (m .at i .level) (m .at d .level + x)) ≡ false
+      go true = refl
+      go false = refl
+
+  -- one that names d is used: an unused slot names no record
+  hit-used : eqb (fanin m i j) d ≡ true → used m i j ≡ true
+  hit-used e =
+      elim (decLt j (arity (m .at i .kind))) [
+        | yes u ↦ lt-ltb j (arity (m .at i .kind)) u
+        | no u ↦ absurd (omega (arith, source .empty i j inside (omega arith) l, eqb-true (fanin m i j) d e, source .few))
+      ]
 
   stands-above : eqb (fanin m i j) d ≡ true → m .at d .level < m .at i .level
-  stands-above e = sink-above m d source i j inside (and-i (used m i j) _ (lt-ltb j (arity (m .at i .kind)) l) e)
+  stands-above e = sink-above m d source i j inside (and-i (used m i j) _ (hit-used e) e)
 
-  -- one that names d is a sink at its level's distance alone
+  -- and a sink at its level's distance alone
   is-sink : (x : ℕ) → eqb (fanin m i j) d ≡ true → sinkAt m d x i j ≡ eqb (m .at i .level - m .at d .level) x
-  is-sink x e =
-      rw (lt-ltb j (arity (m .at i .kind)) l, e)
-      (level-test (m .at i .level) (m .at d .level) x (stands-above e))
+  is-sink x e = rw (hit-used e, e) (level-test (m .at i .level) (m .at d .level) x (stands-above e))
 
   filled-more : (row : List ℕ) (far : ℕ) → RowSoFar m d i j row far →
       RowSoFar m d i (suc j) (rowWith d (m .at d .level) (m .at i) j row) (farWith d (m .at d .level) (m .at i) j far)
@@ -114,41 +124,37 @@ module _ (m : Netlist) (d i j : ℕ) (source : IsSource m) (inside : i < m .size
                 (omega arith);
           }
 
--- one record r, which uses a slots: those below j are counted
-pub record Slots (m : Netlist) (d below i : ℕ) (r : Record) (a : ℕ) (row : List ℕ) (far j : ℕ) : Type 0 where
+-- one record r: its slots below j are counted
+pub record Slots (m : Netlist) (d below i : ℕ) (r : Record) (row : List ℕ) (far j : ℕ) : Type 0 where
   pub isSource : IsSource m
+  pub present : d < m .size
   pub driver : below ≡ m .at d .level
   pub inside : i < m .size
   pub read : r ≡ m .at i
-  pub uses : a ≡ arity (r .kind)
-  pub within : j ≤ a
+  pub within : j ≤ slots
   pub filled : RowSoFar m d i j row far
 
-module _ (m : Netlist) (d below i : ℕ) (r : Record) (a : ℕ) where
-  pub slots-start : (row : List ℕ) (far : ℕ) → RowAtRecord m d below i row far → r ≡ m .at i → a ≡ arity (r .kind) →
-      Slots m d below i r a row far 0
-  slots-start row far f q u =
+module _ (m : Netlist) (d below i : ℕ) (r : Record) where
+  pub slots-start : (row : List ℕ) (far : ℕ) → RowAtRecord m d below i row far → r ≡ m .at i → Slots m d below i r row far 0
+  slots-start row far f q =
       record {
         isSource = f .isSource;
+        present = f .present;
         driver = f .driver;
         inside = f .inside;
         read = q;
-        uses = u;
         within = omega arith;
         filled = f .filled;
       }
 
-  module _ (row : List ℕ) (far j : ℕ) (h : Slots m d below i r a row far j) where
-    pub slots-room : j < a → Slot row d below r j
+  module _ (row : List ℕ) (far j : ℕ) (h : Slots m d below i r row far j) where
+    pub slots-room : j < slots → Slot row d below r j
     slots-room l =
         record {
-          above = λ e. omega (arith, stands-above m d i j (h .isSource) (h .inside) used-slot (hit e), level, h .driver);
+          above = λ e. omega (arith, stands-above m d i j (h .isSource) (h .present) (h .inside) l (hit e), level, h .driver);
           room = λ e. record { inRow = inRow; fits = fits };
         }
       where
-        used-slot : j < arity (m .at i .kind)
-        used-slot = subst (λ (r : Record). j < arity (r .kind)) (h .read) (omega (arith, h .uses))
-
         level : r .level ≡ m .at i .level
         level = ap (λ (r : Record). r .level) (h .read)
 
@@ -165,64 +171,51 @@ module _ (m : Netlist) (d below i : ℕ) (r : Record) (a : ℕ) where
               h .filled .entry (r .level - below) inRow,
               count₂-le (sinkAt m d (r .level - below)) slots i,
               count-le (sinkAt m d (r .level - below) i) j,
-              arity-slots (m .at i .kind),
-              used-slot,
               h .inside,
               h .isSource .few,
             )
 
-    pub slots-more : (row′ : List ℕ) (far′ : ℕ) → j < a → row′ ≡ rowWith d below r j row → far′ ≡ farWith d below r j far →
-        Slots m d below i r a row′ far′ (j + 1)
+    pub slots-more : (row′ : List ℕ) (far′ : ℕ) → j < slots → row′ ≡ rowWith d below r j row → far′ ≡ farWith d below r j far →
+        Slots m d below i r row′ far′ (j + 1)
     slots-more row′ far′ l e g =
         record {
           isSource = h .isSource;
+          present = h .present;
           driver = h .driver;
           inside = h .inside;
           read = h .read;
-          uses = h .uses;
           within = omega arith;
           filled =
               rw (add-one j, e, g, h .driver, h .read)
-              (filled-more m d i j (h .isSource) (h .inside)
-              (subst (λ (r : Record). j < arity (r .kind)) (h .read) (omega (arith, h .uses))) row far (h .filled));
+              (filled-more m d i j (h .isSource) (h .present) (h .inside) l row far (h .filled));
         }
 
-    pub slots-end : a ≤ j → RowSoFar m d (suc i) 0 row far
+    pub slots-end : slots ≤ j → RowSoFar m d (suc i) 0 row far
     slots-end l =
+        let e : j ≡ slots = omega (arith, h .within) in
         record {
           long = h .filled .long;
-          entry = λ x b. omega (arith, h .filled .entry x b, all x, next-record m d i x);
+          entry = λ x b. h .filled .entry x b ∙ ap (λ (j : ℕ). sinksSoFar m d i j x) e ∙ sym (next-record m d i x);
           within = h .filled .within;
           past = h .filled .past;
         }
-      where
-        uses-all : j ≡ arity (m .at i .kind)
-        uses-all = subst (λ (r : Record). j ≡ arity (r .kind)) (h .read) (omega (arith, h .uses, h .within))
-
-        all : (x : ℕ) → count (sinkAt m d x i) slots ≡ count (sinkAt m d x i) j
-        all x =
-            count-stop (sinkAt m d x i) j slots (omega (arith, uses-all, arity-slots (m .at i .kind)))
-            (λ y b e.
-            omega (
-              arith,
-              uses-all,
-              ltb-true y (arity (m .at i .kind)) (and-l (used m i y) _ (and-l (names m d i y) _ e)),
-            ))
 
 -- all records: those below k are counted
 pub record Records (m : Netlist) (d below n : ℕ) (row : List ℕ) (far k : ℕ) : Type 0 where
   pub isSource : IsSource m
+  pub present : d < m .size
   pub driver : below ≡ m .at d .level
   pub size : n ≡ m .size
   pub within : k ≤ n
   pub filled : RowSoFar m d k 0 row far
 
 module _ (m : Netlist) (d below n : ℕ) where
-  pub records-start : (row : List ℕ) → Empty m row → below ≡ m .at d .level → n ≡ m .size → Records m d below n row 0 0
+  pub records-start : (row : List ℕ) → Empty m d row → below ≡ m .at d .level → n ≡ m .size → Records m d below n row 0 0
   unfolding count₂ count sum
   records-start row h b s =
       record {
         isSource = h .isSource;
+        present = h .present;
         driver = b;
         size = s;
         within = omega arith;
@@ -243,6 +236,7 @@ module _ (m : Netlist) (d below n : ℕ) where
     records-room l =
         record {
           isSource = h .isSource;
+          present = h .present;
           driver = h .driver;
           inside = omega (arith, h .size);
           filled = h .filled;
@@ -253,6 +247,7 @@ module _ (m : Netlist) (d below n : ℕ) where
     records-more row′ far′ l f =
         record {
           isSource = h .isSource;
+          present = h .present;
           driver = h .driver;
           size = h .size;
           within = omega arith;

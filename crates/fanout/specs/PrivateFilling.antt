@@ -23,16 +23,18 @@ pub record RowSoFar (m : Netlist) (d i j : ℕ) (r : List ℕ) (far : ℕ) : Typ
   pub within : far ≤ topLevel
   pub past : (x : ℕ) → far < x → getD r x 0 ≡ 0
 
--- the driver of a source, its level, and a row filled up to a record
+-- a record of a source, its level, and its row filled up to a record
 pub record RowAtRecord (m : Netlist) (d below i : ℕ) (r : List ℕ) (far : ℕ) : Type 0 where
   pub isSource : IsSource m
+  pub present : d < m .size
   pub driver : below ≡ m .at d .level
   pub inside : i < m .size
   pub filled : RowSoFar m d i 0 r far
 
--- a source, and a row of zeros
-pub record Empty (m : Netlist) (r : List ℕ) : Type 0 where
+-- a record of a source, and a row of zeros
+pub record Empty (m : Netlist) (d : ℕ) (r : List ℕ) : Type 0 where
   pub isSource : IsSource m
+  pub present : d < m .size
   pub zeros : r ≡ replicate (suc topLevel) 0
 
 -- there is room for one more sink at a distance

@@ -2,7 +2,7 @@
 ghost use mathlib.Core.Path.{_≡_};
 ghost use Prim.Native.Nat.{suc, _/_, _<_, _≤_};
 ghost use mathlib.Core.Bool.{cond};
-ghost use Rattle.netlist.specs.Records.{netlist};
+ghost use Rattle.netlist.specs.Records.{netlist, recordCount};
 ghost use Rattle.netlist.specs.Kinds.{topLevel};
 ghost use Rattle.netlist.specs.PrivateInput.{Input};
 ghost use Rattle.fanout.specs.Nets.{added};
@@ -14,6 +14,7 @@ ghost use Rattle.fanout.specs.PrivateWalk.{nodeLimit, Filled, Walkable, 
 use facts::Checked;
 use netlist::Capacities;
 use netlist::Record;
+use netlist::SLOTS;
 
 pub mod stretches;
 
@@ -50,7 +51,7 @@ fn add_sink(row: &mut [u32; DISTANCES], distance: usize)
     row[distance] += 1;
 }
 
-// Slot j of a record: one more sink where it names the driver. Answers the largest distance so far.
+// Slot j of a record: one more sink where it names the driver; an unused slot names none. Answers the largest distance so far.
 fn add_slot(
     row: &mut [u32; DISTANCES],
     far: usize,
@@ -83,10 +84,9 @@ fn add_record(
     ensures { λ f. ⌜ RowSoFar (netlist (now (source .entry))) driver (suc k) 0 (now (row .exit)) f ⌝ }
 {
     let r = netlist::record_at(source, k);
-    let n = netlist::arity(r.kind);
     let mut most = far;
     let mut j: usize = 0;
-    while j < n {
+    while j < SLOTS {
         most = add_slot(row, most, driver, below, r, j);
         j += 1;
     }
@@ -95,7 +95,7 @@ fn add_record(
 
 // The row of the driver's net. Answers the largest distance.
 fn fill(source: &[u8], row: &mut [u32; DISTANCES], driver: usize) -> usize
-    requires { ⌜ Empty (netlist (now source)) (now row) ⌝ }
+    requires { ⌜ Empty (netlist (now source)) driver (now row) ⌝ }
     ensures { λ f. ⌜ Filled (netlist (now (source .entry))) driver (now (row .exit)) f ⌝ }
 {
     let below = netlist::level_at(source, driver);
@@ -180,6 +180,7 @@ pub fn walk(s: u32, reach: Reach, keep: bool, row: &mut [u32; DISTANCES]) -> Tre
 // The count of a driver's net.
 fn count_driver(source: &[u8], capacities: Capacities, driver: usize) -> Count
     requires { ⌜ Input (now source) capacities ⌝ }
+    requires { ⌜ driver < recordCount (now source) ⌝ }
     ensures { λ r. ⌜ r ≡ netCount (netlist (now (source .entry))) capacities driver ⌝ }
 {
     let mut row = [0u32; DISTANCES];

@@ -15,8 +15,9 @@ use borrow.Author.Tests.{lt-ltb, le-ltb, eq-eqb, ne-eqb}
 use Rattle.facts.specs.Sums.{count, seek}
 use Rattle.facts.proofs.Bools.{and-i, true-false}
 use Rattle.facts.proofs.Sums.{count-false, count-more, rank-lt}
+use Rattle.netlist.specs.declared.Record.{Record}
 use Rattle.netlist.specs.Kinds.{slots, sourceLimit, arity}
-use Rattle.netlist.specs.Records.{Netlist, fanin}
+use Rattle.netlist.specs.Records.{Netlist, slot, fanin}
 use Rattle.netlist.specs.Source.{IsSource}
 use Rattle.netlist.proofs.Checks.{arity-slots}
 use Rattle.nets.specs.PrivateChains.{slotEnd, usedSlot, faninSlot, namesSlot, nextSink, Emptied, Linked, Chained}
@@ -172,8 +173,15 @@ module _ (n : Netlist) (first next : List ℕ) where
           rw (f, getD-set-same next x (getD first t 0) 0 (omega (arith, h .nextLong)), ← e, ← add-one x) (h .firsts t ld)
       at-slot y a b v (no f) = getD-set-other next x y (getD first t 0) 0 f ∙ h .nexts y (omega arith) b v
 
-pub record-slots : (kind used : ℕ) → used ≡ arity kind → used ≤ slots
-record-slots kind used e = omega (arith, arity-slots kind)
+-- what record i uses
+pub record-fits : (kind used : ℕ) → used ≡ arity kind → used ≤ slots
+record-fits kind used u = omega (arith, arity-slots kind)
+
+uses : (n : Netlist) (i : ℕ) (r : Record) (used : ℕ) → r ≡ n .at i → used ≡ arity (r .kind) → used ≡ arity (n .at i .kind)
+uses n i r used q u = u ∙ ap (λ (r : Record). arity (r .kind)) q
+
+pub record-uses : (n : Netlist) (i : ℕ) (r : Record) (used : ℕ) → r ≡ n .at i → used ≡ arity (r .kind) → used ≤ arity (n .at i .kind)
+record-uses n i r used q u = omega (arith, uses n i r used q u)
 
 -- record i, as the code links it: its used slots from the last one down
 module _ (n : Netlist) (i : ℕ) (first next : List ℕ) where
@@ -188,42 +196,45 @@ module _ (n : Netlist) (i : ℕ) (first next : List ℕ) where
       (omega arith)
       (λ z a b. u z a (omega arith))
 
-  pub record-start : (used : ℕ) → i < n .size → used ≡ arity (n .at i .kind) → Linked n first next (slots * (i + 1)) →
+  pub record-start : (r : Record) (used : ℕ) → r ≡ n .at i → used ≡ arity (r .kind) → i < n .size → Linked n first next (slots * (i + 1)) →
       Linked n first next (slots * i + used)
-  record-start used l e h =
+  record-start r used q u l h =
       link-skip (slots * i + used) (slots - used) (subst (λ (y : ℕ). Linked n first next y) all h) (omega (arith, fits)) unused
     where
       fits : used ≤ slots
-      fits = record-slots (n .at i .kind) used e
+      fits = record-fits (r .kind) used u
 
       all : slots * (i + 1) ≡ slots * i + used + (slots - used)
       all = omega (arith, fits)
 
       unused : (z : ℕ) → slots * i + used ≤ z → z < slots * i + used + (slots - used) → usedSlot n z ≡ false
       unused z a b =
-          let r : z / slots ≡ i = omega (arith, fits) in
-          le-ltb (z % slots) (arity (n .at (z / slots) .kind)) (omega (arith, fits, ap (λ (x : ℕ). arity (n .at x .kind)) r))
+          let e : z / slots ≡ i = omega (arith, fits) in
+          le-ltb (z % slots) (arity (n .at (z / slots) .kind)) (omega (arith, fits, uses n i r used q u, ap (λ (x : ℕ). arity (n .at x .kind)) e))
 
   -- slot j - 1 names the driver t
-  module _ (used j t : ℕ) (s : IsSource n) (l : i < n .size) (e : used ≡ arity (n .at i .kind)) (b : 0 < j) (c : j ≤ used)
-      (f : t ≡ fanin n i (j - 1)) where
+  module _ (r : Record) (j t : ℕ) (s : IsSource n) (l : i < n .size) (q : r ≡ n .at i) (b : 0 < j) (c : j ≤ arity (n .at i .kind))
+      (f : t ≡ slot r (j - 1)) where
+    named : t ≡ fanin n i (j - 1)
+    named = f ∙ ap (λ (r : Record). slot r (j - 1)) q
+
+    fits : j ≤ slots
+    fits = omega (arith, arity-slots (n .at i .kind))
+
     pub link-first-inside : Linked n first next (slots * i + j) → t < length first
-    link-first-inside h = omega (arith, s .earlier i (j - 1) l (omega arith), h .firstLong)
+    link-first-inside h = omega (arith, named, s .earlier i (j - 1) l (omega arith), h .firstLong)
 
     pub link-next-inside : Linked n first next (slots * i + j) → slots * i + (j - 1) < length next
-    link-next-inside h = omega (arith, record-slots (n .at i .kind) used e, h .nextLong)
+    link-next-inside h = omega (arith, fits, h .nextLong)
 
     pub record-more : Linked n first next (slots * i + j) →
         Linked n (set first t (slots * i + (j - 1))) (set next (slots * i + (j - 1)) (getD first t 0)) (slots * i + (j - 1))
     record-more h =
         link-used n first next (slots * i + (j - 1)) t (subst (λ (y : ℕ). Linked n first next y) here h) (omega (arith, fits))
-        (f ∙ sym (ap₂ (fanin n) record-of slot-of))
-        (omega (arith, s .earlier i (j - 1) l (omega arith)))
+        (named ∙ sym (ap₂ (fanin n) record-of slot-of))
+        (omega (arith, named, s .earlier i (j - 1) l (omega arith)))
         (ap₂ (Rattle.netlist.specs.Records.used n) record-of slot-of ∙ lt-ltb (j - 1) (arity (n .at i .kind)) (omega arith))
       where
-        fits : used ≤ slots
-        fits = record-slots (n .at i .kind) used e
-
         here : slots * i + j ≡ slots * i + (j - 1) + 1
         here = omega arith
 

@@ -2,7 +2,7 @@
 ghost use mathlib.Core.Path.{_≡_};
 ghost use Prim.Native.Nat.{suc, _+_, _-_, _*_, _/_, _<_, _≤_};
 ghost use lib.ListN.{length, replicate};
-ghost use Rattle.netlist.specs.Kinds.{slots, topLevel, arity};
+ghost use Rattle.netlist.specs.Kinds.{slots, topLevel};
 ghost use Rattle.netlist.specs.Records.{netlist, recordCount};
 ghost use Rattle.netlist.specs.Source.{IsSource};
 ghost use Rattle.nets.specs.PrivateChains.{Above, Emptied, Linked, Chained, ChainIs};
@@ -12,6 +12,7 @@ use crate::numbers;
 use fanout::DISTANCES;
 use fanout::Reach;
 use fanout::stretches;
+use netlist::Record;
 use netlist::SLOTS;
 
 // The sinks of a driver: none; one or two, with the largest distance and how many stand at distance 1; or more.
@@ -33,18 +34,18 @@ pub fn empty_chains(n: usize, end: u16, first: &mut [u16])
     }
 }
 
-// The used slots of record i, from the last one down: each comes before what its driver had first.
-fn link_slots(source: &[u8], i: usize, used: usize, first: &mut [u16], next: &mut [u16])
+// The used slots of r, which is record i, from the last one down: each comes before what its driver had first.
+fn link_slots(source: &[u8], i: usize, r: Record, first: &mut [u16], next: &mut [u16])
     requires { ⌜ IsSource (netlist (now source)) ⌝ }
     requires { ⌜ i < netlist (now source) .size ⌝ }
-    requires { ⌜ used ≡ arity (netlist (now source) .at i .kind) ⌝ }
+    requires { ⌜ r ≡ netlist (now source) .at i ⌝ }
     requires { ⌜ Linked (netlist (now source)) (now first) (now next) (slots * (i + 1)) ⌝ }
     ensures { λ _. ⌜ Linked (netlist (now (source .entry))) (now (first .exit)) (now (next .exit)) (slots * i) ⌝ }
 {
-    let mut j = used;
+    let mut j = netlist::arity(r.kind);
     while 0 < j {
         j -= 1;
-        let d = netlist::slot_at(source, i, j) as usize;
+        let d = netlist::slot(r, j) as usize;
         let x = SLOTS * i + j;
         next[x] = first[d];
         first[d] = x as u16;
@@ -61,13 +62,7 @@ pub fn link_all(source: &[u8], n: usize, first: &mut [u16], next: &mut [u16])
     let mut i = n;
     while 0 < i {
         i -= 1;
-        link_slots(
-            source,
-            i,
-            netlist::arity(netlist::kind_at(source, i)),
-            first,
-            next,
-        );
+        link_slots(source, i, netlist::record_at(source, i), first, next);
     }
 }
 

@@ -1,22 +1,20 @@
 -- `add_record` meets its contract: the slots below j are counted.
 use Prim.Native.Nat.{_-_}
 use borrow.Author.Needs.{needs}
+use Rattle.netlist.specs.Kinds.{slots}
 use Rattle.netlist.specs.Records.{netlist}
 use Rattle.fanout.proofs.Filling.{Slots, slots-start, slots-room, slots-more, slots-end}
 use Rattle.fanout.proofs.add_record.Statement.{statement}
 use Rattle.fanout.proofs.add_record.Tie as tie
 
 abbrev Inv-loop : tie.InvT-loop
-Inv-loop source row₀ far driver below k r n most₀ j₀ row most j = Slots (netlist source) driver below k r n row most j
+Inv-loop source row₀ far driver below k r most₀ j₀ row most j = Slots (netlist source) driver below k r row most j
 
 abbrev μ-loop : tie.MeasureT-loop
-μ-loop source row₀ far driver below k r n most₀ j₀ row most j = n - j
+μ-loop source row₀ far driver below k r most₀ j₀ row most j = slots - j
 
 record-at-requires : tie.Need-record-at-requires Inv-loop μ-loop
 record-at-requires c κs = search needs
-
-arity-requires : tie.Need-arity-requires Inv-loop μ-loop
-arity-requires c κs = search needs
 
 loop-holds : tie.Need-loop-holds Inv-loop μ-loop
 loop-holds c = search slots-start
@@ -43,7 +41,6 @@ add-record-spec =
     Inv-loop
     μ-loop
     record-at-requires
-    arity-requires
     loop-holds
     add-slot-requires
     add-j

@@ -1,5 +1,5 @@
 -- `count_net` meets its contract: checks 1 to 7, then 20, then the driver's count.
-use Rattle.fanout.proofs.Call.{call-input, call-refused, call-counted, call-no-driver}
+use Rattle.fanout.proofs.Call.{call-input, call-present, call-refused, call-counted, call-no-driver}
 use borrow.Author.Needs.{needs}
 use Rattle.fanout.proofs.count_net.Statement.{statement}
 use Rattle.fanout.proofs.count_net.Tie as tie
@@ -17,7 +17,7 @@ is-driver-requires : tie.Need-is-driver-requires
 is-driver-requires c κs = search needs
 
 count-driver-requires : tie.Need-count-driver-requires
-count-driver-requires c κs = search call-input
+count-driver-requires c κs = (search call-input, search call-present)
 
 enum-known-checked : tie.Need-enum-known-checked
 enum-known-checked c = search needs

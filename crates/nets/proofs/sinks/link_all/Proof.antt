@@ -22,14 +22,11 @@ loop-holds c = search needs
 sub-i : tie.Need-sub-i Inv-loop μ-loop
 sub-i c = search needs
 
-kind-at-requires : tie.Need-kind-at-requires Inv-loop μ-loop
-kind-at-requires c κs = search needs
-
-arity-requires : tie.Need-arity-requires Inv-loop μ-loop
-arity-requires c κs = search needs
+record-at-requires : tie.Need-record-at-requires Inv-loop μ-loop
+record-at-requires c κs = search needs
 
 link-slots-requires : tie.Need-link-slots-requires Inv-loop μ-loop
-link-slots-requires c κs = (search needs, (search needs, (cc, search linked-below)))
+link-slots-requires c κs = (search needs, (search needs, (search needs, search linked-below)))
 
 loop-less : tie.Need-loop-less Inv-loop μ-loop
 loop-less c = search needs
@@ -54,8 +51,7 @@ link-all-spec =
     μ-loop
     loop-holds
     sub-i
-    kind-at-requires
-    arity-requires
+    record-at-requires
     link-slots-requires
     loop-less
     loop-again

@@ -2,29 +2,34 @@
 use Prim.Native.Nat.{_+_, _*_, _≤_}
 use mathlib.Core.Path.{_≡_}
 use lib.ListN.{length}
-use Rattle.netlist.specs.Kinds.{slots}
+use Rattle.netlist.specs.Kinds.{slots, arity}
 use Rattle.netlist.specs.Records.{netlist}
 use Rattle.nets.specs.PrivateChains.{Linked}
-use Rattle.nets.proofs.Chains.{record-slots, record-start, record-more, record-end, link-first-inside, link-next-inside}
+use Rattle.nets.proofs.Chains.{record-fits, record-uses, record-start, record-more, record-end, link-first-inside, link-next-inside}
 use borrow.Author.Needs.{needs}
 use Rattle.nets.proofs.sinks.link_slots.Statement.{statement}
 use Rattle.nets.proofs.sinks.link_slots.Tie as tie
 
 abbrev Inv-loop : tie.InvT-loop
-Inv-loop source i used first₀ next₀ j₀ first next j =
-    (j ≤ used) × ((used ≤ slots) × (Linked (netlist source) first next (slots * i + j) × ((length first ≡ length first₀) × (length next ≡ length next₀))))
+Inv-loop source i r first₀ next₀ j₀ first next j =
+    ((j ≤ slots) × ((j ≤ arity (netlist source .at i .kind)) × Linked (netlist source) first next (slots * i + j))) × ((length first ≡ length first₀) × (length next ≡ length next₀))
 
 abbrev μ-loop : tie.MeasureT-loop
-μ-loop source i used first₀ next₀ j₀ first next j = j
+μ-loop source i r first₀ next₀ j₀ first next j = j
+
+arity-requires : tie.Need-arity-requires Inv-loop μ-loop
+arity-requires c κs = search needs
 
 loop-holds : tie.Need-loop-holds Inv-loop μ-loop
-loop-holds c = (search needs, (search record-slots, (search record-start, search needs)))
+loop-holds c =
+    let a = c .before .before .before .before .args in
+    ((search record-fits, (record-uses (netlist (a .source .now)) (a .i) (a .r) _ (search needs) (search needs), search record-start)), search needs)
 
 sub-j : tie.Need-sub-j Inv-loop μ-loop
 sub-j c = search needs
 
-slot-at-requires : tie.Need-slot-at-requires Inv-loop μ-loop
-slot-at-requires c κs = search needs
+slot-requires : tie.Need-slot-requires Inv-loop μ-loop
+slot-requires c κs = search needs
 
 cast-d : tie.Need-cast-d Inv-loop μ-loop
 cast-d c = search needs
@@ -60,7 +65,7 @@ loop-less : tie.Need-loop-less Inv-loop μ-loop
 loop-less c = search needs
 
 loop-again : tie.Need-loop-again Inv-loop μ-loop
-loop-again c = (search needs, (search needs, (search record-more, search needs)))
+loop-again c = ((search needs, (search needs, search record-more)), search needs)
 
 same-length : tie.Need-same-length Inv-loop μ-loop
 same-length c = search needs
@@ -77,9 +82,10 @@ link-slots-spec =
     (tie.spec
     Inv-loop
     μ-loop
+    arity-requires
     loop-holds
     sub-j
-    slot-at-requires
+    slot-requires
     cast-d
     mul-x
     add-x
