@@ -9,7 +9,6 @@ use mathlib.Core.List.{List}
 use Rattle.facts.specs.declared.Checked.the-variants.{Passed}
 use lib.Dec.{ltb}
 use borrow.Author.Tests.{ltb-false, leb-false, eqb-true, eq-eqb, ne-eqb}
-use Rattle.facts.specs.Checks.{check}
 use Rattle.facts.specs.Sums.{any, seek}
 use Rattle.facts.proofs.Bools.{true-false}
 use Rattle.facts.proofs.Loops.{seek-none}

@@ -10,7 +10,7 @@ use lib.Dec.{eqb}
 use borrow.Author.Tests.{lt-ltb, le-ltb, eq-eqb, ne-eqb}
 use Rattle.facts.specs.declared.Checked.{Checked}
 use Rattle.facts.specs.declared.Checked.the-variants.{Passed, Refused}
-use Rattle.facts.specs.Checks.{check, scan, _andThen_, unlessRefused}
+use Rattle.facts.specs.Checks.{scan, unlessRefused}
 use Rattle.facts.proofs.Loops.{Scanning, scan-more, scan-stop, scan-end}
 use Rattle.facts.proofs.Reflect.{reflect, or-none, unlike-none}
 use Rattle.facts.proofs.Sums.{count-le}

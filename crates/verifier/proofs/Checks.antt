@@ -19,7 +19,7 @@ use Rattle.facts.proofs.Sums.{any-none, any-cong}
 use Rattle.facts.proofs.Loops.{NoneYet, any-more, any-found, any-end}
 use Rattle.netlist.specs.declared.Capacities.{Capacities}
 use Rattle.netlist.specs.declared.Record.{Record}
-use Rattle.netlist.specs.Kinds.{width, slots, unused, mappedLimit, output, buffer, arity}
+use Rattle.netlist.specs.Kinds.{width, slots, unused, mappedLimit, output, arity}
 use Rattle.netlist.specs.Capacities.{Allowed}
 use Rattle.netlist.specs.Records.{Netlist, netlist, recordCount, recordAt, blank, slot}
 use Rattle.netlist.specs.Source.{IsSource}
@@ -27,7 +27,7 @@ use Rattle.netlist.specs.Checks.{inputChecks}
 use Rattle.netlist.proofs.Source.{input-passed, no-buffer}
 use Rattle.verifier.specs.Checks.{badEmpty, differs, badName, notOneLower, slotChecks, placeChecks, traceCheck, feedCheck, badLength, legalChecks, mappedChecks, verifyChecks}
 use Rattle.verifier.specs.PrivateWalking.{Sized, Driven, PlacesPassed}
-use Rattle.verifier.specs.PrivateFeeding.{stop, badFanin, bufferChecks}
+use Rattle.verifier.specs.PrivateFeeding.{badFanin, bufferChecks}
 
 -- a blank record's slots name nothing
 blank-slot : (j : ℕ) → slot blank j ≡ unused

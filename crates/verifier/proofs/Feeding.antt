@@ -9,7 +9,7 @@ use mathlib.Core.List.{List}
 use lib.ListN.{length, getD, replicate, length-set, length-replicate, getD-replicate}
 use lib.Seq.{set-getD, getD-set-same, getD-set-other}
 use lib.Dec.{ltb, eqb}
-use borrow.Author.Tests.{lt-ltb, le-ltb, ltb-true, ltb-false, eqb-true, eqb-false, ne-eqb, not-false}
+use borrow.Author.Tests.{lt-ltb, le-ltb, ltb-true, ltb-false, eqb-true, eqb-false, not-false}
 use Rattle.facts.specs.Sums.{bit, sum, count, count₂, any}
 use Rattle.facts.specs.declared.Checked.{Checked}
 use Rattle.facts.specs.declared.Checked.the-variants.{Passed, Refused}
@@ -28,7 +28,7 @@ use Rattle.netlist.proofs.Checks.{arity-slots}
 use Rattle.verifier.specs.Checks.{differs, noBuffer, slotChecks, placeChecks, traceCheck, feedCheck, legalChecks}
 use Rattle.verifier.specs.PrivateWalking.{Sized, PlacesPassed, Walkable}
 use Rattle.verifier.specs.PrivateFeeding.{stop, more, fedOnce, fedBy, tally, badFanin, bufferChecks, Fed, FedAtMost, Tallied, TalliedIfPassed, countCheck}
-use Rattle.verifier.proofs.Checks.{slots-good, slots-passed, kept-bad, kept-slots, placed, placed-driven, legal-places, legal-traces, legal-feeds}
+use Rattle.verifier.proofs.Checks.{slots-good, slots-passed, kept-bad, kept-slots, placed, legal-places, legal-traces, legal-feeds}
 
 pub feed-full : (counts : List ℕ) (x : ℕ) → stop ≤ getD counts x 0 → counts ≡ fedOnce counts x
 feed-full counts x h = sym (rw (le-ltb (getD counts x 0) stop h) (set-getD counts x 0))

@@ -6,7 +6,7 @@ use mathlib.Core.Logic.{_≢_, _↔_}
 use mathlib.Core.Bool.{Bool, true, false, _&&_}
 use lib.Dec.{eqb, lit<}
 use lib.ListN.{getD, List·getD-eq-default}
-use borrow.Author.Tests.{eqb-true, ne-eqb, le-leb}
+use borrow.Author.Tests.{eqb-true, le-leb}
 use native.Mathlib.Omega.{arith}
 use native.Mathlib.Nat.{add-suc, add-sub-of-le}
 use native.Mathlib.Numerals.{add-one}

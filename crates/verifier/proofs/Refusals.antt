@@ -4,7 +4,7 @@ use Prim.Native.Nat.{ℕ, _%_, _<_, _≤_}
 use native.Mathlib.Omega.{arith}
 use mathlib.Core.Path.{_≡_, sym, _∙_}
 use mathlib.Core.Logic.{⊎-elim, _↔_, _≢_}
-use mathlib.Core.Bool.{true, not}
+use mathlib.Core.Bool.{true}
 use mathlib.Core.List.{List}
 use lib.ListN.{length, getD-replicate}
 use Rattle.facts.specs.declared.Checked.{Checked}
@@ -25,7 +25,7 @@ use Rattle.netlist.proofs.Refusals.{input-first, input-rows}
 use Rattle.verifier.specs.declared.Verified.the-variants.{Buffers, Refused}
 use Rattle.verifier.specs.PrivateWalking.{PlacesPassed}
 use Rattle.verifier.specs.Trace.{driver}
-use Rattle.verifier.specs.Checks.{badLength, badEmpty, differs, changed, foreign, badName, notOneLower, strays, placeChecks, traceCheck, feedCheck, legalChecks, mappedChecks, verifyChecks}
+use Rattle.verifier.specs.Checks.{badLength, badEmpty, changed, foreign, badName, notOneLower, strays, placeChecks, traceCheck, feedCheck, legalChecks, mappedChecks, verifyChecks}
 use Rattle.verifier.specs.Refusals.{BadLength, Changed, Foreign, BadNames, Unbalanced, Strays, KeepFails, SlotsFail, PlaceFails, TraceFails, FeedFails, LegalFails, MappedFails, VerifyFails, RefusedExactly}
 use Rattle.verifier.proofs.Trace.{driver-traces, traces-driver}
 use Rattle.verifier.proofs.Checks.{placed}

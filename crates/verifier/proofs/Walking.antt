@@ -25,7 +25,7 @@ use Rattle.netlist.specs.Records.{Netlist, netlist, recordAt, recordCount, slot
 use Rattle.netlist.proofs.Balance.{buffer-named, buffer-level}
 use Rattle.verifier.specs.Trace.{walk, driver}
 use Rattle.verifier.specs.PrivateWalking.{Sized, Driven, Buffering, unknown, Known, knownDriver, PlacesPassed, Walkable, Traceable, Traced, SlotsTraceable, SlotsTraced}
-use Rattle.verifier.specs.PrivateFeeding.{stop, badFanin, bufferChecks, Fed, Tallied, TalliedIfPassed}
+use Rattle.verifier.specs.PrivateFeeding.{badFanin, bufferChecks, Fed, Tallied, TalliedIfPassed}
 use Rattle.verifier.specs.Checks.{noBuffer, placeChecks, strays, traceCheck}
 use Rattle.verifier.proofs.Trace.{walk-here, walk-back, driver-back}
 use Rattle.verifier.proofs.Checks.{driven, placed-driven, place-buffer}
