@@ -60,7 +60,7 @@ hasTree c s r = leb (nodesAt s r 1) c
 abbrev pub fewest : ℕ → List ℕ → ℕ
 fewest s r = buffers s (drop 1 r)
 
--- d's net has a tree: its driver feeds what its kind may
+-- d's net has a tree in which its driver feeds no more than its kind may
 abbrev pub netHasTree : Netlist → Capacities → ℕ → Bool
 netHasTree m caps d = hasTree (capacityOf caps (m .at d .kind)) (caps .buffer) (row m d)
 

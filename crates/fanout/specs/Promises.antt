@@ -103,7 +103,7 @@ Every P (w ∷ ws) = P w × Every P ws
 abbrev pub WorkedTrue : Type 0
 WorkedTrue = Every Holds worked
 
--- what an answer says of d's net, whose driver feeds what its kind may
+-- what an answer says of d's net, whose driver feeds no more than its kind may
 abbrev pub NetSays : Netlist → Capacities → ℕ → Count → Type 0
 NetSays m caps d answer = Says (capacityOf caps (m .at d .kind)) (caps .buffer) (netOf m d) answer
 

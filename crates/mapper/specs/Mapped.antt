@@ -30,7 +30,7 @@ mappedSize n caps = n .size + fewestInAll n caps
 abbrev pub place : Netlist → Capacities → ℕ → ℕ → ℕ → ℕ
 place n caps d k j = blockStart n caps d + (sum (buffersOf n caps d) k + j)
 
--- what node q of d's tree at distance k hangs on: the driver at distance 1, else buffer q / (caps .buffer) one level nearer
+-- what node q of d's tree at distance k hangs on: the driver at distance 1, else buffer q / s one level nearer, s a buffer's capacity
 unfoldable pub parent : Netlist → Capacities → ℕ → ℕ → ℕ → ℕ
 parent n caps d zero q = d
 parent n caps d (suc zero) q = d

@@ -5,7 +5,7 @@ use lib.Dec.{eqb}
 use Rattle.netlist.specs.declared.Capacities.{Capacities}
 use Rattle.netlist.specs.Kinds.{buffer}
 
--- the capacities that a caller's number says
+-- the capacities that a caller's number s stands for
 abbrev pub capacitiesOf : ℕ → Capacities
 capacitiesOf s = record { buffer = s }
 

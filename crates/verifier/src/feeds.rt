@@ -59,7 +59,7 @@ fn first_overfed(capacities: Capacities, mapped: &[u8], counts: &[u8], m: u32) -
     Checked::Passed
 }
 
-// Check 17 of the first m records by the largest counts: all drivers are held to what any may feed, and which record feeds too many is asked only where a count is larger.
+// Check 17 of the first m records by the largest counts, every driver held to the smallest capacity: which record comes first is asked only where one feeds more.
 pub(crate) fn check_counts(
     capacities: Capacities,
     mapped: &[u8],

@@ -1,4 +1,4 @@
--- `parent_of` meets its contract: at distance 1 the first parent itself, else q / (caps .buffer) behind it.
+-- `parent_of` meets its contract: at distance 1 the first parent itself, else q / s behind it.
 use borrow.Author.Needs.{needs}
 use Rattle.mapper.proofs.WriteRecords.{behind-near, behind-far, behind-fits, back-fits}
 use Rattle.mapper.proofs.writing.parent_of.Statement.{statement}
