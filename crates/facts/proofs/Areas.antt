@@ -5,7 +5,7 @@ use mathlib.Core.List.{List, [], _∷_, _++_, append-assoc, append-nil}
 use native.Mathlib.Omega.{arith}
 use native.Mathlib.Nat.{add-sub-of-le, add-sub-cancel-left, add-zero}
 use lib.ListN.{length, getD, take, drop, set, replicate, length-append, length-take, length-set, length-drop, take-append-drop, drop-of-length-le}
-use lib.Seq.{sets, sets-eq, drop-cons, set-at, append-snoc, take-at, drop-at, drop-drop, drop-append-add, length-take-le, take-append-le, take-append-add, drop-append-le, take-take}
+use lib.Seq.{sets, sets-eq, drop-cons, set-at, append-snoc, take-at, drop-at, drop-drop, drop-append-add, length-take-le, take-append-le, take-take}
 use borrow.Author.Fill.{fill-more}
 use Rattle.facts.specs.Areas.{put}
 
@@ -51,35 +51,6 @@ module _ (xs : List ℕ) (a : ℕ) (bs : List ℕ) where
     where
       both : b + length cs ≡ a + length (bs ++ cs)
       both = omega (arith, length-append bs cs)
-
--- bytes put within bytes that were put
-pub put-within : (xs : List ℕ) (a : ℕ) (bs : List ℕ) (k : ℕ) (cs : List ℕ) → a + length bs ≤ length xs → k + length cs ≤ length bs →
-    put (put xs a bs) (a + k) cs ≡ put xs a (put bs k cs)
-put-within xs a bs k cs l h =
-    ap₂ (λ (u v : List ℕ). u ++ (cs ++ v))
-    (ap (λ (x : ℕ). take (x + k) (P ++ (bs ++ R))) (sym long)
-    ∙ take-append-add P (bs ++ R) k
-    ∙ ap (λ (u : List ℕ). P ++ u) (take-append-le k bs R (omega arith)))
-    (ap (λ (x : ℕ). drop x (P ++ (bs ++ R))) far
-    ∙ drop-append-add P (bs ++ R) (k + length cs)
-    ∙ drop-append-le (k + length cs) bs R h)
-    ∙ append-assoc P (take k bs) (cs ++ (drop (k + length cs) bs ++ R))
-    ∙ ap (λ (u : List ℕ). P ++ u)
-    (ap (λ (u : List ℕ). take k bs ++ u) (sym (append-assoc cs (drop (k + length cs) bs) R))
-    ∙ sym (append-assoc (take k bs) (cs ++ drop (k + length cs) bs) R)
-    ∙ ap (λ (x : ℕ). put bs k cs ++ drop (a + x) xs) (sym (length-put bs k cs h)))
-  where
-    P : List ℕ
-    P = take a xs
-
-    R : List ℕ
-    R = drop (a + length bs) xs
-
-    long : length P ≡ a
-    long = length-take-le a xs (omega arith)
-
-    far : a + k + length cs ≡ length P + (k + length cs)
-    far = omega (arith, long)
 
 -- bytes that were stored one by one
 pub sets-put : (bs xs : List ℕ) (at : ℕ) → at + length bs ≤ length xs → sets xs at bs ≡ put xs at bs

@@ -103,6 +103,7 @@ parents-next-driver n caps d first before after end h k =
             source = h .chained .source;
             firsts = h .chained .firsts;
             nexts = λ y a u b. k .others y (apart y u (λ e. omega arith)) ∙ h .chained .nexts y a u (omega arith);
+            rest = λ y a u. k .others y (rw u refl) ∙ h .chained .rest y a u;
             firstLong = h .chained .firstLong;
             nextLong = omega (arith, k .size, h .chained .nextLong);
             stop = h .chained .stop;

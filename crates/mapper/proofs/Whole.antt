@@ -6,7 +6,7 @@ use mathlib.Core.List.{List}
 use native.Mathlib.Omega.{arith}
 use native.Mathlib.Nat.{zero-add}
 use lib.ListN.{length, getD}
-use borrow.Author.Tests.{ltb-true}
+use borrow.Author.Tests.{ltb-true, ltb-false}
 use Rattle.netlist.specs.declared.Capacities.{Capacities}
 use Rattle.netlist.specs.declared.Record.{Record}
 use Rattle.netlist.specs.Kinds.{width, slots}
@@ -30,8 +30,7 @@ module _ (bytes : List ℕ) (caps : Capacities) (first parents : List ℕ) (end 
     (h : ParentsSet (netlist bytes) caps first parents (netlist bytes .size) end) where
   -- a slot as written is the slot of the mapped netlist
   new-slot : (i j : ℕ) → i < netlist bytes .size → j < slots →
-      cond (used (netlist bytes) i j) (getD parents (slots * i + j) 0) (fanin (netlist bytes) i j)
-      ≡ cond (used (netlist bytes) i j) (sinkParent (netlist bytes) caps i j) (fanin (netlist bytes) i j)
+      getD parents (slots * i + j) 0 ≡ cond (used (netlist bytes) i j) (sinkParent (netlist bytes) caps i j) (fanin (netlist bytes) i j)
   new-slot i j l b = go (used (netlist bytes) i j) refl
     where
       record-of : (slots * i + j) / slots ≡ i
@@ -41,9 +40,10 @@ module _ (bytes : List ℕ) (caps : Capacities) (first parents : List ℕ) (end 
       slot-of = omega arith
 
       go : (u : Bool) → used (netlist bytes) i j ≡ u →
-          cond u (getD parents (slots * i + j) 0) (fanin (netlist bytes) i j)
-          ≡ cond u (sinkParent (netlist bytes) caps i j) (fanin (netlist bytes) i j)
-      go false e = refl
+          getD parents (slots * i + j) 0 ≡ cond u (sinkParent (netlist bytes) caps i j) (fanin (netlist bytes) i j)
+      go false e =
+          h .chained .rest (slots * i + j) (omega arith) (ap₂ (used (netlist bytes)) record-of slot-of ∙ e)
+          ∙ sym (r .source .empty i j l (ltb-false j _ e) b)
       go true e =
           h .at (slots * i + j) (omega arith) (ap₂ (used (netlist bytes)) record-of slot-of ∙ e)
           (omega (arith, r .source .earlier i j l (ltb-true j _ e), ap₂ (fanin (netlist bytes)) record-of slot-of))

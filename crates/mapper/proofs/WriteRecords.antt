@@ -1,22 +1,20 @@
--- Laws of writing records one after the other: the first j of n are written; and of one record, slot by slot.
+-- Laws of writing records one after the other: the first j of n are written.
 use Prim.Native.Nat.{ℕ, zero, suc, _+_, _-_, _*_, _≤_, _<_, _/_}
 use mathlib.Core.Path.{_≡_, refl, sym, _∙_, ap, ap₂}
-use mathlib.Core.List.{List}
+use mathlib.Core.List.{List, [], _∷_}
 use native.Mathlib.Omega.{arith}
 use native.Mathlib.Nat.{add-zero, zero-add, div-le-self}
 use native.Mathlib.Numerals.{add-one}
 use mir.Val.{Fits}
 use mir.Syntax.{w16}
 use lib.ListN.{length, getD}
-use Rattle.facts.specs.Bytes.{twoBytes}
 use Rattle.facts.specs.Lists.{joined}
 use Rattle.facts.specs.Areas.{put}
-use Rattle.facts.proofs.Areas.{put-none, length-put, put-behind, put-within}
+use Rattle.facts.proofs.Areas.{put-none, length-put, put-behind}
 use Rattle.netlist.specs.declared.Record.{Record}
-use Rattle.netlist.specs.Kinds.{width, slots, arity}
+use Rattle.netlist.specs.Kinds.{width, slots}
 use Rattle.netlist.specs.Records.{recordAt}
 use Rattle.netlist.specs.Bytes.{encode, encoded}
-use Rattle.netlist.proofs.Checks.{arity-slots}
 use Rattle.netlist.proofs.Bytes.{length-encode, length-encoded}
 use Rattle.mapper.specs.Mapped.{bufferOf}
 use Rattle.mapper.specs.PrivateWriting.{behind, levelRecord, lineParent, lineRecord, relinked, relinkedAt}
@@ -108,77 +106,14 @@ line-more area₀ d start low n area j h fanin r after room l e f g =
     written-more area₀ start (lineRecord d start low) n area j h r after room l
     (f ∙ ap₂ bufferOf (ap (λ (k : ℕ). low + k) (add-one j)) (e ∙ ap (lineParent d start) (add-one j))) g
 
--- a record whose first slots are written anew
-module _ (r : Record) (parents : List ℕ) (i : ℕ) where
-  -- what slot j then holds
-  abbrev anew : ℕ → List ℕ
-  anew j = twoBytes (getD parents (slots * i + j) 0)
+-- the slots of a record, read from the array of parents one by one
+pub relinked-is : (r : Record) (parents : List ℕ) (i : ℕ) (area after : List ℕ) (a b c : ℕ) → a ≡ getD parents (slots * i) 0 →
+    b ≡ getD parents (slots * i + 1) 0 → c ≡ getD parents (slots * i + 2) 0 →
+    after ≡ put area (width * i) (encode (record { kind = r .kind; inversion = r .inversion; level = r .level; slots = a ∷ b ∷ c ∷ [] })) →
+    after ≡ put area (width * i) (encode (relinked r parents i))
+relinked-is r parents i area after a b c e f g h = h ∙ rw (e, f, g, add-zero (slots * i)) refl
 
-  unfoldable renewed : ℕ → List ℕ
-  renewed zero = encode r
-  renewed (suc j) = put (renewed j) (4 + 2 * j) (anew j)
-
-  renewed-length : (j : ℕ) → j ≤ slots → length (renewed j) ≡ width
-  unfolding renewed
-  renewed-length zero l = length-encode r
-  renewed-length (suc j) l =
-      let e : length (renewed j) ≡ width = renewed-length j (omega arith) in
-      length-put (renewed j) (4 + 2 * j) (anew j) (omega (arith, e)) ∙ e
-
-  -- all used slots are written
-  renewed-all : (j : ℕ) → j ≡ arity (r .kind) → renewed j ≡ encode (relinked r parents i)
-  unfolding renewed encode joined
-  renewed-all zero e = rw (← e) refl
-  renewed-all (suc zero) e = rw (← e) refl
-  renewed-all (suc (suc zero)) e = rw (← e) refl
-  renewed-all (suc (suc (suc zero))) e = rw (← e) refl
-  renewed-all (suc (suc (suc (suc j)))) e = absurd (omega (arith, arity-slots (r .kind)))
-
-  module _ (area₀ : List ℕ) (room : width * i + width ≤ length area₀) where
-    renewed-more : (area after : List ℕ) (j : ℕ) → area ≡ put area₀ (width * i) (renewed j) → j < slots →
-        after ≡ put area (width * i + (4 + 2 * j)) (anew j) → after ≡ put area₀ (width * i) (renewed (suc j))
-    unfolding renewed
-    renewed-more area after j e l g =
-        let long : length (renewed j) ≡ width = renewed-length j (omega arith) in
-        g
-        ∙ rw e (put-within area₀ (width * i) (renewed j) (4 + 2 * j) (anew j) (omega (arith, long)) (omega (arith, long)))
-
-    -- the record as it is, then slot by slot
-    module _ (used : ℕ) (u : used ≡ arity (r .kind)) (area : List ℕ) (e : area ≡ put area₀ (width * i) (encode r)) where
-      abbrev Done : List ℕ → Type 0
-      Done after = after ≡ put area₀ (width * i) (encode (relinked r parents i))
-
-      done : (j : ℕ) (after : List ℕ) → after ≡ put area₀ (width * i) (renewed j) → used ≡ j → Done after
-      done j after f h = f ∙ ap (put area₀ (width * i)) (renewed-all j (sym h ∙ u))
-
-      start : area ≡ put area₀ (width * i) (renewed 0)
-      unfolding renewed
-      start = e
-
-      pub relinked-none : used < 1 → Done area
-      relinked-none h = done 0 area start (omega arith)
-
-      module _ (one : List ℕ) (e₁ : one ≡ put area (width * i + (4 + 2 * 0)) (twoBytes (getD parents (slots * i) 0))) where
-        after-one : one ≡ put area₀ (width * i) (renewed 1)
-        after-one =
-            renewed-more area one 0 start (omega arith)
-            (e₁ ∙ ap (λ (k : ℕ). put area (width * i + (4 + 2 * 0)) (twoBytes (getD parents k 0))) (sym (add-zero (slots * i))))
-
-        pub relinked-one : 1 ≤ used → used < 2 → Done one
-        relinked-one l h = done 1 one after-one (omega arith)
-
-        module _ (two : List ℕ) (e₂ : two ≡ put one (width * i + (4 + 2 * 1)) (anew 1)) where
-          after-two : two ≡ put area₀ (width * i) (renewed 2)
-          after-two = renewed-more one two 1 after-one (omega arith) e₂
-
-          pub relinked-two : 2 ≤ used → used < 3 → Done two
-          relinked-two l h = done 2 two after-two (omega arith)
-
-          pub relinked-three : (three : List ℕ) → three ≡ put two (width * i + (4 + 2 * 2)) (anew 2) → 3 ≤ used → Done three
-          relinked-three three e₃ l =
-              done 3 three (renewed-more two three 2 after-two (omega arith) e₃) (omega (arith, arity-slots (r .kind)))
-
--- record i of the source: read, then written with its used slots anew
+-- record i of the source: read, then written with its slots anew
 module _ (bytes parents area₀ : List ℕ) (n : ℕ) (area : List ℕ) (i : ℕ) (h : RecordsSoFar area₀ 0 (relinkedAt bytes parents) n area i) where
   pub source-more : (r : Record) (after : List ℕ) → width * n ≤ length area₀ → i < n → r ≡ recordAt bytes i →
       after ≡ put area (width * i) (encode (relinked r parents i)) → RecordsSoFar area₀ 0 (relinkedAt bytes parents) n after (i + 1)

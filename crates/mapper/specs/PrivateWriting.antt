@@ -1,16 +1,15 @@
 -- For private functions alone: what the mapper's local arrays and its area hold while nets are written.
 use Prim.Native.Nat.{ℕ, zero, suc, _+_, _*_, _≤_, _<_, _/_, _%_}
 use mathlib.Core.Path.{_≡_}
-use mathlib.Core.Bool.{true, false, cond}
+use mathlib.Core.Bool.{true, false}
 use mathlib.Core.List.{List}
 use lib.ListN.{length, getD, replicate}
-use lib.Dec.{ltb}
 use Rattle.facts.specs.declared.Checked.the-variants.{Passed}
 use Rattle.facts.specs.Lists.{tabulate}
 use Rattle.netlist.specs.declared.Capacities.{Capacities}
 use Rattle.netlist.specs.declared.Record.{Record}
-use Rattle.netlist.specs.Kinds.{width, slots, topLevel, mappedLimit, arity}
-use Rattle.netlist.specs.Records.{Netlist, netlist, slot, recordCount, recordAt}
+use Rattle.netlist.specs.Kinds.{width, slots, topLevel, mappedLimit}
+use Rattle.netlist.specs.Records.{Netlist, netlist, recordCount, recordAt}
 use Rattle.netlist.specs.Source.{IsSource}
 use Rattle.netlist.specs.Capacities.{Allowed}
 use Rattle.nets.specs.Checks.{treeChecks}
@@ -122,14 +121,14 @@ pub record Wrote (n : Netlist) (caps : Capacities) (d at : ℕ) (first next : Li
   pub parents : ParentsSet n caps first next (d + 1) end
   pub bytes : area ≡ withRecords (mapped n caps) at (treeSize n caps d) area₀
 
--- record r of index i, its used slots as the array of parents has them
+-- record r of index i, its slots as the array of parents has them
 abbrev pub relinked : Record → List ℕ → ℕ → Record
 relinked r parents i =
     record {
       kind = r .kind;
       inversion = r .inversion;
       level = r .level;
-      slots = tabulate (λ j. cond (ltb j (arity (r .kind))) (getD parents (slots * i + j) 0) (slot r j)) slots;
+      slots = tabulate (λ j. getD parents (slots * i + j) 0) slots;
     }
 
 -- record i of the source so

@@ -14,6 +14,7 @@ use fanout::DISTANCES;
 use netlist::Capacities;
 use netlist::MAPPED_LIMIT;
 use netlist::SLOTS;
+use netlist::UNUSED;
 use nets::sinks;
 use nets::trees;
 use nets::trees::Sizing;
@@ -100,7 +101,7 @@ fn source_ends(source: &[u8], capacities: Capacities, d: usize) -> Ends
     let end = SLOTS * n;
     let mut first = [0u16; RECORDS];
     sinks::empty_chains(n, end as u16, &mut first);
-    let mut next = [0u16; SINKS];
+    let mut next = [UNUSED; SINKS];
     let mut row = [0u32; DISTANCES];
     let sizing = trees::size_trees(source, capacities, n, end, &mut first, &mut next, &mut row);
     match sizing {

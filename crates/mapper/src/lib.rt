@@ -8,12 +8,14 @@ ghost use Rattle.netlist.specs.Checks.{inputChecks};
 ghost use Rattle.mapper.specs.Mapped.{mapped};
 ghost use Rattle.mapper.specs.Answer.{share, refusal, figures, mapAnswer, mapArea};
 ghost use Rattle.mapper.specs.View.{blockView};
+ghost use Rattle.nets.specs.PrivateChains.{AllUnused};
 ghost use Rattle.mapper.specs.PrivateWriting.{Counted};
 use facts::Checked;
 use fanout::DISTANCES;
 use netlist::Capacities;
 use netlist::MAPPED_LIMIT;
 use netlist::SLOTS;
+use netlist::UNUSED;
 use netlist::WIDTH;
 use nets::sinks;
 use nets::trees;
@@ -141,6 +143,7 @@ fn map_with(
     requires { ⌜ inputChecks (now source) capacities ≡ Checked.Passed ⌝ }
     requires { ⌜ n ≡ recordCount (now source) ⌝ }
     requires { ⌜ (n ≤ length (now first)) × (slots * n ≤ length (now next)) ⌝ }
+    requires { ⌜ AllUnused (now next) ⌝ }
     ensures { λ r. ⌜ r ≡ mapAnswer (now (source .entry)) capacities (now (area .entry)) ⌝ }
     ensures { λ _. ⌜ now (area .exit) ≡ mapArea (now (source .entry)) capacities (now (area .entry)) ⌝ }
 {
@@ -173,11 +176,11 @@ fn map_source(source: &[u8], capacities: Capacities, area: &mut [u8]) -> Mapping
     let n = netlist::record_count(source);
     if n <= SMALL {
         let mut first = [0u16; SMALL];
-        let mut next = [0u16; SMALL_SINKS];
+        let mut next = [UNUSED; SMALL_SINKS];
         return map_with(source, capacities, n, &mut first, &mut next, area);
     }
     let mut first = [0u16; RECORDS];
-    let mut next = [0u16; SINKS];
+    let mut next = [UNUSED; SINKS];
     map_with(source, capacities, n, &mut first, &mut next, area)
 }
 

@@ -28,26 +28,26 @@ pub(crate) fn buffer_of(level: u16, fanin: u16) -> Record
     }
 }
 
-// Record r at its place i in the area, its used slots as the array of parents has them.
+// Record r at its place i in the area, its slots as the array of parents has them.
 fn write_relinked(area: &mut [u8], i: usize, r: Record, parents: &[u16])
     requires { ⌜ (width * i + width ≤ length (now area)) × (slots * i + slots ≤ length (now parents)) ⌝ }
     ensures { λ _. ⌜ now (area .exit) ≡ put (now (area .entry)) (width * i) (encode (relinked r (now (parents .entry)) i)) ⌝ }
 {
-    record_writer::write_record(area, i, r);
-    let used = netlist::arity(r.kind);
-    if used < 1 {
-        return;
-    }
     let at = SLOTS * i;
-    record_writer::write_slot(area, i, 0, parents[at]);
-    if used < 2 {
-        return;
-    }
-    record_writer::write_slot(area, i, 1, parents[at + 1]);
-    if used < 3 {
-        return;
-    }
-    record_writer::write_slot(area, i, 2, parents[at + 2]);
+    let a = parents[at];
+    let b = parents[at + 1];
+    let c = parents[at + 2];
+    let slots = [a, b, c];
+    record_writer::write_record(
+        area,
+        i,
+        Record {
+            kind: r.kind,
+            inversion: r.inversion,
+            level: r.level,
+            slots,
+        },
+    );
 }
 
 // The source's records at their old indices.

@@ -6,7 +6,7 @@ use native.Mathlib.Numerals.{add-one}
 use native.Mathlib.Omega.{arith}
 use mathlib.Core.Path.{_≡_, refl, sym, ap, _∙_}
 use mathlib.Core.Logic.{_≢_}
-use mathlib.Core.Bool.{Bool, true, false, cond, not, _||_}
+use mathlib.Core.Bool.{Bool, true, false, cond, not, _&&_, _||_}
 use mathlib.Core.List.{List, []}
 use lib.ListN.{length, List·getD-eq-default}
 use lib.Pow.{pow-lt}
@@ -39,6 +39,18 @@ arity-slots kind =
     elim (decLt kind 6) [
       | yes l ↦ ltb-false slots (arity kind) (any-none wide 6 .0 refl kind l)
       | no g ↦ omega (arith, List·getD-eq-default arities 0 (let h : 6 ≤ kind = omega arith in h))
+    ]
+
+-- a kind that is no gate uses at most one slot
+several : ℕ → Bool
+several kind = not (isGate kind) && ltb 1 (arity kind)
+
+pub other-arity : (kind : ℕ) (g : Bool) → g ≡ isGate kind → not g ≡ true → arity kind ≤ 1
+unfolding any several
+other-arity kind g is f =
+    elim (decLt kind 6) [
+      | yes l ↦ let h = any-none several 6 .0 refl kind l in ltb-false 1 (arity kind) (rw (← is, f) at h)
+      | no h ↦ omega (arith, List·getD-eq-default arities 0 (let h : 6 ≤ kind = omega arith in h))
     ]
 
 -- not 0, 1 or 2 slots: all
@@ -108,13 +120,22 @@ module _ (bytes : List ℕ) (n : ℕ) (c : n ≡ recordCount bytes) where
   depth-none k i h =
       sym (depth-is n (seek-end outputs n k i h) ∙ ap (λ (r : Record). r .level) (record-past bytes n (omega (arith, c))))
 
--- the level of the first output, where none was met before
-module _ (deep : ℕ) (r : Record) (seen : Bool) (f : seen ≡ false) where
-  pub first-here : r .kind ≡ output → r .level ≡ cond seen deep (cond (eqb (r .kind) output) (r .level) deep)
-  first-here o = rw (f, eq-eqb (r .kind) output o)
+-- whether an output was met, and the level of the first: no other record changes them, and the first one sets both
+module _ (deep : ℕ) (r : Record) where
+  module _ (o : r .kind ≡ output → ⊥) where
+    pub other-seen : (seen : Bool) → seen ≡ (seen || eqb (r .kind) output)
+    other-seen seen = rw (ne-eqb (r .kind) output o) (sym (or-false seen))
 
-  pub first-other : (r .kind ≡ output → ⊥) → deep ≡ cond seen deep (cond (eqb (r .kind) output) (r .level) deep)
-  first-other o = rw (f, ne-eqb (r .kind) output o)
+    pub other-level : (seen : Bool) → deep ≡ cond seen deep (cond (eqb (r .kind) output) (r .level) deep)
+    other-level true = refl
+    other-level false = rw (ne-eqb (r .kind) output o)
+
+  module _ (o : r .kind ≡ output) (seen : Bool) (f : seen ≡ false) where
+    pub first-seen : true ≡ (seen || eqb (r .kind) output)
+    first-seen = rw (f, eq-eqb (r .kind) output o)
+
+    pub first-level : r .level ≡ cond seen deep (cond (eqb (r .kind) output) (r .level) deep)
+    first-level = rw (f, eq-eqb (r .kind) output o)
 
 -- the first k records: whether an output is among them, and D if one is
 pub record Met (bytes : List ℕ) (k : ℕ) (seen : Bool) (deep : ℕ) : Type 0 where

@@ -1,10 +1,9 @@
-// The record writer: a record into its ten bytes, and one slot of a record.
+// The record writer: a record into its ten bytes.
 ghost use mathlib.Core.Path.{_≡_};
-ghost use Prim.Native.Nat.{_+_, _*_, _/_, _%_, _<_, _≤_};
+ghost use Prim.Native.Nat.{_+_, _*_, _/_, _%_, _≤_};
 ghost use lib.ListN.{length};
-ghost use Rattle.facts.specs.Bytes.{twoBytes};
 ghost use Rattle.facts.specs.Areas.{put};
-ghost use Rattle.netlist.specs.Kinds.{width, slots};
+ghost use Rattle.netlist.specs.Kinds.{width};
 ghost use Rattle.netlist.specs.Bytes.{encode};
 use crate::Record;
 use crate::WIDTH;
@@ -49,14 +48,4 @@ pub fn write_record(area: &mut [u8], x: usize, r: Record)
 {
     let at = WIDTH * x;
     store(&mut area[at..at + WIDTH], r);
-}
-
-// The value v in slot j of the record at its place x in the area.
-pub fn write_slot(area: &mut [u8], x: usize, j: usize, v: u16)
-    requires { ⌜ (width * x + width ≤ length (now area)) × (j < slots) ⌝ }
-    ensures { λ _. ⌜ now (area .exit) ≡ put (now (area .entry)) (width * x + (4 + 2 * j)) (twoBytes v) ⌝ }
-{
-    let at = WIDTH * x + (4 + 2 * j);
-    area[at] = low_byte(v);
-    area[at + 1] = high_byte(v);
 }

@@ -196,24 +196,27 @@ fn check_record(bytes: &[u8], deep: u16, k: u32, r: Record) -> Checked
     }
 }
 
-// Whether this record or one before it is an output.
-fn output_seen(r: Record, seen: bool) -> bool
-    ensures { λ b. ⌜ b ≡ (seen || eqb (r .kind) output) ⌝ }
-{
-    if seen {
-        return true;
-    }
-    r.kind == OUTPUT
+// Of the records so far: whether one is an output, and the level of the first that is, 0 without one.
+struct Outputs {
+    seen: bool,
+    level: u16,
 }
 
-// The level of the first output, 0 until one is seen.
-fn first_level(r: Record, seen: bool, deep: u16) -> u16
-    ensures { λ l. ⌜ l ≡ cond seen deep (cond (eqb (r .kind) output) (r .level) deep) ⌝ }
+// The outputs so far, with record r. Most records are none: nothing is worked out for them.
+fn with_record(outputs: Outputs, r: Record) -> Outputs
+    ensures { λ o. ⌜ o .seen ≡ (outputs .seen || eqb (r .kind) output) ⌝ }
+    ensures { λ o. ⌜ o .level ≡ cond (outputs .seen) (outputs .level) (cond (eqb (r .kind) output) (r .level) (outputs .level)) ⌝ }
 {
-    if seen {
-        return deep;
+    if r.kind != OUTPUT {
+        return outputs;
     }
-    if r.kind == OUTPUT { r.level } else { deep }
+    if outputs.seen {
+        return outputs;
+    }
+    Outputs {
+        seen: true,
+        level: r.level,
+    }
 }
 
 // Checks 4 to 7 of every record, rising; each is read once.
@@ -221,14 +224,15 @@ pub(crate) fn check_records(bytes: &[u8], n: u32) -> Checked
     requires { ⌜ n ≡ recordCount (now bytes) ⌝ }
     ensures { λ a. ⌜ a ≡ scan (recordChecks (netlist (now (bytes .entry)))) 0 n ⌝ }
 {
-    let mut deep: u16 = 0;
-    let mut seen = false;
+    let mut outputs = Outputs {
+        seen: false,
+        level: 0,
+    };
     let mut k: u32 = 0;
     while k < n {
         let r = record_reader::read_at(bytes, k as usize);
-        deep = first_level(r, seen, deep);
-        seen = output_seen(r, seen);
-        let checked = check_record(bytes, deep, k, r);
+        outputs = with_record(outputs, r);
+        let checked = check_record(bytes, outputs.level, k, r);
         match checked {
             Checked::Passed => {}
             Checked::Refused(number, place) => {

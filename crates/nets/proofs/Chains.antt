@@ -1,7 +1,7 @@
 -- Laws of the chains of sinks: the first sink from a slot on, and the arrays that link each sink to the next.
 use Prim.Native.Nat.{ℕ, zero, suc, _+_, _-_, _*_, _≤_, _<_, _/_, _%_}
 use mathlib.Core.Path.{_≡_, refl, sym, _∙_, ap, ap₂, subst}
-use mathlib.Core.Bool.{Bool, true, false, cond}
+use mathlib.Core.Bool.{Bool, true, false, cond, not}
 use mathlib.Core.List.{List}
 use native.Mathlib.Omega.{arith}
 use native.Mathlib.Nat.{add-zero, le-trans}
@@ -9,18 +9,19 @@ use native.Mathlib.Numerals.{add-one}
 use native.Mathlib.Decide.{ℕ-discrete}
 use mir.Val.{Fits}
 use mir.Syntax.{w16}
-use lib.ListN.{length, getD, set, length-set}
-use lib.Seq.{getD-set-same, getD-set-other}
-use borrow.Author.Tests.{lt-ltb, le-ltb, eq-eqb, ne-eqb}
+use lib.ListN.{length, getD, set, replicate, length-set, length-replicate, getD-replicate}
+use lib.Seq.{getD-set-same, getD-set-other, set-getD}
+use lib.Dec.{eqb}
+use borrow.Author.Tests.{le-ltb, ltb-true, ltb-false, eq-eqb, ne-eqb}
 use Rattle.facts.specs.Sums.{count, seek}
 use Rattle.facts.proofs.Bools.{and-i, true-false}
 use Rattle.facts.proofs.Sums.{count-false, count-more, rank-lt}
 use Rattle.netlist.specs.declared.Record.{Record}
-use Rattle.netlist.specs.Kinds.{slots, sourceLimit, arity}
-use Rattle.netlist.specs.Records.{Netlist, slot, fanin}
+use Rattle.netlist.specs.Kinds.{slots, unused, sourceLimit, input, arity, isGate}
+use Rattle.netlist.specs.Records.{Netlist, slot, used, fanin}
 use Rattle.netlist.specs.Source.{IsSource}
-use Rattle.netlist.proofs.Checks.{arity-slots}
-use Rattle.nets.specs.PrivateChains.{slotEnd, usedSlot, faninSlot, namesSlot, nextSink, Emptied, Linked, Chained}
+use Rattle.netlist.proofs.Checks.{other-arity}
+use Rattle.nets.specs.PrivateChains.{slotEnd, usedSlot, faninSlot, namesSlot, nextSink, Emptied, AllUnused, Linked, Chained}
 
 -- what holds only where p does is counted nowhere on the way to the first p
 seek-count : (p q : ℕ → Bool) (y m : ℕ) → ((z : ℕ) → q z ≡ true → p z ≡ true) → count q (seek p y m) ≡ count q y
@@ -96,6 +97,10 @@ module _ (n : Netlist) (d : ℕ) where
         count-more (namesSlot n d) y z a,
       )
 
+-- an array that was made of unused slots
+pub all-unused : (k : ℕ) → AllUnused (replicate k unused)
+all-unused k = record { at = λ y l. getD-replicate k y unused 0 (omega (arith, length-replicate k unused)) }
+
 -- the first d chains are empty
 module _ (end : ℕ) (first : List ℕ) where
   pub empty-more : (n d : ℕ) (first₀ : List ℕ) → Emptied d end first → d < n → n ≤ length first₀ → length first ≡ length first₀ → Emptied (d + 1) end (set first d end)
@@ -125,12 +130,13 @@ module _ (n : Netlist) (N : ℕ) (e : N ≡ n .size) (s : IsSource n) where
 
 module _ (n : Netlist) (first next : List ℕ) where
   -- no slot is linked yet: every first sink is the end
-  pub link-start : (N : ℕ) → N ≡ n .size → Emptied N (slots * N) first → slots * N ≤ length next → Linked n first next (slots * N)
-  link-start N e h f =
+  pub link-start : (N : ℕ) → N ≡ n .size → Emptied N (slots * N) first → AllUnused next → slots * N ≤ length next → Linked n first next (slots * N)
+  link-start N e h all f =
       rw e (
       record {
         firsts = λ d l. (rw e at h) .at d l ∙ sym (next-end n d);
         nexts = λ y a b u. absurd (omega arith);
+        rest = λ y b u. all .at y (omega arith);
         firstLong = omega (arith, h .long);
         nextLong = omega arith;
       }
@@ -142,6 +148,7 @@ module _ (n : Netlist) (first next : List ℕ) where
       record {
         firsts = λ d ld. rw (next-skip n d x l (rw u refl), ← add-one x) (h .firsts d ld);
         nexts = λ y a b v. h .nexts y (further y a v) b v;
+        rest = h .rest;
         firstLong = h .firstLong;
         nextLong = h .nextLong;
       }
@@ -157,6 +164,8 @@ module _ (n : Netlist) (first next : List ℕ) where
       record {
         firsts = λ d m. at-driver d m (ℕ-discrete d t);
         nexts = λ y a b v. at-slot y a b v (ℕ-discrete y x);
+        rest = λ y b v.
+            getD-set-other next x y (getD first t 0) 0 (λ f. true-false (usedSlot n x) u (rw f at v)) ∙ h .rest y b v;
         firstLong = omega (arith, length-set first t x, h .firstLong);
         nextLong = omega (arith, length-set next x (getD first t 0), h .nextLong);
       }
@@ -173,79 +182,82 @@ module _ (n : Netlist) (first next : List ℕ) where
           rw (f, getD-set-same next x (getD first t 0) 0 (omega (arith, h .nextLong)), ← e, ← add-one x) (h .firsts t ld)
       at-slot y a b v (no f) = getD-set-other next x y (getD first t 0) 0 f ∙ h .nexts y (omega arith) b v
 
--- what record i uses
-pub record-fits : (kind used : ℕ) → used ≡ arity kind → used ≤ slots
-record-fits kind used u = omega (arith, arity-slots kind)
+pub slots-done : (n : Netlist) (i : ℕ) (first next : List ℕ) → Linked n first next (slots * i + 0) → Linked n first next (slots * i)
+slots-done n i first next h = rw (add-zero (slots * i)) at h
 
-uses : (n : Netlist) (i : ℕ) (r : Record) (used : ℕ) → r ≡ n .at i → used ≡ arity (r .kind) → used ≡ arity (n .at i .kind)
-uses n i r used q u = u ∙ ap (λ (r : Record). arity (r .kind)) q
+-- record i, as the code links it: from its last slot down
+module _ (n : Netlist) (i : ℕ) (first next : List ℕ) (s : IsSource n) (l : i < n .size) (r : Record) (q : r ≡ n .at i) where
+  -- slot j, whose value is v, without a branch by it
+  module _ (j v : ℕ) (b : j < slots) (f : v ≡ slot r j) (h : Linked n first next (slots * i + (j + 1))) where
+    abbrev x : ℕ
+    x = slots * i + j
 
-pub record-uses : (n : Netlist) (i : ℕ) (r : Record) (used : ℕ) → r ≡ n .at i → used ≡ arity (r .kind) → used ≤ arity (n .at i .kind)
-record-uses n i r used q u = omega (arith, uses n i r used q u)
+    named : v ≡ fanin n i j
+    named = f ∙ ap (λ (r : Record). slot r j) q
 
--- record i, as the code links it: its used slots from the last one down
-module _ (n : Netlist) (i : ℕ) (first next : List ℕ) where
-  -- unused slots link nothing
-  link-skip : (x m : ℕ) → Linked n first next (x + m) → x + m ≤ slotEnd n →
-      ((z : ℕ) → x ≤ z → z < x + m → usedSlot n z ≡ false) → Linked n first next x
-  link-skip x zero h l u = rw (add-zero x) at h
-  link-skip x (suc m) h l u =
-      let e : x + suc m ≡ x + m + 1 = omega arith in
-      link-skip x m
-      (link-unused n first next (x + m) (subst (λ (y : ℕ). Linked n first next y) e h) (omega arith) (u (x + m) (omega arith) (omega arith)))
-      (omega arith)
-      (λ z a b. u z a (omega arith))
+    at-x : {A : Type 0} (g : ℕ → ℕ → A) → g (x / slots) (x % slots) ≡ g i j
+    at-x g =
+        let record-of : x / slots ≡ i = omega arith in
+        let slot-of : x % slots ≡ j = omega arith in
+        ap₂ g record-of slot-of
 
-  pub record-start : (r : Record) (used : ℕ) → r ≡ n .at i → used ≡ arity (r .kind) → i < n .size → Linked n first next (slots * (i + 1)) →
-      Linked n first next (slots * i + used)
-  record-start r used q u l h =
-      link-skip (slots * i + used) (slots - used) (subst (λ (y : ℕ). Linked n first next y) all h) (omega (arith, fits)) unused
-    where
-      fits : used ≤ slots
-      fits = record-fits (r .kind) used u
+    below : Linked n first next (x + 1)
+    below = let e : slots * i + (j + 1) ≡ x + 1 = omega arith in subst (λ (y : ℕ). Linked n first next y) e h
 
-      all : slots * (i + 1) ≡ slots * i + used + (slots - used)
-      all = omega (arith, fits)
+    pub slot-next-inside : x < length next
+    slot-next-inside = omega (arith, h .nextLong)
 
-      unused : (z : ℕ) → slots * i + used ≤ z → z < slots * i + used + (slots - used) → usedSlot n z ≡ false
-      unused z a b =
-          let e : z / slots ≡ i = omega (arith, fits) in
-          le-ltb (z % slots) (arity (n .at (z / slots) .kind)) (omega (arith, fits, uses n i r used q u, ap (λ (x : ℕ). arity (n .at x .kind)) e))
+    -- a used slot names an earlier record, and an unused one says so
+    whether : (w : Bool) → used n i j ≡ w → eqb v unused ≡ not w
+    whether true g = ne-eqb v unused (λ (z : v ≡ unused). omega (arith, s .few, named, s .earlier i j l (ltb-true j _ g)))
+    whether false g = eq-eqb v unused (named ∙ s .empty i j l (ltb-false j _ g) b)
 
-  -- slot j - 1 names the driver t
-  module _ (r : Record) (j t : ℕ) (s : IsSource n) (l : i < n .size) (q : r ≡ n .at i) (b : 0 < j) (c : j ≤ arity (n .at i .kind))
-      (f : t ≡ slot r (j - 1)) where
-    named : t ≡ fanin n i (j - 1)
-    named = f ∙ ap (λ (r : Record). slot r (j - 1)) q
+    module _ (p t : ℕ) (ep : p ≡ cond (eqb v unused) i v) (et : t ≡ p) where
+      driver : (w : Bool) → used n i j ≡ w → t < n .size
+      driver true g = omega (arith, et, named, s .earlier i j l (ltb-true j _ g), (rw (whether true g) at ep))
+      driver false g = omega (arith, et, (rw (whether false g) at ep))
 
-    fits : j ≤ slots
-    fits = omega (arith, arity-slots (n .at i .kind))
+      pub slot-first-inside : t < length first
+      slot-first-inside = omega (arith, h .firstLong, driver (used n i j) refl)
 
-    pub link-first-inside : Linked n first next (slots * i + j) → t < length first
-    link-first-inside h = omega (arith, named, s .earlier i (j - 1) l (omega arith), h .firstLong)
+      pub slot-linked : (a c : ℕ) → a ≡ cond (eqb v unused) unused (getD first t 0) → c ≡ cond (eqb v unused) (getD first t 0) x →
+          Linked n (set first t c) (set next x a) x
+      slot-linked a c ea ec = go (used n i j) refl
+        where
+          go : (w : Bool) → used n i j ≡ w → Linked n (set first t c) (set next x a) x
+          go true g =
+              rw (ec, ea, whether true g)
+              (link-used n first next x t below (omega arith) (et ∙ (rw (whether true g) at ep) ∙ named ∙ sym (at-x (fanin n))) (driver true g) (at-x (used n) ∙ g))
+          go false g =
+              let same : getD next x 0 ≡ unused = h .rest x (omega arith) (at-x (used n) ∙ g) in
+              rw (ec, ea, whether false g, ← same, set-getD first t 0, set-getD next x 0)
+              (link-unused n first next x below (omega arith) (at-x (used n) ∙ g))
 
-    pub link-next-inside : Linked n first next (slots * i + j) → slots * i + (j - 1) < length next
-    link-next-inside h = omega (arith, fits, h .nextLong)
+  -- all slots of a record are slots 0 to 2
+  pub slots-above : Linked n first next (slots * (i + 1)) → Linked n first next (slots * i + (2 + 1))
+  slots-above h = let e : slots * (i + 1) ≡ slots * i + (2 + 1) = omega arith in subst (λ (y : ℕ). Linked n first next y) e h
 
-    pub record-more : Linked n first next (slots * i + j) →
-        Linked n (set first t (slots * i + (j - 1))) (set next (slots * i + (j - 1)) (getD first t 0)) (slots * i + (j - 1))
-    record-more h =
-        link-used n first next (slots * i + (j - 1)) t (subst (λ (y : ℕ). Linked n first next y) here h) (omega (arith, fits))
-        (named ∙ sym (ap₂ (fanin n) record-of slot-of))
-        (omega (arith, named, s .earlier i (j - 1) l (omega arith)))
-        (ap₂ (Rattle.netlist.specs.Records.used n) record-of slot-of ∙ lt-ltb (j - 1) (arity (n .at i .kind)) (omega arith))
-      where
-        here : slots * i + j ≡ slots * i + (j - 1) + 1
-        here = omega arith
+  -- slots from m on that the record does not use link nothing
+  unused-from : (m k : ℕ) → m + k ≤ slots → arity (n .at i .kind) ≤ m → Linked n first next (slots * i + (m + k)) → Linked n first next (slots * i + m)
+  unused-from m zero b a h = rw (add-zero m) at h
+  unused-from m (suc k) b a h =
+      let x = slots * i + (m + k) in
+      let e : slots * i + (m + suc k) ≡ x + 1 = omega arith in
+      let record-of : x / slots ≡ i = omega arith in
+      let slot-of : x % slots ≡ m + k = omega arith in
+      unused-from m k (omega arith) a
+      (link-unused n first next x (subst (λ (y : ℕ). Linked n first next y) e h) (omega arith)
+      (ap₂ (used n) record-of slot-of ∙ le-ltb (m + k) (arity (n .at i .kind)) (omega arith)))
 
-        record-of : (slots * i + (j - 1)) / slots ≡ i
-        record-of = omega (arith, fits)
+  -- no gate: slots 1 and 2 are unused
+  pub later-unused : (g : Bool) → g ≡ isGate (r .kind) → not g ≡ true → Linked n first next (slots * (i + 1)) → Linked n first next (slots * i + 1)
+  later-unused g is f h =
+      unused-from 1 2 (omega arith) (omega (arith, other-arity (r .kind) g is f, ap (λ (r : Record). arity (r .kind)) q)) (slots-above h)
 
-        slot-of : (slots * i + (j - 1)) % slots ≡ j - 1
-        slot-of = omega (arith, fits)
-
-  pub record-end : (j : ℕ) → j ≤ 0 → Linked n first next (slots * i + j) → Linked n first next (slots * i)
-  record-end j l h = let e : slots * i + j ≡ slots * i = omega arith in subst (λ (y : ℕ). Linked n first next y) e h
+  -- an input: slot 0 too
+  pub first-unused : r .kind ≡ input → Linked n first next (slots * i + 1) → Linked n first next (slots * i)
+  first-unused o h =
+      slots-done n i first next (unused-from 0 1 (omega arith) (omega (arith, ap arity o, ap (λ (r : Record). arity (r .kind)) q)) h)
 
 -- from record to record downwards
 module _ (n : Netlist) (first next : List ℕ) where

@@ -2,14 +2,14 @@
 -- number: slot y is slot y % slots of record y / slots.
 use Prim.Native.Nat.{ℕ, suc, _-_, _*_, _≤_, _<_, _/_, _%_}
 use mathlib.Core.Path.{_≡_}
-use mathlib.Core.Bool.{Bool, true}
+use mathlib.Core.Bool.{Bool, true, false}
 use mathlib.Core.List.{List}
 use lib.ListN.{length, getD}
 use Rattle.facts.specs.declared.Checked.{Checked}
 use Rattle.facts.specs.Checks.{outcome}
 use Rattle.facts.specs.Sums.{count, seek}
 use Rattle.netlist.specs.declared.Capacities.{Capacities}
-use Rattle.netlist.specs.Kinds.{slots, topLevel}
+use Rattle.netlist.specs.Kinds.{slots, unused, topLevel}
 use Rattle.netlist.specs.Records.{Netlist, used, fanin, names}
 use Rattle.netlist.specs.Source.{IsSource}
 use Rattle.fanout.specs.Nets.{row, sinks, sinkAt, nodesAt, treeSize}
@@ -54,11 +54,16 @@ pub record Emptied (n end : ℕ) (first : List ℕ) : Type 0 where
   pub long : n ≤ length first
   pub at : (d : ℕ) → d < n → getD first d 0 ≡ end
 
--- the chains of the slots from x on: each driver's first sink, and after each sink its driver's next
+-- an array of slots, all unused
+pub record AllUnused (next : List ℕ) : Type 0 where
+  pub at : (y : ℕ) → y < length next → getD next y 0 ≡ unused
+
+-- the chains of the slots from x on: each driver's first sink, and after each sink its driver's next; unused slots are unused here too
 pub record Linked (n : Netlist) (first next : List ℕ) (x : ℕ) : Type 0 where
   pub firsts : (d : ℕ) → d < n .size → getD first d 0 ≡ nextSink n d x
   pub nexts : (y : ℕ) → x ≤ y → y < slotEnd n → usedSlot n y ≡ true →
       getD next y 0 ≡ nextSink n (faninSlot n y) (suc y)
+  pub rest : (y : ℕ) → y < slotEnd n → usedSlot n y ≡ false → getD next y 0 ≡ unused
   pub firstLong : n .size ≤ length first
   pub nextLong : slotEnd n ≤ length next
 
@@ -68,6 +73,7 @@ pub record Chained (n : Netlist) (first next : List ℕ) (d end : ℕ) : Type 0 
   pub firsts : (x : ℕ) → x < n .size → getD first x 0 ≡ nextSink n x 0
   pub nexts : (y : ℕ) → y < slotEnd n → usedSlot n y ≡ true → d ≤ faninSlot n y →
       getD next y 0 ≡ nextSink n (faninSlot n y) (suc y)
+  pub rest : (y : ℕ) → y < slotEnd n → usedSlot n y ≡ false → getD next y 0 ≡ unused
   pub firstLong : n .size ≤ length first
   pub nextLong : slotEnd n ≤ length next
   pub stop : end ≡ slotEnd n

@@ -1,6 +1,7 @@
-// Small numbers: stored ones as indices, bits, the larger of two.
+// Small numbers: stored ones as indices, bits, one of two.
 ghost use mathlib.Core.Path.{_≡_};
 ghost use Prim.Native.Nat.{max};
+ghost use mathlib.Core.Bool.{cond};
 ghost use Rattle.facts.specs.Sums.{bit};
 
 // A stored index, as a number to index with.
@@ -15,6 +16,13 @@ pub fn larger(a: usize, b: usize) -> usize
     ensures { λ r. ⌜ r ≡ max a b ⌝ }
 {
     if a < b { b } else { a }
+}
+
+// One of two numbers.
+pub fn pick(first: bool, a: u16, b: u16) -> u16
+    ensures { λ r. ⌜ r ≡ cond first a b ⌝ }
+{
+    if first { a } else { b }
 }
 
 // 1 for true, 0 for false.

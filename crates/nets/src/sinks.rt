@@ -12,8 +12,10 @@ use crate::numbers;
 use fanout::DISTANCES;
 use fanout::Reach;
 use fanout::stretches;
+use netlist::INPUT;
 use netlist::Record;
 use netlist::SLOTS;
+use netlist::UNUSED;
 
 // The sinks of a driver: none; one or two, with the largest distance and how many stand at distance 1; or more.
 pub enum Chain {
@@ -34,7 +36,39 @@ pub fn empty_chains(n: usize, end: u16, first: &mut [u16])
     }
 }
 
-// The used slots of r, which is record i, from the last one down: each comes before what its driver had first.
+// Slot j of r, which is record i: it comes before what its driver had first. An unused slot stays unused, and record i's first sink as it was; so no branch goes by the slot.
+fn link_slot(source: &[u8], i: usize, r: Record, j: usize, first: &mut [u16], next: &mut [u16])
+    requires { ⌜ IsSource (netlist (now source)) ⌝ }
+    requires { ⌜ (i < netlist (now source) .size) × (j < slots) ⌝ }
+    requires { ⌜ r ≡ netlist (now source) .at i ⌝ }
+    requires { ⌜ Linked (netlist (now source)) (now first) (now next) (slots * i + (j + 1)) ⌝ }
+    ensures { λ _. ⌜ Linked (netlist (now (source .entry))) (now (first .exit)) (now (next .exit)) (slots * i + j) ⌝ }
+{
+    let d = netlist::slot(r, j);
+    let unused = d == UNUSED;
+    let x = SLOTS * i + j;
+    let driver = numbers::index(numbers::pick(unused, i as u16, d));
+    let old = first[driver];
+    next[x] = numbers::pick(unused, UNUSED, old);
+    first[driver] = numbers::pick(unused, old, x as u16);
+}
+
+// Slots 2 and 1 of r, which is record i: no record but a gate uses them.
+fn link_later_slots(source: &[u8], i: usize, r: Record, first: &mut [u16], next: &mut [u16])
+    requires { ⌜ IsSource (netlist (now source)) ⌝ }
+    requires { ⌜ i < netlist (now source) .size ⌝ }
+    requires { ⌜ r ≡ netlist (now source) .at i ⌝ }
+    requires { ⌜ Linked (netlist (now source)) (now first) (now next) (slots * (i + 1)) ⌝ }
+    ensures { λ _. ⌜ Linked (netlist (now (source .entry))) (now (first .exit)) (now (next .exit)) (slots * i + 1) ⌝ }
+{
+    if !netlist::is_gate(r.kind) {
+        return;
+    }
+    link_slot(source, i, r, 2, first, next);
+    link_slot(source, i, r, 1, first, next);
+}
+
+// The slots of r, which is record i, from the last one down: an input uses none.
 fn link_slots(source: &[u8], i: usize, r: Record, first: &mut [u16], next: &mut [u16])
     requires { ⌜ IsSource (netlist (now source)) ⌝ }
     requires { ⌜ i < netlist (now source) .size ⌝ }
@@ -42,14 +76,11 @@ fn link_slots(source: &[u8], i: usize, r: Record, first: &mut [u16], next: &mut 
     requires { ⌜ Linked (netlist (now source)) (now first) (now next) (slots * (i + 1)) ⌝ }
     ensures { λ _. ⌜ Linked (netlist (now (source .entry))) (now (first .exit)) (now (next .exit)) (slots * i) ⌝ }
 {
-    let mut j = netlist::arity(r.kind);
-    while 0 < j {
-        j -= 1;
-        let d = netlist::slot(r, j) as usize;
-        let x = SLOTS * i + j;
-        next[x] = first[d];
-        first[d] = x as u16;
+    link_later_slots(source, i, r, first, next);
+    if r.kind == INPUT {
+        return;
     }
+    link_slot(source, i, r, 0, first, next);
 }
 
 // The chains of all slots, from the last record down.

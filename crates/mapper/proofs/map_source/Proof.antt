@@ -1,6 +1,6 @@
 -- `map_source` meets its contract: the arrays are long enough.
 use Rattle.nets.proofs.TreeCounts.{input-source}
-use Rattle.nets.proofs.Chains.{records-few, slots-few}
+use Rattle.nets.proofs.Chains.{all-unused, records-few, slots-few}
 use borrow.Author.Needs.{needs}
 use Rattle.mapper.proofs.map_source.Statement.{statement}
 use Rattle.mapper.proofs.map_source.Tie as tie
@@ -15,7 +15,7 @@ slice-aggregate-map-with-2 : tie.Need-slice-aggregate-map-with-2
 slice-aggregate-map-with-2 c = search needs
 
 map-with-requires : tie.Need-map-with-requires
-map-with-requires c κs = (search needs, (search needs, (search needs, search needs)))
+map-with-requires c κs = (search needs, (search needs, (search needs, search (needs, all-unused))))
 
 same-length : tie.Need-same-length
 same-length c = search needs
@@ -30,7 +30,7 @@ slice-aggregate-map-with-4 : tie.Need-slice-aggregate-map-with-4
 slice-aggregate-map-with-4 c = search needs
 
 map-with-requires-2 : tie.Need-map-with-requires-2
-map-with-requires-2 c κs = (search needs, (search needs, (search (input-source, records-few), search (input-source, slots-few))))
+map-with-requires-2 c κs = (search needs, (search needs, ((search (input-source, records-few), search (input-source, slots-few)), search (needs, all-unused))))
 
 same-length-2 : tie.Need-same-length-2
 same-length-2 c = search needs

@@ -1,7 +1,7 @@
 -- `source_ends` meets its contract: the chains, the trees, then 8 or what follows it.
 use Rattle.mapper.proofs.Answering.{counted-all}
 use Rattle.nets.proofs.TreeCounts.{input-source}
-use Rattle.nets.proofs.Chains.{records-few, slots-few, end-fits, link-start}
+use Rattle.nets.proofs.Chains.{all-unused, records-few, slots-few, end-fits, link-start}
 use Rattle.mapper.proofs.View.{ends-tree}
 use borrow.Author.Needs.{needs}
 use Rattle.mapper.proofs.block.source_ends.Statement.{statement}
@@ -29,7 +29,7 @@ slice-aggregate-size-trees-2 : tie.Need-slice-aggregate-size-trees-2
 slice-aggregate-size-trees-2 c = search needs
 
 size-trees-requires : tie.Need-size-trees-requires
-size-trees-requires c κs = (search needs, (search needs, (search needs, (search (needs, input-source, slots-few, link-start), search needs))))
+size-trees-requires c κs = (search needs, (search needs, (search needs, (search (needs, input-source, slots-few, all-unused, link-start), search needs))))
 
 enum-known-sizing : tie.Need-enum-known-sizing
 enum-known-sizing c = search needs

@@ -9,10 +9,10 @@ use Rattle.netlist.proofs.source_reader.check_records.Statement.{statem
 use Rattle.netlist.proofs.source_reader.check_records.Tie as tie
 
 abbrev Inv-loop : tie.InvT-loop
-Inv-loop bytes n deep₀ seen₀ k₀ deep seen k = Met bytes k seen deep × Scanning (recordChecks (netlist bytes)) n k
+Inv-loop bytes n outputs₀ k₀ outputs k = Met bytes k (outputs .seen) (outputs .level) × Scanning (recordChecks (netlist bytes)) n k
 
 abbrev μ-loop : tie.MeasureT-loop
-μ-loop bytes n deep₀ seen₀ k₀ deep seen k = n - k
+μ-loop bytes n outputs₀ k₀ outputs k = n - k
 
 loop-holds : tie.Need-loop-holds Inv-loop μ-loop
 loop-holds c = search (needs, met-start, scan-start)
@@ -23,11 +23,8 @@ cast-read-at c = search needs
 read-at-requires : tie.Need-read-at-requires Inv-loop μ-loop
 read-at-requires c κs = search needs
 
-first-level-requires : tie.Need-first-level-requires Inv-loop μ-loop
-first-level-requires c κs = search needs
-
-output-seen-requires : tie.Need-output-seen-requires Inv-loop μ-loop
-output-seen-requires c κs = search needs
+with-record-requires : tie.Need-with-record-requires Inv-loop μ-loop
+with-record-requires c κs = search needs
 
 check-record-requires : tie.Need-check-record-requires Inv-loop μ-loop
 check-record-requires c κs = search (needs, met-serves)
@@ -62,8 +59,7 @@ check-records-spec =
     loop-holds
     cast-read-at
     read-at-requires
-    first-level-requires
-    output-seen-requires
+    with-record-requires
     check-record-requires
     enum-told
     enum-known-checked
