@@ -7,6 +7,7 @@ ghost use Rattle.facts.specs.Bytes.{four};
 ghost use Rattle.facts.specs.Areas.{put};
 ghost use Rattle.netlist.specs.Capacities.{capacitiesOf};
 ghost use Rattle.fanout.specs.Answer.{countAnswer, countNumbers};
+ghost use Rattle.nets.specs.Counts.{countsAnswer, countsArea};
 ghost use Rattle.mapper.specs.Answer.{mapAnswer, mapArea, mappingNumbers};
 ghost use Rattle.verifier.specs.Checks.{verifyAnswer, verifiedNumbers};
 ghost use Rattle.simulator.specs.Evaluate.{evaluateAnswer, evaluateArea};
@@ -15,23 +16,9 @@ ghost use Rattle.simulator.specs.Run.{runAnswer, runArea, runOutputs};
 ghost use Rattle.aqfp.specs.Answers.{Answered};
 use facts::Checked;
 use fanout::Count;
+use fanout::NO_TREE;
 use netlist::Capacities;
 use verifier::Verified;
-
-// What stands for no tree in the count's answer.
-const NO_TREE: u32 = 4294967295;
-
-// Stores number k of an answer.
-fn store(answer: &mut [u8], k: usize, n: u32)
-    requires { ⌜ 4 * k + 4 ≤ length (now answer) ⌝ }
-    ensures { λ _. ⌜ now (answer .exit) ≡ put (now (answer .entry)) (4 * k) (four n) ⌝ }
-{
-    let at = 4 * k;
-    answer[at] = (n % 256) as u8;
-    answer[at + 1] = (n / 256 % 256) as u8;
-    answer[at + 2] = (n / 65536 % 256) as u8;
-    answer[at + 3] = (n / 16777216 % 256) as u8;
-}
 
 // Stores the numbers of an answer and returns the first.
 fn write_answer(answer: &mut [u8], numbers: &[u32]) -> u32
@@ -41,7 +28,7 @@ fn write_answer(answer: &mut [u8], numbers: &[u32]) -> u32
 {
     let mut k: usize = 0;
     while k < numbers.len() {
-        store(answer, k, numbers[k]);
+        facts::write_four(answer, k, numbers[k]);
         k += 1;
     }
     numbers[0]
@@ -99,6 +86,24 @@ pub extern "C" fn aqfp_count(
         Count::NoTree => write_answer(answer, &[0, 0, NO_TREE]),
         Count::Refused(number, place) => write_answer(answer, &[number, place, 0]),
     }
+}
+
+// The list of counts: number, place.
+#[no_mangle]
+pub extern "C" fn aqfp_count_nets(
+    source: &[u8],
+    capacity: u32,
+    records: &[u8],
+    counts: &mut [u8],
+    answer: &mut [u8; 8],
+) -> u32
+    ensures answer { λ r. ⌜ Answered r (now (answer .exit)) (checkedNumbers (countsAnswer (now (source .entry)) (capacitiesOf capacity) (now (records .entry)) (now (counts .entry)))) ⌝ }
+    ensures area { λ _. ⌜ now (counts .exit) ≡ countsArea (now (source .entry)) (capacitiesOf capacity) (now (records .entry)) (now (counts .entry)) ⌝ }
+{
+    answer_checked(
+        answer,
+        nets::count_nets(source, Capacities { buffer: capacity }, records, counts),
+    )
 }
 
 // The verifier (specification 4.3): number, place, buffers.

@@ -8,3 +8,4 @@ pub mod Loops
 pub mod Reflect
 pub mod Refusals
 pub mod Sums
+pub mod Stored

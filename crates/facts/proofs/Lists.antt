@@ -89,3 +89,8 @@ module _ (f : ℕ → List ℕ) (w : ℕ) (each : (i : ℕ) → length (f i) ≡
       sym (getD-drop (w * i) (joined f n) b d)
       ∙ sym (getD-take w (drop (w * i) (joined f n)) b d h)
       ∙ ap (λ (p : List ℕ). getD p b d) (part-joined n i l)
+
+pub joined-cong : (f g : ℕ → List ℕ) (n : ℕ) → ((i : ℕ) → i < n → f i ≡ g i) → joined f n ≡ joined g n
+unfolding joined
+joined-cong f g zero h = refl
+joined-cong f g (suc n) h = cc (joined-cong f g n (λ i l. h i (omega arith)), h n (omega arith))

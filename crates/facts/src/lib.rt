@@ -1,6 +1,9 @@
-// What every call shares and no netlist is needed for: the answer of a list of checks, a byte as a wider number, and a bool as one.
+// What every call shares and no netlist is needed for: the answer of a list of checks, a byte as a wider number, a bool as one, and a number written in four bytes.
 ghost use mathlib.Core.Path.{_≡_};
-ghost use Prim.Native.Nat.{_<_};
+ghost use Prim.Native.Nat.{_+_, _*_, _<_, _≤_};
+ghost use lib.ListN.{length};
+ghost use Rattle.facts.specs.Areas.{put};
+ghost use Rattle.facts.specs.Bytes.{four};
 ghost use Rattle.facts.specs.Sums.{bit};
 
 // All checks passed, or the number of the first that failed and its place.
@@ -21,4 +24,16 @@ pub fn one_if(b: bool) -> usize
     ensures { λ r. ⌜ r ≡ bit b ⌝ }
 {
     if b { 1 } else { 0 }
+}
+
+// Number k of an area of numbers, four bytes each, low byte first.
+pub fn write_four(area: &mut [u8], k: usize, n: u32)
+    requires { ⌜ 4 * k + 4 ≤ length (now area) ⌝ }
+    ensures { λ _. ⌜ now (area .exit) ≡ put (now (area .entry)) (4 * k) (four n) ⌝ }
+{
+    let at = 4 * k;
+    area[at] = (n % 256) as u8;
+    area[at + 1] = (n / 256 % 256) as u8;
+    area[at + 2] = (n / 65536 % 256) as u8;
+    area[at + 3] = (n / 16777216 % 256) as u8;
 }

@@ -108,7 +108,7 @@ fewest-exactly source caps d n = (
 )
 
 -- in a source 20 is answered exactly for a record that is absent or an output
-driver-is : (source : List ℕ) (d : ℕ) → Source source → (not (isDriver (recordAt source d .kind)) ≡ true) ↔ NoDriver source d
+pub driver-is : (source : List ℕ) (d : ℕ) → Source source → (not (isDriver (recordAt source d .kind)) ≡ true) ↔ NoDriver source d
 driver-is source d h =
     (there, ⊎-elim (λ l. ap (λ (r : Record). not (isDriver (r .kind))) (record-past source d l)) (ap (λ (kind : ℕ). not (isDriver kind))))
   where

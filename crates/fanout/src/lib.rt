@@ -37,6 +37,9 @@ pub struct Reach {
     pub stretches: u64,
 }
 
+// What stands for no tree where a number is asked for.
+pub const NO_TREE: u32 = 4294967295;
+
 // Distances of a row, from 0 on.
 pub const DISTANCES: usize = 4096;
 

@@ -7,8 +7,6 @@ ghost use Rattle.mapper.specs.Mapped.{blockStart};
 ghost use Rattle.mapper.specs.View.{noEnds, blockEnds};
 ghost use Rattle.mapper.specs.PrivateWriting.{Counted, Mappable};
 use crate::Ends;
-use crate::RECORDS;
-use crate::SINKS;
 use facts::Checked;
 use fanout::DISTANCES;
 use netlist::Capacities;
@@ -16,6 +14,8 @@ use netlist::MAPPED_LIMIT;
 use netlist::SLOTS;
 use netlist::UNUSED;
 use nets::sinks;
+use nets::sinks::RECORDS;
+use nets::sinks::SINKS;
 use nets::trees;
 use nets::trees::Sizing;
 

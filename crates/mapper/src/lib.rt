@@ -18,17 +18,14 @@ use netlist::SLOTS;
 use netlist::UNUSED;
 use netlist::WIDTH;
 use nets::sinks;
+use nets::sinks::RECORDS;
+use nets::sinks::SINKS;
 use nets::trees;
 use nets::trees::Sizing;
 
 mod block;
 mod records;
 mod writing;
-
-// Records and slots of the largest source.
-const RECORDS: usize = netlist::SOURCE_LIMIT;
-
-const SINKS: usize = SLOTS * RECORDS;
 
 // Up to how many records of a source short arrays serve, and the slots of so many.
 const SMALL: usize = 1024;

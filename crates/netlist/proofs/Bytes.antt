@@ -10,7 +10,7 @@ use lib.Seq.{sets, getD-append-add, ext-getD}
 use Rattle.facts.specs.Bytes.{twoBytes}
 use Rattle.facts.specs.Lists.{tabulate, joined}
 use Rattle.facts.specs.Areas.{put, onto}
-use Rattle.facts.proofs.Lists.{length-tabulate, getD-tabulate, length-joined, part-joined, getD-joined}
+use Rattle.facts.proofs.Lists.{length-tabulate, getD-tabulate, length-joined, part-joined, getD-joined, joined-cong}
 use Rattle.facts.proofs.Bytes.{two-back}
 use Rattle.facts.proofs.Areas.{put-none, length-put, put-behind, put-before, stored-whole}
 use Rattle.netlist.specs.declared.Record.{Record}
@@ -85,9 +85,8 @@ module _ (m : Netlist) (fits : (i : ℕ) → i < m .size → Fits (m .at i)) (en
 
 -- equal records below n, encoded
 pub encoded-cong : (f g : ℕ → Record) (n : ℕ) → ((i : ℕ) → i < n → f i ≡ g i) → encoded f n ≡ encoded g n
-unfolding encoded joined
-encoded-cong f g zero h = refl
-encoded-cong f g (suc n) h = ap₂ _++_ (encoded-cong f g n (λ i l. h i (omega arith))) (ap encode (h n (omega arith)))
+unfolding encoded
+encoded-cong f g n h = joined-cong (λ k. encode (f k)) (λ k. encode (g k)) n (λ i l. ap encode (h i l))
 
 -- records one after the other
 pub recs-append : (m : Netlist) (i c k : ℕ) → recs m i (c + k) ≡ recs m i c ++ recs m (i + c) k

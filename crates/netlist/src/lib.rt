@@ -10,7 +10,7 @@ ghost use Rattle.netlist.specs.Checks.{capacityChecks, sourceChecks, inp
 ghost use Rattle.netlist.specs.View.{viewOf};
 use facts::Checked;
 
-mod record_reader;
+pub mod record_reader;
 pub mod record_writer;
 mod source_reader;
 

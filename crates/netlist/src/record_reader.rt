@@ -8,7 +8,7 @@ use crate::Record;
 use crate::WIDTH;
 
 // The two-byte field at a place, low byte first.
-fn two_bytes(bytes: &[u8], at: usize) -> u16
+pub fn two_bytes(bytes: &[u8], at: usize) -> u16
     requires { ⌜ at + 1 < length (now bytes) ⌝ }
     ensures { λ r. ⌜ r ≡ field (now (bytes .entry)) at ⌝ }
 {

@@ -4,3 +4,5 @@ pub mod ChainRow
 pub mod ShortChains
 pub mod Lines
 pub mod TreeCounts
+pub mod ListedCounts
+pub mod Promises

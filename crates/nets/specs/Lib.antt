@@ -1,2 +1,5 @@
 pub mod Checks
+pub mod Counts
 pub mod PrivateChains
+pub mod PrivateCounts
+pub mod Promises

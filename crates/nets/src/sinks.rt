@@ -17,6 +17,11 @@ use netlist::Record;
 use netlist::SLOTS;
 use netlist::UNUSED;
 
+// Records and slots of the largest source.
+pub const RECORDS: usize = netlist::SOURCE_LIMIT;
+
+pub const SINKS: usize = SLOTS * RECORDS;
+
 // The sinks of a driver: none; one or two, with the largest distance and how many stand at distance 1; or more.
 pub enum Chain {
     Empty,

@@ -27,7 +27,7 @@ pub enum Sizing {
 }
 
 // d's net: the nodes left at distance 1 and its buffers; one or two sinks have a line of buffers, one at each distance below the largest. The row is all zero before and after.
-fn measure(
+pub(crate) fn measure(
     source: &[u8],
     capacities: Capacities,
     end: usize,
@@ -61,7 +61,7 @@ fn measure(
 }
 
 // Whether record d may feed so many nodes: one hangs on any driver, more are held to its kind.
-fn may_feed(source: &[u8], capacities: Capacities, d: usize, nodes: u32) -> bool
+pub(crate) fn may_feed(source: &[u8], capacities: Capacities, d: usize, nodes: u32) -> bool
     requires { ⌜ Allowed capacities ⌝ }
     ensures { λ b. ⌜ b ≡ leb nodes (capacityOf capacities (netlist (now (source .entry)) .at d .kind)) ⌝ }
 {

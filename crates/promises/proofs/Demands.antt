@@ -4,6 +4,7 @@ use Rattle.fanout.proofs.Numbers.{numbers-exactly}
 use Rattle.verifier.proofs.Fewest.{on-net-exactly}
 use Rattle.verifier.proofs.Accepted.{accepted-exactly}
 use Rattle.verifier.proofs.Balance.{accepted-balanced}
+use Rattle.nets.proofs.Promises.{counts-exact, counts-keep, counts-listed}
 use Rattle.mapper.proofs.Promises.{map-exact, refused-leaves, block-none}
 use Rattle.simulator.specs.Evaluate.{evaluateArea}
 use Rattle.simulator.specs.Step.{stepArea}
@@ -33,6 +34,8 @@ demand-1 =
       source = source-exact;
       input = input-exact;
       count = net.refused-exactly;
+      countNets = counts-exact;
+      countsKeep = counts-keep;
       map = map-exact;
       mapKeeps = refused-leaves;
       verify = verifier.refused-exactly;
@@ -53,6 +56,7 @@ demand-2 =
       oneNumber = buffers-one-number;
       noTree = net.no-tree-exactly;
       fewest = net.fewest-exactly;
+      listed = counts-listed;
       exactly = accepted-exactly;
       acceptedBalanced = accepted-balanced;
       beyond = beyond-kept;

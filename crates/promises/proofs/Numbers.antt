@@ -26,6 +26,8 @@ use Rattle.mapper.specs.Promises.{MapFails}
 use Rattle.mapper.proofs.Promises.{map-exact}
 use Rattle.simulator.specs.Refusals.{AreaFails, EvaluateFails, StepFails, RunFails}
 use Rattle.simulator.proofs.Refusals.{evaluate-exact, step-exact, run-exact}
+use Rattle.nets.specs.Promises.{CountsFail}
+use Rattle.nets.proofs.Promises.{counts-exact}
 use Rattle.promises.specs.Written.{Maps}
 use Rattle.promises.specs.Numbers.{AnsweredExactly, TwoNumbers, Figures, MapNumbers, VerifyNumbers, NumbersExact}
 use Rattle.promises.proofs.Written.{map-numbered, maps-passed}
@@ -146,6 +148,11 @@ numbers-exact =
     record {
       map = map-numbers;
       verify = verify-numbers;
+      countNets = λ source caps records counts.
+          two-numbers (CountsFail source caps records counts) _ (counts-exact source caps records counts)
+          (λ number place.
+              ⊎-elim (λ x. row-positive number (rowOf 0) (input-numbered source caps number place x))
+              (⊎-elim (λ f. omega (arith, f .0)) (λ z. omega (arith, z .2 .0))));
       evaluate = λ source row area.
           two-numbers (EvaluateFails source row area) _ (evaluate-exact source row area)
           (λ number place. ⊎-elim (source-numbered source number place) (area-numbered _ row number place));

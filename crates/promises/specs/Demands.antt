@@ -8,6 +8,7 @@ use Rattle.netlist.specs.Refusals.{SourceExact, InputExact}
 use Rattle.verifier.specs.Accepted.{AcceptedExactly}
 use Rattle.verifier.specs.Balance.{AcceptedBalanced}
 use Rattle.verifier.specs.Fewest.{OnNetExactly}
+use Rattle.nets.specs.Promises.{CountsExact, CountsKeep, CountsListed}
 use Rattle.mapper.specs.Promises.{MapExact, RefusedLeaves, BlockNone}
 use Rattle.simulator.specs.Evaluate.{evaluateAnswer, evaluateArea}
 use Rattle.simulator.specs.Step.{stepAnswer, stepArea}
@@ -37,6 +38,8 @@ pub record Demand1 : Type 0 where
   pub source : SourceExact
   pub input : InputExact
   pub count : net.RefusedExactly
+  pub countNets : CountsExact
+  pub countsKeep : CountsKeep
   pub map : MapExact
   pub mapKeeps : RefusedLeaves
   pub verify : verifier.RefusedExactly
@@ -48,7 +51,8 @@ pub record Demand1 : Type 0 where
   pub numbers : NumbersExact
 
 -- demand 2: what is written is legal, path-balanced, properly branched and accepted, with the number of buffers answered; 'no tree'
--- exactly when no tree at all is legal; the verifier accepts exactly the legal mapped netlists
+-- exactly when no tree at all is legal, by the count of one net and in a list of counts, which is the single counts; the verifier
+-- accepts exactly the legal mapped netlists
 pub record Demand2 : Type 0 where
   pub legal : WrittenLegal
   pub balanced : WrittenBalanced
@@ -56,6 +60,7 @@ pub record Demand2 : Type 0 where
   pub oneNumber : BuffersOneNumber
   pub noTree : net.NoTreeExactly
   pub fewest : net.FewestExactly
+  pub listed : CountsListed
   pub exactly : AcceptedExactly
   pub acceptedBalanced : AcceptedBalanced
   pub beyond : BeyondKept

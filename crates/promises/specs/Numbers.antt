@@ -12,6 +12,8 @@ use Rattle.netlist.specs.Kinds.{width}
 use Rattle.netlist.specs.Records.{netlist, recordCount}
 use Rattle.netlist.specs.Source.{OutputsAt}
 use Rattle.netlist.specs.Counts.{bufferCount, gates}
+use Rattle.nets.specs.Counts.{countsAnswer}
+use Rattle.nets.specs.Promises.{CountsFail}
 use Rattle.mapper.specs.Answer.{mapAnswer, mapArea, mappingNumbers}
 use Rattle.mapper.specs.Promises.{MapFails}
 use Rattle.verifier.specs.Checks.{verifyAnswer, verifiedNumbers}
@@ -73,6 +75,8 @@ pub record NumbersExact : Type 0 where
   pub map : (source : List ℕ) (caps : Capacities) (area : List ℕ) → MapNumbers source caps area (mappingNumbers (mapAnswer source caps area))
   pub verify : (source : List ℕ) (caps : Capacities) (mapped : List ℕ) →
       VerifyNumbers source caps mapped (verifiedNumbers (verifyAnswer source caps mapped))
+  pub countNets : (source : List ℕ) (caps : Capacities) (records counts : List ℕ) →
+      TwoNumbers (CountsFail source caps records counts) (checkedNumbers (countsAnswer source caps records counts))
   pub evaluate : (source row area : List ℕ) →
       TwoNumbers (EvaluateFails source row area) (checkedNumbers (evaluateAnswer source row area))
   pub step : (source : List ℕ) (caps : Capacities) (mapped row area : List ℕ) →
