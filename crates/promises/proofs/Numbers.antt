@@ -151,8 +151,8 @@ numbers-exact =
       countNets = λ source caps records counts.
           two-numbers (CountsFail source caps records counts) _ (counts-exact source caps records counts)
           (λ number place.
-              ⊎-elim (λ x. row-positive number (rowOf 0) (input-numbered source caps number place x))
-              (⊎-elim (λ f. omega (arith, f .0)) (λ z. omega (arith, z .2 .0))));
+          ⊎-elim (λ x. row-positive number (rowOf 0) (input-numbered source caps number place x))
+          (⊎-elim (λ f. omega (arith, f .0)) (λ z. omega (arith, z .2 .0))));
       evaluate = λ source row area.
           two-numbers (EvaluateFails source row area) _ (evaluate-exact source row area)
           (λ number place. ⊎-elim (source-numbered source number place) (area-numbered _ row number place));
