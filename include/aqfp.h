@@ -1,13 +1,14 @@
 /* aqfp.h -- insertion of buffers and splitters into AQFP netlists
  *
- * Six calls over byte areas and numbers:
+ * Calls over byte areas and numbers:
  *
- *   aqfp_map       writes the mapped netlist of a source with the fewest buffers
- *   aqfp_count     counts the fewest buffers of one net
- *   aqfp_verify    judges any mapped netlist of a source
- *   aqfp_evaluate  gives the plain logic of a source for one row of inputs
- *   aqfp_run       runs a mapped netlist phase by phase over many rows
- *   aqfp_step      runs a mapped netlist by one step
+ *   aqfp_map         writes the mapped netlist of a source with the fewest buffers
+ *   aqfp_count       counts the fewest buffers of one net
+ *   aqfp_count_nets  counts the fewest buffers of each net of a list
+ *   aqfp_verify      judges any mapped netlist of a source
+ *   aqfp_evaluate    gives the plain logic of a source for one row of inputs
+ *   aqfp_run         runs a mapped netlist phase by phase over many rows
+ *   aqfp_step        runs a mapped netlist by one step
  *
  * C99 and C++. Link with the static library libaqfp.a.
  *
@@ -37,9 +38,10 @@
  * AREAS
  *
  * An area is a pointer and, after it, its length in bytes. It must have that length. An area that
- * a call may write (mapped of aqfp_map, values, state, outputs, answer) must share no byte with
- * any other area of that call; areas that are only read may overlap. No call can check either.
- * Alignment does not matter. An empty area may be a null pointer; see docs/INTEGRATION.md.
+ * a call may write (mapped of aqfp_map, counts, values, state, outputs, answer) must share no byte
+ * with any other area of that call; areas that are only read may overlap. No call can check
+ * either. Alignment does not matter. An empty area may be a null pointer; see
+ * docs/INTEGRATION.md.
  *
  * Any bytes and any numbers may be handed in: a call returns, and touches nothing but its areas.
  *
@@ -102,7 +104,12 @@
  *       19  a row byte above 1                                                    its position
  *                                                                                 in the rows
  *
- *       20  a record that is absent or an output                                  that index
+ *       21  records of odd length or of more than 65,535 indices, or counts not   0
+ *           exactly twice as many bytes
+ *
+ *       20  a record that is absent or an output;                                 that index;
+ *           for aqfp_count_nets the first such index of records                   its position
+ *                                                                                 in records
  *
  *
  * THREADS, MEMORY, STACK
@@ -149,6 +156,23 @@ uint32_t aqfp_count(const uint8_t *source, size_t source_len,
                     uint32_t capacity,
                     uint32_t record,
                     uint8_t answer[12]);
+
+/* Counts the fewest buffers of the nets of a list of drivers, each as aqfp_count does.
+ *
+ * In:       source; capacity; records, the drivers' indices, two bytes each, low byte first: at
+ *           most 65,535, in any order; an index may be listed again.
+ * Out:      counts, four bytes for each index, low byte first, in the order of records: the fewest
+ *           buffers of any legal tree of that net. 4294967295 says that the net has no tree; this
+ *           is no refusal.
+ * Answer:   number, place.
+ * Checks:   1 to 7, 21, 20 (place: the position in records, from 0).
+ * Refused:  counts stay as they were.
+ */
+uint32_t aqfp_count_nets(const uint8_t *source, size_t source_len,
+                         uint32_t capacity,
+                         const uint8_t *records, size_t records_len,
+                         uint8_t *counts, size_t counts_len,
+                         uint8_t answer[8]);
 
 /* Judges a mapped netlist, whoever wrote it: accepted exactly if it is legal for the source and
  * the capacity. Buffers may stand in any order, feed nothing, and stand above D.
