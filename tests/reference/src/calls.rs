@@ -1,11 +1,11 @@
-//! The six calls as a C host sees them: the numbers of the answer in the order of specification 4.
+//! The calls as a C host sees them: the numbers of the answer in the order of specification 4.
 
 use crate::net::{self, Count};
 use crate::refusal::Refusal;
 use crate::simulator::{self, Run};
 use crate::{mapper, verifier};
 
-/// What stands for "no tree" in the answer of the count.
+/// What stands for "no tree" in the answer of the count and in a list of counts.
 pub const NO_TREE: u32 = 4_294_967_295;
 
 /// An answer: number and place, then the accepted call's numbers or zeros.
@@ -28,6 +28,16 @@ pub fn count(source: &[u8], capacity: u32, record: u32) -> [u32; 3] {
         Count::NoTree => Ok([NO_TREE]),
         Count::Refused(refusal) => Err(refusal),
     })
+}
+
+pub fn count_nets(source: &[u8], capacity: u32, records: &[u8], counts: &mut [u8]) -> [u32; 2] {
+    answer(net::count_nets(source, capacity, records, counts.len()).map(|nets| {
+        for (four, net) in counts.chunks_exact_mut(4).zip(nets) {
+            let count = net.map_or(NO_TREE, |buffers| buffers as u32);
+            four.copy_from_slice(&count.to_le_bytes());
+        }
+        []
+    }))
 }
 
 pub fn verify(source: &[u8], capacity: u32, mapped: &[u8]) -> [u32; 3] {

@@ -1,4 +1,4 @@
-//! The six calls of include/aqfp.h over the plain implementation, for C hosts.
+//! The calls of include/aqfp.h over the plain implementation, for C hosts.
 //!
 //! Each area is a pointer and a length as the header says; a null pointer may stand for an empty
 //! area.
@@ -57,6 +57,24 @@ pub unsafe extern "C" fn aqfp_count(
     answer: *mut u8,
 ) -> u32 {
     give(&calls::count(lent(source, source_len), capacity, record), answer)
+}
+
+/// # Safety
+/// As the header says.
+#[no_mangle]
+pub unsafe extern "C" fn aqfp_count_nets(
+    source: *const u8,
+    source_len: usize,
+    capacity: u32,
+    records: *const u8,
+    records_len: usize,
+    counts: *mut u8,
+    counts_len: usize,
+    answer: *mut u8,
+) -> u32 {
+    let (source, records) = (lent(source, source_len), lent(records, records_len));
+    let counts = lent_mut(counts, counts_len);
+    give(&calls::count_nets(source, capacity, records, counts), answer)
 }
 
 /// # Safety

@@ -78,6 +78,7 @@ fn call(name: Name, subject: &Subject) -> Call {
         source: subject.source.clone(),
         capacity: subject.capacity,
         number: 0,
+        records: Vec::new(),
         mapped: Vec::new(),
         rows: Vec::new(),
         areas: Vec::new(),
@@ -106,6 +107,69 @@ pub fn count_call(random: &mut Random, subject: &Subject) -> Call {
         _ => random.below(n.max(1)),
     };
     Call { number: number as u32, ..call(Name::Count, subject) }
+}
+
+/// How many indices a list has: mostly few, now and then none, or as many as it may have or one
+/// more.
+fn listed_number(random: &mut Random, drivers: usize) -> usize {
+    match random.below(100) {
+        0 => MAX_LISTED + random.below(2),
+        1..=9 => 0,
+        _ => random.below(2 * drivers + 2),
+    }
+}
+
+/// An index that is no driver's: absent, also with a low byte that is a driver's, or an output's
+/// where there is one.
+fn no_driver(random: &mut Random, subject: &Subject) -> usize {
+    let n = subject.source.len() / WIDTH;
+    let outputs = indices_of(OUTPUT, &subject.records);
+    match random.below(5) {
+        0 => n,
+        1 => random.between(n, 65_535),
+        2 => 256 * random.between(n / 256 + 1, 255) + random.below(n.clamp(1, 256)),
+        _ if !outputs.is_empty() => random.pick(&outputs),
+        _ => 65_535,
+    }
+}
+
+/// Indices of drivers: all of them by rising index, all in any order, or any number of any of
+/// them; once in 6 times with one or two others among them.
+fn list(random: &mut Random, subject: &Subject) -> Vec<usize> {
+    let mut drivers: Vec<usize> =
+        (0..subject.records.len()).filter(|&k| subject.records[k].is_driver()).collect();
+    let number = listed_number(random, drivers.len());
+    let mut list = match random.below(6) {
+        0 => drivers,
+        1 => {
+            random.shuffle(&mut drivers);
+            drivers
+        }
+        _ if drivers.is_empty() => vec![0; number.min(2)],
+        _ => (0..number).map(|_| random.pick(&drivers)).collect(),
+    };
+    if random.one_in(6) && !list.is_empty() {
+        for _ in 0..random.between(1, 2) {
+            let at = random.below(list.len());
+            list[at] = no_driver(random, subject);
+        }
+    }
+    list
+}
+
+/// The counts of a list of nets; once in 16 times the list is a byte longer or shorter.
+pub fn count_nets_call(random: &mut Random, subject: &Subject) -> Call {
+    let list = list(random, subject);
+    let mut records: Vec<u8> = list.iter().flat_map(|&k| (k as u16).to_le_bytes()).collect();
+    match random.below(32) {
+        0 => records.push(random.byte()),
+        1 => {
+            records.pop();
+        }
+        _ => {}
+    }
+    let counts_len = length(random, 2 * records.len());
+    Call { areas: vec![random.bytes(counts_len)], records, ..call(Name::CountNets, subject) }
 }
 
 /// A mapped netlist for the subject: the mapper's or another legal one, damaged or not; the
@@ -215,6 +279,7 @@ pub fn any_call(random: &mut Random, subject: &Subject, name: Name) -> Call {
     match name {
         Name::Map => map_call(random, subject),
         Name::Count => count_call(random, subject),
+        Name::CountNets => count_nets_call(random, subject),
         Name::Verify => verify_call(random, subject),
         Name::Evaluate => evaluate_call(random, subject),
         Name::Run => run_call(random, subject, 6),
@@ -301,7 +366,7 @@ pub fn calls_by_seed(seed: u64, index: u64) -> Vec<Call> {
     let mut calls = Vec::new();
     for name in NAMES {
         calls.push(any_call(&mut random, &subject, name));
-        if matches!(name, Name::Count | Name::Verify) {
+        if matches!(name, Name::Count | Name::CountNets | Name::Verify) {
             calls.push(any_call(&mut random, &subject, name));
         }
     }

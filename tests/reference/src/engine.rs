@@ -1,4 +1,4 @@
-//! The six calls behind one table of functions, so that implementations can be held side by side.
+//! The calls behind one table of functions, so that implementations can be held side by side.
 
 use crate::simulator::Run;
 use crate::{calls, fast};
@@ -7,6 +7,7 @@ use crate::{calls, fast};
 pub struct Engine {
     pub map: fn(&[u8], u32, &mut [u8]) -> [u32; 7],
     pub count: fn(&[u8], u32, u32) -> [u32; 3],
+    pub count_nets: fn(&[u8], u32, &[u8], &mut [u8]) -> [u32; 2],
     pub verify: fn(&[u8], u32, &[u8]) -> [u32; 3],
     pub evaluate: fn(&[u8], &[u8], &mut [u8]) -> [u32; 2],
     pub run: fn(&[u8], u32, &[u8], Run) -> [u32; 2],
@@ -16,6 +17,7 @@ pub struct Engine {
 pub const PLAIN: Engine = Engine {
     map: calls::map,
     count: calls::count,
+    count_nets: calls::count_nets,
     verify: calls::verify,
     evaluate: calls::evaluate,
     run: calls::run,
@@ -25,6 +27,7 @@ pub const PLAIN: Engine = Engine {
 pub const FAST: Engine = Engine {
     map: fast::map,
     count: fast::count,
+    count_nets: fast::count_nets,
     verify: fast::verify,
     evaluate: fast::evaluate,
     run: fast::run,
@@ -35,14 +38,30 @@ pub const FAST: Engine = Engine {
 pub enum Name {
     Map,
     Count,
+    CountNets,
     Verify,
     Evaluate,
     Run,
     Step,
 }
 
-pub const NAMES: [Name; 6] =
-    [Name::Map, Name::Count, Name::Verify, Name::Evaluate, Name::Run, Name::Step];
+pub const NAMES: [Name; 7] =
+    [Name::Map, Name::Count, Name::CountNets, Name::Verify, Name::Evaluate, Name::Run, Name::Step];
+
+impl Name {
+    /// The name in words.
+    pub fn words(self) -> &'static str {
+        match self {
+            Name::Map => "map",
+            Name::Count => "count",
+            Name::CountNets => "count nets",
+            Name::Verify => "verify",
+            Name::Evaluate => "evaluate",
+            Name::Run => "run",
+            Name::Step => "step",
+        }
+    }
+}
 
 /// One call with all that goes in. What a call does not take is empty or 0.
 #[derive(Clone, Debug)]
@@ -52,6 +71,8 @@ pub struct Call {
     pub capacity: u32,
     /// The count's record, or the run's number of rows.
     pub number: u32,
+    /// The list of record indices.
+    pub records: Vec<u8>,
     pub mapped: Vec<u8>,
     pub rows: Vec<u8>,
     /// The areas that the call may write, as they are before it, in the order of the interface.
@@ -72,6 +93,9 @@ pub fn perform(engine: &Engine, call: &Call) -> Outcome {
     let answer = match call.name {
         Name::Map => (engine.map)(source, capacity, &mut areas[0]).to_vec(),
         Name::Count => (engine.count)(source, capacity, call.number).to_vec(),
+        Name::CountNets => {
+            (engine.count_nets)(source, capacity, &call.records, &mut areas[0]).to_vec()
+        }
         Name::Verify => (engine.verify)(source, capacity, mapped).to_vec(),
         Name::Evaluate => (engine.evaluate)(source, &call.rows, &mut areas[0]).to_vec(),
         Name::Run => {

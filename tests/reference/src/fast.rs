@@ -380,6 +380,65 @@ pub fn count(source: &[u8], capacity: u32, record: u32) -> [u32; 3] {
     answer.unwrap_or_else(refused)
 }
 
+/// The fewest buffers of every driver's net, 'no tree' where there is none.
+fn count_each<const S: usize>(source: &[Bytes], sinks: &Sinks, counted: &mut [u32]) {
+    let mut row = [0; LEVELS];
+    for (driver, count) in counted.iter_mut().enumerate() {
+        if sinks.first[driver] == NONE {
+            continue;
+        }
+        if let Some((_, distance)) = only_sink(source, sinks, driver) {
+            *count = distance as u32 - 1;
+            continue;
+        }
+        let largest = fill_row(source, sinks, driver, &mut row);
+        *count = walk_row::<S>(&mut row, largest).unwrap_or(NO_TREE);
+    }
+}
+
+fn count_nets_checked<const S: usize>(
+    source: &[u8],
+    records: &[u8],
+    counts: &mut [u8],
+) -> Result<[u32; 2], Refused> {
+    let (source, _) = check_source(source)?;
+    let n = source.len();
+    let (records, rest) = records.as_chunks::<2>();
+    let (counts, beyond) = counts.as_chunks_mut::<4>();
+    let whole = rest.is_empty() && beyond.is_empty();
+    if !whole || records.len() > MAX_LISTED || counts.len() != records.len() {
+        return Err((21, 0));
+    }
+    for (position, &two) in records.iter().enumerate() {
+        let index = usize::from(u16::from_le_bytes(two));
+        if source.get(index).is_none_or(|r| r[0] == OUTPUT) {
+            return Err((20, position as u32));
+        }
+    }
+    let mut first = Local::<u16, MAX_SOURCE>::new();
+    let mut next = Local::<u16, SLOT_NUMBERS>::new();
+    let lists = Sinks { first: first.first(n, NONE), next: next.first(4 * n, NONE) };
+    let sinks = lists.fill(source);
+    let mut counted = Local::<u32, MAX_SOURCE>::new();
+    let counted = counted.first(n, 0);
+    count_each::<S>(source, &sinks, counted);
+    for (four, &two) in counts.iter_mut().zip(records) {
+        *four = counted[usize::from(u16::from_le_bytes(two))].to_le_bytes();
+    }
+    Ok([0, 0])
+}
+
+#[inline(never)]
+pub fn count_nets(source: &[u8], capacity: u32, records: &[u8], counts: &mut [u8]) -> [u32; 2] {
+    let answer = match capacity {
+        2 => count_nets_checked::<2>(source, records, counts),
+        3 => count_nets_checked::<3>(source, records, counts),
+        4 => count_nets_checked::<4>(source, records, counts),
+        _ => Err((1, 0)),
+    };
+    answer.unwrap_or_else(refused)
+}
+
 /// Checks 14 and 15 of a record that uses U slots, each slot counted at the record it names.
 #[inline(always)]
 fn check_fanins<const U: usize>(

@@ -1,4 +1,4 @@
-//! The six calls of include/aqfp.h, imported from the static library.
+//! The calls of include/aqfp.h, imported from the static library.
 
 use crate::engine::Engine;
 use crate::simulator::Run;
@@ -17,6 +17,16 @@ extern "C" {
         source_len: usize,
         capacity: u32,
         record: u32,
+        answer: *mut u8,
+    ) -> u32;
+    fn aqfp_count_nets(
+        source: *const u8,
+        source_len: usize,
+        capacity: u32,
+        records: *const u8,
+        records_len: usize,
+        counts: *mut u8,
+        counts_len: usize,
         answer: *mut u8,
     ) -> u32;
     fn aqfp_verify(
@@ -101,6 +111,23 @@ fn count(source: &[u8], capacity: u32, record: u32) -> [u32; 3] {
     numbers(&answer, returned)
 }
 
+fn count_nets(source: &[u8], capacity: u32, records: &[u8], counts: &mut [u8]) -> [u32; 2] {
+    let mut answer = [0xA5; 8];
+    let returned = unsafe {
+        aqfp_count_nets(
+            source.as_ptr(),
+            source.len(),
+            capacity,
+            records.as_ptr(),
+            records.len(),
+            counts.as_mut_ptr(),
+            counts.len(),
+            answer.as_mut_ptr(),
+        )
+    };
+    numbers(&answer, returned)
+}
+
 fn verify(source: &[u8], capacity: u32, mapped: &[u8]) -> [u32; 3] {
     let mut answer = [0xA5; 12];
     let returned = unsafe {
@@ -173,4 +200,4 @@ fn step(source: &[u8], capacity: u32, mapped: &[u8], row: &[u8], state: &mut [u8
     numbers(&answer, returned)
 }
 
-pub const LINKED: Engine = Engine { map, count, verify, evaluate, run, step };
+pub const LINKED: Engine = Engine { map, count, count_nets, verify, evaluate, run, step };

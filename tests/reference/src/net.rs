@@ -1,4 +1,7 @@
-//! Specification 2.1, 2.4: the net of one driver and its fewest buffers.
+//! Specification 2.1, 2.4: the net of one driver and its fewest buffers; the count of one net and
+//! of a list of nets.
+
+use std::collections::BTreeMap;
 
 use crate::record::*;
 use crate::refusal::{refuse, Refusal};
@@ -94,8 +97,42 @@ fn count_or_refuse(bytes: &[u8], capacity: u32, record: u32) -> Result<Option<us
     let s = check_capacity(capacity)?;
     let source = check_source(bytes)?;
     let driver = record as usize;
-    if driver >= source.len() || !source[driver].is_driver() {
+    if !names_driver(&source, driver) {
         return refuse(20, driver);
     }
     Ok(fewest(&distances(&source, driver), s))
+}
+
+/// Whether an index is neither absent nor an output's.
+fn names_driver(source: &[Record], index: usize) -> bool {
+    index < source.len() && source[index].is_driver()
+}
+
+/// The indices that a list holds, two bytes each.
+fn listed(list: &[u8]) -> Vec<usize> {
+    list.chunks_exact(2).map(|two| u16::from_le_bytes([two[0], two[1]]).into()).collect()
+}
+
+/// The fewest buffers of each net of a list, nothing where there is no tree: checks 1 to 7, then
+/// 21, then 20 at a position of the list.
+pub fn count_nets(
+    bytes: &[u8],
+    capacity: u32,
+    list: &[u8],
+    counts_len: usize,
+) -> Result<Vec<Option<usize>>, Refusal> {
+    let s = check_capacity(capacity)?;
+    let source = check_source(bytes)?;
+    let odd = list.len() % 2 == 1;
+    if odd || list.len() / 2 > MAX_LISTED || counts_len != 2 * list.len() {
+        return refuse(21, 0);
+    }
+    let drivers = listed(list);
+    if let Some(position) = drivers.iter().position(|&k| !names_driver(&source, k)) {
+        return refuse(20, position);
+    }
+    let mut counted = BTreeMap::new();
+    let mut count =
+        |k: usize| *counted.entry(k).or_insert_with(|| fewest(&distances(&source, k), s));
+    Ok(drivers.iter().map(|&k| count(k)).collect())
 }

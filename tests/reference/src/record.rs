@@ -6,6 +6,8 @@ pub const MAX_SOURCE: usize = 4096;
 pub const MAX_MAPPED: usize = 60_000;
 pub const MAX_LEVEL: u16 = 4095;
 pub const MAX_ROWS: usize = 10_000;
+/// The most indices of a list of records.
+pub const MAX_LISTED: usize = 65_535;
 /// What an unused slot holds.
 pub const UNUSED: u16 = 65_535;
 

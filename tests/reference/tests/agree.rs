@@ -2,9 +2,9 @@
 
 use std::collections::BTreeMap;
 
-use reference::calls::{map, verify};
+use reference::calls::{answer_bytes, count, map, verify, NO_TREE};
 use reference::cases::{any_call, crowded_call, damaged, limit, sound};
-use reference::engine::{perform, FAST, NAMES, PLAIN};
+use reference::engine::{perform, Name, Outcome, FAST, NAMES, PLAIN};
 use reference::generator::{above_depth, foreign, source, Levels};
 use reference::random::Random;
 use reference::record::encode;
@@ -27,7 +27,7 @@ fn fast_is_plain() {
             *met.entry(plain.answer[0]).or_default() += 1;
         }
     }
-    let missing: Vec<u32> = (0..=20).filter(|number| !met.contains_key(number)).collect();
+    let missing: Vec<u32> = (0..=21).filter(|number| !met.contains_key(number)).collect();
     assert_eq!(missing, [3, 9], "met: {met:?}");
 }
 
@@ -41,6 +41,37 @@ fn fast_is_plain_at_the_limits() {
             assert_eq!(perform(&FAST, &call), perform(&PLAIN, &call), "seed 8, index {index}");
         }
     }
+}
+
+/// Each count of a list is the count of one net; a refusal before 20 is the same for both.
+#[test]
+fn listed_counts_are_single_counts() {
+    let (mut compared, mut treeless) = (0, 0);
+    for index in 0..2000 {
+        let mut random = Random::of(11, index);
+        let subject = sound(&mut random, 40);
+        let subject = damaged(&mut random, subject);
+        let call = any_call(&mut random, &subject, Name::CountNets);
+        let Outcome { answer, areas } = perform(&PLAIN, &call);
+        if (1..=7).contains(&answer[0]) {
+            assert_eq!(
+                count(&call.source, call.capacity, 0)[..2],
+                answer,
+                "seed 11, index {index}"
+            );
+        }
+        if answer[0] > 0 {
+            continue;
+        }
+        for (four, two) in areas[0].chunks(4).zip(call.records.chunks(2)).take(200) {
+            let record = u32::from(two[0]) + 256 * u32::from(two[1]);
+            let single = count(&call.source, call.capacity, record);
+            assert_eq!(answer_bytes(&single[2..]), four, "seed 11, index {index}");
+            compared += 1;
+            treeless += usize::from(single[2] == NO_TREE);
+        }
+    }
+    assert!(compared > 5_000 && treeless > 500, "{compared} compared, {treeless} without a tree");
 }
 
 #[test]

@@ -1,6 +1,7 @@
 //! The worked cases (specification 8).
 
-use reference::calls::{count, evaluate, map, run, step, verify, NO_TREE};
+use reference::calls::{answer_bytes, count, evaluate, map, run, step, verify, NO_TREE};
+use reference::engine::{Engine, FAST, PLAIN};
 use reference::net::{fewest, fewest_by_formula};
 use reference::record::{encode, Record};
 use reference::search::fewest_of_all_trees;
@@ -45,7 +46,62 @@ fn nets_by_every_way_to_count() {
         let source = encode(&shapes::net(distances));
         let number = expected.map_or(NO_TREE, |buffers| buffers as u32);
         assert_eq!(count(&source, s as u32, 0), [0, 0, number], "{s} {distances:?}");
+        hold_counts(&source, s as u32, &[0, 1, 0], &[number; 3]);
     }
+}
+
+fn indices(list: &[u16]) -> Vec<u8> {
+    list.iter().flat_map(|index| index.to_le_bytes()).collect()
+}
+
+/// Answer and counts of a list, over an area that is filled before.
+fn listed(engine: &Engine, source: &[u8], s: u32, list: &[u8], len: usize) -> ([u32; 2], Vec<u8>) {
+    let mut counts = vec![0xA5; len];
+    ((engine.count_nets)(source, s, list, &mut counts), counts)
+}
+
+fn hold_counts(source: &[u8], s: u32, list: &[u16], counts: &[u32]) {
+    for engine in [PLAIN, FAST] {
+        let found = listed(&engine, source, s, &indices(list), 4 * list.len());
+        assert_eq!(found, ([0, 0], answer_bytes(counts)), "{s} {list:?}");
+    }
+}
+
+fn hold_refusal(source: &[u8], s: u32, list: &[u8], len: usize, refusal: [u32; 2]) {
+    for engine in [PLAIN, FAST] {
+        assert_eq!(listed(&engine, source, s, list, len), (refusal, vec![0xA5; len]));
+    }
+}
+
+#[test]
+fn listed_counts_of_the_case() {
+    hold_counts(&worked(), 2, &[0, 1, 2], &[2, 1, 0]);
+    hold_counts(&worked(), 2, &[2, 0, 0, 1, 0], &[0, 2, 2, 1, 2]);
+    hold_counts(&worked(), 2, &[], &[]);
+    hold_counts(&[], 2, &[], &[]);
+    hold_counts(&worked(), 3, &[1; 65_535], &[1; 65_535]);
+    let far = encode(&shapes::lines(300, 4095));
+    hold_counts(&far, 2, &[299, 0, 43], &[4094; 3]);
+}
+
+#[test]
+fn listed_counts_refused() {
+    let worked = worked();
+    hold_refusal(&worked, 5, &indices(&[9]), 3, [1, 0]);
+    hold_refusal(&worked[1..], 2, &indices(&[9]), 3, [2, 0]);
+    for (len, counts) in [(1, 2), (1, 0), (3, 6), (3, 4), (2, 3), (2, 5), (2, 8), (2, 0), (0, 4)] {
+        hold_refusal(&worked, 2, &indices(&[0, 9])[..len], counts, [21, 0]);
+    }
+    hold_refusal(&worked, 2, &[0; 131_072], 262_144, [21, 0]);
+    hold_refusal(&worked, 2, &[0; 131_071], 262_142, [21, 0]);
+    hold_refusal(&worked, 2, &indices(&[9, 0]), 7, [21, 0]);
+    for absent in [3, 4, 5, 256, 4096, 65_535] {
+        hold_refusal(&worked, 2, &indices(&[2, 1, absent, 5]), 16, [20, 2]);
+    }
+    let mut longest = [0; 131_070];
+    longest[131_068] = 3;
+    hold_refusal(&worked, 2, &longest, 262_140, [20, 65_534]);
+    hold_refusal(&[], 2, &indices(&[0]), 4, [20, 0]);
 }
 
 #[test]

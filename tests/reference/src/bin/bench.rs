@@ -41,6 +41,11 @@ struct Subject {
     driver: u32,
 }
 
+/// Record indices as a call takes them, two bytes each.
+fn indices(records: &[usize]) -> Vec<u8> {
+    records.iter().flat_map(|&k| (k as u16).to_le_bytes()).collect()
+}
+
 impl Subject {
     fn new(shape: &'static str, records: &[Record], driver: u32) -> Subject {
         Subject::of_capacity(S, shape, records, driver)
@@ -66,10 +71,12 @@ impl Subject {
         let records = decode(&self.source);
         let inputs = number_of(INPUT, &records);
         let outputs = number_of(OUTPUT, &records);
+        let drivers: Vec<usize> = (0..records.len()).filter(|&k| records[k].is_driver()).collect();
         let mut random = Random::new(SEED);
         let rows = if name == Name::Run { RUN_ROWS } else { 1 };
         let areas = match name {
             Name::Map => vec![vec![0; WIDTH * MAX_MAPPED]],
+            Name::CountNets => vec![vec![0; 4 * drivers.len()]],
             Name::Evaluate => vec![vec![0; self.n()]],
             Name::Run => vec![vec![0; 2 * self.m()], vec![0; rows * outputs]],
             Name::Step => vec![vec![0; 2 * self.m()]],
@@ -80,6 +87,7 @@ impl Subject {
             source: self.source.clone(),
             capacity: self.capacity,
             number: if name == Name::Count { self.driver } else { rows as u32 },
+            records: indices(&drivers),
             mapped: self.mapped.clone(),
             rows: random.bits(rows * inputs),
             areas,
@@ -99,6 +107,10 @@ fn make(engine: &Engine, call: &mut Call) {
         }
         Name::Count => {
             black_box((engine.count)(source, capacity, number));
+        }
+        Name::CountNets => {
+            let records = black_box(&call.records[..]);
+            black_box((engine.count_nets)(source, capacity, records, &mut areas[0]));
         }
         Name::Verify => {
             black_box((engine.verify)(source, capacity, mapped));
@@ -189,10 +201,6 @@ fn calls_of(subjects: &[Subject], name: Name) -> Vec<Call> {
     subjects.iter().map(|subject| subject.call(name)).collect()
 }
 
-fn label(name: Name) -> String {
-    format!("{name:?}").to_lowercase()
-}
-
 /// Compares both answers and all written areas.
 fn compare(call: &Call, shape: &str) -> Vec<u32> {
     let name = call.name;
@@ -215,7 +223,7 @@ fn print_row(subjects: &[Subject], name: Name) -> f64 {
         Side::First => time_of(&LINKED, &mut calls, rounds),
         Side::Second => time_of(&FAST, &mut calls, rounds),
     });
-    let label = label(name);
+    let label = name.words();
     println!("| {label} | {shape} | {n} | {m} | {first:.2} | {second:.2} | {ratio:.2} |");
     first
 }
@@ -229,7 +237,7 @@ fn print_growth(small: &[Subject], large: &[Subject], name: Name) {
         Side::First => time_of(&LINKED, &mut many, rounds),
         Side::Second => time_of(&LINKED, &mut few, more),
     });
-    println!("| {} | {} | {second:.2} | {first:.2} | {ratio:.2} |", label(name), small[0].shape);
+    println!("| {} | {} | {second:.2} | {first:.2} | {ratio:.2} |", name.words(), small[0].shape);
 }
 
 /// One row of the third table: our time on a source that is refused over that on an accepted one.
@@ -299,7 +307,7 @@ fn main() {
             map(&shapes[shape]);
         }
     }
-    for name in [Name::Verify, Name::Count] {
+    for name in [Name::Verify, Name::Count, Name::CountNets] {
         for shape in 0..3 {
             for shapes in &all {
                 print_row(&shapes[shape], name);
@@ -333,7 +341,7 @@ fn main() {
     println!("| call | shape | N = 512, us | N = 4096, us | growth |");
     println!("|---|---|---|---|---|");
     let (small, large) = (&all[0], &all[SIZES.len() - 1]);
-    for name in [Name::Map, Name::Verify, Name::Count] {
+    for name in [Name::Map, Name::Verify, Name::Count, Name::CountNets] {
         for (small, large) in small.iter().zip(large) {
             print_growth(small, large, name);
         }

@@ -25,6 +25,7 @@ fn hex(bytes: &[u8]) -> String {
 fn show_call(call: &Call) {
     eprintln!("  source {}", hex(&call.source));
     eprintln!("  capacity {}, record or row count {}", call.capacity, call.number);
+    eprintln!("  records {}", hex(&call.records));
     eprintln!("  mapped {}", hex(&call.mapped));
     eprintln!("  rows {}", hex(&call.rows));
     for area in &call.areas {
@@ -58,13 +59,14 @@ impl Tally {
     }
 
     fn print(&self, netlists: u64, seed: u64) {
-        let calls: Vec<String> =
-            (NAMES.iter()).map(|&name| format!("{name:?} {}", self.calls[name as usize])).collect();
+        let calls: Vec<String> = (NAMES.iter())
+            .map(|&name| format!("{} {}", name.words(), self.calls[name as usize]))
+            .collect();
         let refused: Vec<String> =
             self.refused.iter().map(|(number, met)| format!("{number}:{met}")).collect();
         println!(
             "{netlists} netlists of seed {seed}: {}; accepted {}; refused {}; no difference",
-            calls.join(", ").to_lowercase(),
+            calls.join(", "),
             self.accepted,
             refused.join(" ")
         );

@@ -134,6 +134,7 @@ fn call_case(call: &Call) -> Case {
             fields.push(answer_bytes(&[call.capacity, call.areas[0].len() as u32]));
         }
         Name::Count => fields.push(numbers),
+        Name::CountNets => fields.extend([capacity, call.records.clone()]),
         Name::Verify => fields.extend([capacity, call.mapped.clone()]),
         Name::Evaluate => fields.push(call.rows.clone()),
         Name::Run => fields.extend([numbers, call.mapped.clone(), call.rows.clone()]),
@@ -184,6 +185,7 @@ fn bare(name: Name, source: &[Record], capacity: u32) -> Call {
         source: encode(source),
         capacity,
         number: 0,
+        records: Vec::new(),
         mapped: Vec::new(),
         rows: Vec::new(),
         areas: Vec::new(),
