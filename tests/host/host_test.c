@@ -18,7 +18,7 @@
 
 enum {
     RECORD = 10, SLOTS = 3, MAX_SOURCE = 4096, MAX_MAPPED = 60000, MAX_LEVEL = 4095, UNUSED = 65535,
-    MAX_ROWS = 10000
+    MAX_ROWS = 10000, MAX_LISTED = 65535
 };
 enum { INPUT, AND, OR, MAJ, OUTPUT, BUFFER };
 
@@ -79,6 +79,7 @@ struct area {
 };
 
 static struct area source_area, mapped_area, rows_area, state_area, outputs_area, answer_area;
+static struct area records_area, counts_area;
 
 static void make_block(struct area *area)
 {
@@ -161,6 +162,12 @@ static uint8_t *lend_answer(size_t len)
     return lend(&answer_area, filled, len);
 }
 
+/* The number in four bytes, low byte first. */
+static uint32_t number_at(const uint8_t *at)
+{
+    return (uint32_t)at[0] | (uint32_t)at[1] << 8 | (uint32_t)at[2] << 16 | (uint32_t)at[3] << 24;
+}
+
 /* Reads the answer and holds what must hold after every call. */
 static void settle(const char *call, uint32_t returned, struct area *const *read,
                    struct area *const *written)
@@ -169,11 +176,8 @@ static void settle(const char *call, uint32_t returned, struct area *const *read
     int kept = 1, zeros = 1;
     char what[80];
     memset(answer, 0, sizeof answer);
-    for (k = 0; k < numbers; k++) {
-        const uint8_t *at = answer_area.at + 4 * k;
-        answer[k] = (uint32_t)at[0] | (uint32_t)at[1] << 8 | (uint32_t)at[2] << 16
-                    | (uint32_t)at[3] << 24;
-    }
+    for (k = 0; k < numbers; k++)
+        answer[k] = number_at(answer_area.at + 4 * k);
     for (; *read != NULL; read++)
         kept = kept && unchanged(*read);
     for (; *written != NULL; written++)
@@ -217,6 +221,19 @@ static void do_count(struct bytes source, uint32_t capacity, uint32_t record)
     const uint8_t *s = lend(&source_area, source.at, source.len);
     uint32_t returned = aqfp_count(s, source.len, capacity, record, lend_answer(12));
     settle("aqfp_count", returned, read, written);
+}
+
+static void do_count_nets(struct bytes source, uint32_t capacity, struct bytes records,
+                          struct bytes counts)
+{
+    static struct area *const read[] = { &source_area, &records_area, NULL };
+    static struct area *const written[] = { &counts_area, NULL };
+    const uint8_t *s = lend(&source_area, source.at, source.len);
+    const uint8_t *r = lend(&records_area, records.at, records.len);
+    uint8_t *c = lend(&counts_area, counts.at, counts.len);
+    uint32_t returned = aqfp_count_nets(s, source.len, capacity, r, records.len, c, counts.len,
+                                        lend_answer(8));
+    settle("aqfp_count_nets", returned, read, written);
 }
 
 static void do_verify(struct bytes source, uint32_t capacity, struct bytes mapped)
@@ -331,6 +348,15 @@ static void add_and(unsigned level, unsigned a, unsigned b)
     add(AND, 0, level, a, b, UNUSED);
 }
 
+/* A source of an input, and one record more. */
+static void two_records(unsigned kind, unsigned inversion, unsigned level, unsigned a, unsigned b,
+                        unsigned c)
+{
+    clear();
+    add_input();
+    add(kind, inversion, level, a, b, c);
+}
+
 static struct bytes made(void)
 {
     return part(netlist, netlist_len);
@@ -359,6 +385,59 @@ static size_t number_of(unsigned kind, struct bytes records)
         found += records.at[RECORD * k] == kind;
     return found;
 }
+
+/* ---- lists of record indices ---- */
+
+static uint8_t list[2 * (MAX_LISTED + 2)];
+static size_t list_len;
+
+static void list_add(unsigned index)
+{
+    list[list_len++] = (uint8_t)index;
+    list[list_len++] = (uint8_t)(index >> 8);
+}
+
+static void list_set(size_t position, unsigned index)
+{
+    list[2 * position] = (uint8_t)index;
+    list[2 * position + 1] = (uint8_t)(index >> 8);
+}
+
+/* All drivers of a source, from the last to the first. */
+static void list_drivers(struct bytes source)
+{
+    size_t k;
+    list_len = 0;
+    for (k = source.len / RECORD; k-- > 0;)
+        if (source.at[RECORD * k] != OUTPUT)
+            list_add((unsigned)k);
+}
+
+/* The counts of the list, with an area that fits. */
+static void do_listed(struct bytes source, uint32_t capacity)
+{
+    do_count_nets(source, capacity, part(list, list_len), fill(2 * list_len));
+}
+
+/* The count at a position, after the call. */
+static uint32_t listed(size_t position)
+{
+    return number_at(counts_area.at + 4 * position);
+}
+
+/* Each count of the list is the third number of aqfp_count. */
+static void hold_listed(struct bytes source, uint32_t capacity)
+{
+    size_t k;
+    do_listed(source, capacity);
+    check(answered(0, 0), "a list of drivers");
+    for (k = 0; k < list_len / 2; k++) {
+        do_count(source, capacity, field(list + 2 * k));
+        check(accepted(listed(k)), "a count of a list is that of one net");
+    }
+}
+
+/* ---- the worked case ---- */
 
 /* The worked case (specification 8.2) and what the mapper writes for it with capacity 2. */
 static uint8_t worked_source[5 * RECORD], worked_mapped[8 * RECORD];
@@ -477,6 +556,12 @@ static void test_count_worked(void)
         make_net(nets[k].distances, nets[k].count);
         do_count(made(), nets[k].s, 0);
         check(accepted(nets[k].fewest), "the count of the net");
+        list_len = 0;
+        list_add(1);
+        list_add(0);
+        do_listed(made(), nets[k].s);
+        check(answered(0, 0) && listed(0) == nets[k].fewest && listed(1) == nets[k].fewest,
+              "a list of both inputs, whose nets are alike");
         do_map(made(), nets[k].s, fill(2000));
         if (nets[k].fewest == NO_TREE)
             check(answered(8, 0), "the mapper gives 8 where there is no tree");
@@ -519,6 +604,97 @@ static void test_count_limits(void)
         put_record(netlist + RECORD * k, MAJ, 0, 14, 0, 0, 0);
     do_count(made(), 2, 0);
     check(accepted(NO_TREE), "12,285 sinks at distance 14 with capacity 2");
+    end();
+}
+
+/* Every list of up to four drivers of the worked case, whose nets take 2, 1 and 0 buffers. */
+static void test_lists_worked(void)
+{
+    size_t length, lists = 1, code, rest, k;
+    begin("aqfp_count_nets, the worked case");
+    for (length = 0; length <= 4; length++, lists *= 3)
+        for (code = 0; code < lists; code++) {
+            list_len = 0;
+            for (k = 0, rest = code; k < length; k++, rest /= 3)
+                list_add(rest % 3);
+            hold_listed(worked, 2);
+            for (k = 0; k < length; k++)
+                check(listed(k) == 2 - field(list + 2 * k), "the counts of the list");
+        }
+    list_len = 0;
+    do_listed(fill(0), 2);
+    check(answered(0, 0), "an empty list, an empty source");
+    end();
+}
+
+/* Inputs and as many gates: a gate names input k twice, k + 2 levels above it, and k + 1 buffers
+ * lead to it. */
+static void make_ladder(unsigned inputs)
+{
+    unsigned k;
+    clear();
+    for (k = 0; k < inputs; k++)
+        add_input();
+    for (k = 0; k < inputs; k++)
+        add_and(k + 2, k, k);
+}
+
+/* The longest list: every driver of the ladder, many times, in no order. */
+static void make_longest(void)
+{
+    unsigned k;
+    list_len = 0;
+    for (k = 0; k < MAX_LISTED; k++)
+        list_add(k * 1237u % MAX_SOURCE);
+}
+
+static void test_list_limits(void)
+{
+    size_t k;
+    uint32_t s;
+    begin("aqfp_count_nets, limits");
+    make_ladder(MAX_SOURCE / 2);
+    make_longest();
+    for (s = 2; s <= 4; s++) {
+        do_listed(made(), s);
+        check(answered(0, 0), "65,535 indices");
+        for (k = 0; k < MAX_LISTED; k++) {
+            unsigned driver = field(list + 2 * k);
+            check(listed(k) == (driver < MAX_SOURCE / 2 ? driver + 1 : 0), "each of 65,535 counts");
+        }
+    }
+    for (k = 0; k < MAX_LISTED; k++)
+        list_set(k, 300);
+    do_listed(made(), 2);
+    for (k = 0; k < MAX_LISTED; k++)
+        check(answered(0, 0) && listed(k) == 301, "one driver listed 65,535 times");
+    list_drivers(made());
+    hold_listed(made(), 3);
+    /* Two sinks at distance 1; 15 sinks at distance 4,095, which the mapper refuses by 9. */
+    two_records(AND, 0, 1, 0, 0, UNUSED);
+    for (k = 0; k < 15; k++)
+        add_input();
+    for (k = 0; k < 15; k++)
+        add_one(OUTPUT, MAX_LEVEL, 2 + (unsigned)k);
+    list_drivers(made());
+    list_add(0);
+    for (s = 2; s <= 4; s++) {
+        hold_listed(made(), s);
+        do_listed(made(), s);
+        check(answered(0, 0) && listed(17) == NO_TREE && listed(16) == NO_TREE,
+              "a net without a tree gives 4,294,967,295");
+        check(listed(0) == MAX_LEVEL - 1 && listed(14) == MAX_LEVEL - 1 && listed(15) == 0,
+              "nets around it are counted; 8 and 9 are not checked");
+    }
+    clear();
+    add_input();
+    for (k = 1; k < MAX_SOURCE; k++)
+        add(MAJ, 0, 15, 0, 0, 0);
+    list_drivers(made());
+    do_listed(made(), 2);
+    check(answered(0, 0) && listed(MAX_SOURCE - 1) == 12287, "12,285 sinks at distance 15");
+    for (k = 0; k < MAX_SOURCE - 1; k++)
+        check(listed(k) == 0, "drivers without sinks");
     end();
 }
 
@@ -599,6 +775,12 @@ static void refused_everywhere(struct bytes source, uint32_t number, uint32_t pl
     check(answered(number, place), what);
     do_count(source, 3, 0);
     check(answered(number, place), what);
+    do_count_nets(source, 2, fill(0), fill(0));
+    check(answered(number, place), what);
+    do_count_nets(source, 3, fill(3), fill(5)); /* also fails 21, which comes later */
+    check(answered(number, place), what);
+    do_count_nets(source, 4, fill(2), fill(4)); /* also fails 20 */
+    check(answered(number, place), what);
     do_verify(source, 4, source);
     check(answered(number, place), what);
     do_evaluate(source, fill(1), fill(2));
@@ -623,6 +805,12 @@ static void test_capacities(void)
             check(answered(1, 0), "aqfp_map");
             do_count(source[j], bad[k], 0);
             check(answered(1, 0), "aqfp_count");
+            do_count_nets(source[j], bad[k], fill(0), fill(0));
+            check(answered(1, 0), "aqfp_count_nets");
+            do_count_nets(source[j], bad[k], fill(3), fill(5));
+            check(answered(1, 0), "aqfp_count_nets, before 21");
+            do_count_nets(source[j], bad[k], fill(2), fill(4));
+            check(answered(1, 0), "aqfp_count_nets, before 20");
             do_verify(source[j], bad[k], worked_out);
             check(answered(1, 0), "aqfp_verify");
             do_run(source[j], bad[k], worked_out, 0, fill(0), fill(16), fill(0));
@@ -654,15 +842,6 @@ static void test_source_lengths(void)
     check(answered(0, 0) && answer[2] == MAX_SOURCE, "4,096 records are accepted");
     check(memcmp(mapped_area.at, netlist, netlist_len) == 0, "4,096 inputs map to themselves");
     end();
-}
-
-/* A source of an input, and one record more. */
-static void two_records(unsigned kind, unsigned inversion, unsigned level, unsigned a, unsigned b,
-                        unsigned c)
-{
-    clear();
-    add_input();
-    add(kind, inversion, level, a, b, c);
 }
 
 static void test_source_records(void)
@@ -814,6 +993,102 @@ static void test_count_record(void)
     do_count(worked, 2, 2);
     check(accepted(0), "a gate");
     do_count(fill(0), 2, 0);
+    check(answered(20, 0), "an empty source has no record 0");
+    end();
+}
+
+/* The list with lengths of its own, on the ladder. */
+static void list_refused(size_t records_len, size_t counts_len, const char *what)
+{
+    do_count_nets(made(), 2, part(list, records_len), fill(counts_len));
+    check(answered(21, 0), what);
+}
+
+static void test_list_lengths(void)
+{
+    static const unsigned driver[2] = { 1, 9 }; /* 9 is absent from the worked case */
+    size_t k, records_len, counts_len;
+    begin("refusal 21");
+    for (k = 0; k < 2; k++) {
+        list_len = 0;
+        while (list_len < 10)
+            list_add(driver[k]);
+        for (records_len = 0; records_len <= 9; records_len++)
+            for (counts_len = 0; counts_len <= 24; counts_len++) {
+                do_count_nets(worked, 2, part(list, records_len), fill(counts_len));
+                if (records_len % 2 != 0 || counts_len != 2 * records_len)
+                    check(answered(21, 0), "odd, or counts not twice as long; before 20");
+                else
+                    check(answered(records_len == 0 || k == 0 ? 0 : 20, 0), "lengths that fit");
+            }
+    }
+    make_ladder(MAX_SOURCE / 2);
+    make_longest();
+    list_add(0);
+    list_add(1);
+    do_count_nets(made(), 2, part(list, 131070), fill(262140));
+    check(answered(0, 0), "131,070 bytes of indices");
+    list_refused(131071, 262142, "131,071 bytes of indices");
+    list_refused(131071, 262140, "131,071 bytes of indices, counts for 131,070");
+    list_refused(131072, 262144, "131,072 bytes of indices");
+    list_refused(131072, 262140, "131,072 bytes of indices, counts for 131,070");
+    list_refused(131072, 0, "131,072 bytes of indices, no counts");
+    list_refused(131074, 262148, "131,074 bytes of indices");
+    list_refused(131074, 4, "131,074 bytes of indices, one count");
+    list_refused(131070, 262139, "counts one byte too short");
+    list_refused(131070, 262141, "counts one byte too long");
+    list_refused(131070, 262136, "one count too few");
+    list_refused(131070, 262144, "one count too many");
+    list_refused(131070, 131070, "counts as long as the list");
+    list_refused(131070, 524280, "counts four times as long as the list");
+    list_refused(131070, 0, "no counts");
+    list_refused(0, 1, "no indices, one byte of counts");
+    list_refused(0, 262140, "no indices, many counts");
+    list_set(0, MAX_SOURCE);
+    list_refused(131070, 262139, "21 comes before 20");
+    list_refused(131072, 262144, "21 comes before 20");
+    end();
+}
+
+/* Good indices, then two that are none: the place is the first one's position. */
+static void test_list_records(void)
+{
+    static const unsigned bad[] = { 3, 4, 5, 6, 255, 256, 258, 4095, 4096, 32768, 65280, 65535 };
+    static const size_t positions[] = { 0, 1, 255, 256, 4096, 32768, 65533, 65534 };
+    size_t k, j, length, position;
+    begin("refusal 20 in a list");
+    for (k = 0; k < sizeof bad / sizeof bad[0]; k++)
+        for (length = 1; length <= 6; length++)
+            for (position = 0; position < length; position++) {
+                list_len = 0;
+                for (j = 0; j < length; j++)
+                    list_add((unsigned)j % 3);
+                list_set(length - 1, bad[(k + 5) % 12]);
+                list_set(position, bad[k]);
+                do_listed(worked, 2);
+                check(answered(20, (uint32_t)position), "the first index that is no driver");
+            }
+    make_ladder(MAX_SOURCE / 2);
+    for (k = 0; k < sizeof positions / sizeof positions[0]; k++) {
+        make_longest();
+        list_set(MAX_LISTED - 1, 65535);
+        list_set(positions[k], MAX_SOURCE);
+        do_listed(made(), 2);
+        check(answered(20, (uint32_t)positions[k]), "4,096 in a long list");
+        list_set(MAX_LISTED - 1, 0);
+        list_set(positions[k], MAX_SOURCE - 1);
+        do_listed(made(), 2);
+        check(answered(0, 0) && listed(positions[k]) == 0, "4,095 in a long list");
+    }
+    put_record(netlist + netlist_len - RECORD, OUTPUT, 0, 5, 0, UNUSED, UNUSED);
+    list_len = 0;
+    list_add(MAX_SOURCE - 2);
+    list_add(MAX_SOURCE - 1);
+    do_listed(made(), 2);
+    check(answered(20, 1), "the last record is an output");
+    list_len = 0;
+    list_add(0);
+    do_listed(fill(0), 2);
     check(answered(20, 0), "an empty source has no record 0");
     end();
 }
@@ -1128,6 +1403,16 @@ static int within(uint32_t low, uint32_t high)
     return answer[0] >= low && answer[0] <= high;
 }
 
+/* A list of up to 8 bytes, small indices or any. */
+static void random_list(void)
+{
+    list_len = 0;
+    while (below(4) > 0 && list_len < 8)
+        list_add(below(16) ? below(3) : below(65536));
+    if (list_len > 0 && below(8) == 0)
+        list_len--;
+}
+
 static void test_random_bytes(void)
 {
     unsigned long k;
@@ -1141,6 +1426,10 @@ static void test_random_bytes(void)
         check(within(0, 10), "aqfp_map gives 0 to 10");
         do_count(source, capacity, below(8));
         check(within(0, 7) || within(20, 20), "aqfp_count gives 0 to 7 or 20");
+        random_list();
+        do_count_nets(source, capacity, part(list, list_len),
+                      fill(below(4) ? 2 * list_len : below(20)));
+        check(within(0, 7) || within(20, 21), "aqfp_count_nets gives 0 to 7, 20 or 21");
         do_verify(source, capacity, mapped);
         check(within(0, 7) || within(11, 17), "aqfp_verify gives 0 to 7 or 11 to 17");
         do_evaluate(source, fill(rows), fill(source.len / RECORD));
@@ -1276,6 +1565,17 @@ static void reverse_buffers(uint8_t *records, size_t n, size_t m)
     }
 }
 
+/* Drivers of a source in no order, some of them again. The first record is one. */
+static void list_some_drivers(struct bytes source)
+{
+    size_t k, length = below(2 * (uint32_t)(source.len / RECORD) + 1);
+    list_len = 0;
+    for (k = 0; k < length; k++) {
+        uint32_t record = below((uint32_t)(source.len / RECORD));
+        list_add(source.at[RECORD * record] == OUTPUT ? 0 : record);
+    }
+}
+
 static void test_random_sources(void)
 {
     unsigned long k, mapped_count = 0;
@@ -1283,6 +1583,8 @@ static void test_random_sources(void)
     for (k = 0; k < 6000; k++) {
         struct bytes source = random_source(), mapped;
         uint32_t capacity = 2 + below(3), buffers, total = 0, driver;
+        list_some_drivers(source);
+        hold_listed(source, capacity);
         do_map(source, capacity, fill(RECORD * 2000));
         check(answer[0] == 0 || answer[0] == 8, "accepted, or no tree");
         if (answer[0] == 8) {
@@ -1431,6 +1733,31 @@ static void hold_block_map(struct blocks b, struct bytes source, struct bytes ma
     check(accepted(b.last), "the count of the last input");
 }
 
+/* The buffers of record k, a driver. */
+static uint32_t block_count(struct blocks b, uint32_t k)
+{
+    uint32_t from = block_at(b, 0);
+    if (k < from || k == b.n - 1)
+        return 0;
+    if (k == b.n - 2)
+        return b.last;
+    return (k - from) % 3 == 0 ? b.ends + 1 : b.line;
+}
+
+static void hold_block_counts(struct blocks b, struct bytes source)
+{
+    uint32_t total = 0;
+    size_t k;
+    list_drivers(source);
+    do_listed(source, b.s);
+    check(answered(0, 0), "a list of all drivers");
+    for (k = 0; k < list_len / 2; k++) {
+        check(listed(k) == block_count(b, field(list + 2 * k)), "the count of each driver");
+        total += listed(k);
+    }
+    check(total == b.m - b.n, "the counts of all drivers add up");
+}
+
 /* Changes of netlist that show at the last source record and at the last buffer. */
 static void hold_block_refusals(struct blocks b, struct bytes source)
 {
@@ -1453,6 +1780,7 @@ static void hold_blocks(uint32_t n, uint32_t m, uint32_t s)
     struct bytes source = block_source(b), mapped = block_mapped(b);
     check(source.len == RECORD * n && mapped.len == RECORD * m, "the sizes of the test's netlists");
     hold_block_map(b, source, mapped);
+    hold_block_counts(b, source);
     do_verify(source, s, mapped);
     check(accepted(m - n), "the verifier accepts what the mapper writes");
     hold_waves(source, s, mapped);
@@ -1488,9 +1816,10 @@ static void fill_filler(void)
 static void test_all(void)
 {
     static void (*const tests[])(void) = {
-        test_map_worked, test_count_worked, test_count_limits, test_run_worked, test_run_limits,
-        test_capacities, test_source_lengths, test_source_records, test_source_order,
-        test_map_sizes, test_count_record, test_mapped_length, test_mapped_records,
+        test_map_worked, test_count_worked, test_count_limits, test_lists_worked,
+        test_list_limits, test_run_worked, test_run_limits, test_capacities, test_source_lengths,
+        test_source_records, test_source_order, test_map_sizes, test_count_record,
+        test_list_lengths, test_list_records, test_mapped_length, test_mapped_records,
         test_mapped_nets, test_mapped_accepted, test_rows, test_random_bytes, test_random_sources,
         test_array_sizes
     };
@@ -1508,7 +1837,7 @@ int main(void)
         "null pointers for empty areas"
     };
     struct area *const areas[] = { &source_area, &mapped_area, &rows_area, &state_area,
-                                   &outputs_area, &answer_area };
+                                   &outputs_area, &answer_area, &records_area, &counts_area };
     size_t k;
     setvbuf(stdout, NULL, _IOLBF, 0);
     for (k = 0; k < sizeof areas / sizeof areas[0]; k++)

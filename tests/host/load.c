@@ -1,5 +1,5 @@
 /* load LIBRARY PLUGIN FILE: opens two shared objects at run time. LIBRARY, which holds the whole
- * archive, must have the six calls and map FILE, the worked case. PLUGIN, a host linked
+ * archive, must have every call and map FILE, the worked case. PLUGIN, a host linked
  * with the archive, must export none of them; its `main` is then run on FILE.
  */
 
@@ -47,8 +47,9 @@ static void map_worked(void *library, const char *path)
 
 int main(int argc, char **argv)
 {
-    static const char *const calls[] = { "aqfp_map", "aqfp_count", "aqfp_verify",
-                                         "aqfp_evaluate", "aqfp_run", "aqfp_step" };
+    static const char *const calls[] = { "aqfp_map", "aqfp_count", "aqfp_count_nets",
+                                         "aqfp_verify", "aqfp_evaluate", "aqfp_run",
+                                         "aqfp_step" };
     void *library, *plugin;
     int (*plugin_main)(int, char **);
     size_t k;
