@@ -24,6 +24,8 @@ const MAPPER: u8 = 7;
 
 const BLOCK_VIEW: u8 = 8;
 
+const COUNT_NETS: u8 = 9;
+
 // An answer of two numbers, in bytes.
 const PAIR: usize = 8;
 
@@ -121,6 +123,30 @@ fn evaluate_agrees(file: &[u8], at: usize, area: &mut [u8]) -> bool {
     aqfp::aqfp_evaluate(
         cases::field(file, at),
         cases::field(file, row),
+        &mut area[0..n],
+        &mut got,
+    );
+    if is_two(got, cases::field(file, answer)) {
+        check::same(&area[0..n], cases::field(file, after))
+    } else {
+        false
+    }
+}
+
+// A case of the list of counts: source, numbers (capacity), records, counts before; answer, counts after.
+fn count_nets_agrees(file: &[u8], at: usize, area: &mut [u8]) -> bool {
+    let numbers = cases::skip(file, at);
+    let records = cases::skip(file, numbers);
+    let before = cases::skip(file, records);
+    let answer = cases::skip(file, before);
+    let after = cases::skip(file, answer);
+    let mut got = [0u8; 8];
+    let n = cases::copy(cases::field(file, before), area);
+    let capacity = cases::number(cases::field(file, numbers), 0);
+    aqfp::aqfp_count_nets(
+        cases::field(file, at),
+        capacity,
+        cases::field(file, records),
         &mut area[0..n],
         &mut got,
     );
@@ -272,6 +298,7 @@ fn agrees(family: u8, file: &[u8], at: usize) -> bool {
         COUNT => count_agrees(file, at),
         VERIFIER => verifier_agrees(file, at),
         EVALUATE => evaluate_agrees(file, at, &mut area),
+        COUNT_NETS => count_nets_agrees(file, at, &mut area),
         STEP => step_agrees(file, at, &mut area),
         RUN => run_agrees(file, at, &mut area, &mut outputs),
         BLOCK_VIEW => block_view_agrees(file, at),
@@ -386,6 +413,7 @@ fn main() {
     test_family(b"reader", READER, 2);
     test_family(b"record_view", RECORD_VIEW, 4);
     test_family(b"count", COUNT, 3);
+    test_family(b"count_nets", COUNT_NETS, 6);
     test_family(b"verifier", VERIFIER, 4);
     test_family(b"evaluate", EVALUATE, 5);
     test_family(b"step", STEP, 7);

@@ -43,7 +43,7 @@ struct Family {
     by_chance: fn(&mut Random) -> Case,
 }
 
-const FAMILIES: [Family; 9] = [
+const FAMILIES: [Family; 10] = [
     Family {
         name: "reader",
         numbers: &[0, 2, 4, 5, 6, 7],
@@ -57,6 +57,13 @@ const FAMILIES: [Family; 9] = [
         refused: 32,
         worked: worked_count,
         by_chance: |random| chance_case(random, Name::Count),
+    },
+    Family {
+        name: "count_nets",
+        numbers: &[0, 1, 2, 4, 5, 6, 7, 20, 21],
+        refused: 32,
+        worked: worked_count_nets,
+        by_chance: |random| chance_case(random, Name::CountNets),
     },
     Family {
         name: "mapper",
@@ -275,6 +282,49 @@ fn worked_count() -> Vec<Case> {
     for record in 0..=5 {
         calls.push(Call { number: record, ..bare(Name::Count, &shapes::worked(), 2) });
     }
+    calls.iter().map(call_case).collect()
+}
+
+/// The worked case's lists of one and two indices, drivers or not; lengths around the right ones;
+/// nets at the largest distance, without a tree and with many sinks; indices above 255.
+fn worked_count_nets() -> Vec<Case> {
+    let on = |source: &[Record], s: u32, list: &[u16]| {
+        let records: Vec<u8> = list.iter().flat_map(|index| index.to_le_bytes()).collect();
+        let areas = vec![vec![FILL; 2 * records.len()]];
+        Call { records, areas, ..bare(Name::CountNets, source, s) }
+    };
+    let worked = shapes::worked();
+    let mut calls = vec![on(&[], 2, &[]), on(&[], 3, &[0]), on(&worked, 4, &[])];
+    let indices = [0, 1, 2, 3, 5, 256, 4096, 65_535];
+    for first in indices {
+        calls.push(on(&worked, 2, &[first]));
+        for second in indices {
+            calls.push(on(&worked, 2, &[first, second]));
+        }
+    }
+    calls.push(on(&worked, 2, &[2, 0, 0, 1, 2, 0]));
+    let lengths =
+        [(0, 1), (0, 4), (1, 0), (1, 2), (1, 4), (2, 0), (2, 3), (2, 5), (2, 8), (3, 4), (3, 6)];
+    for (records, counts) in lengths {
+        // The second list fails 20 too, which comes later.
+        for list in [[0, 1], [9, 9]] {
+            let mut call = on(&worked, 2, &list);
+            call.records.truncate(records);
+            call.areas[0].resize(counts, FILL);
+            calls.push(call);
+        }
+    }
+    for s in 2..=4 {
+        calls.push(on(&shapes::net(&[4095]), s, &[0, 1, 2, 0]));
+        calls.push(on(&shapes::net(&[1, 4095]), s, &[1, 2, 0, 1]));
+        calls.push(on(&shapes::net(&[4095; 5]), s, &[6, 5, 4, 3, 2, 1, 0]));
+        calls.push(on(&shapes::wide_majorities(14, s as usize), s, &[13, 0, 1]));
+        calls.push(on(&shapes::chains(12), s, &[11, 0, 10, 1, 5]));
+        calls.push(on(&shapes::lines(15, 4095), s, &[14, 0, 7]));
+    }
+    let far = shapes::lines(260, 300);
+    calls.push(on(&far, 2, &[259, 3, 256]));
+    calls.push(on(&far, 2, &[259, 260]));
     calls.iter().map(call_case).collect()
 }
 
