@@ -14,11 +14,12 @@
 
 #include "aqfp.h"
 
-enum { WIDTH = 10, TOP = 4095, SOURCE_LIMIT = 4096, MAPPED_LIMIT = 60000, STACK = 4 << 20 };
+enum { WIDTH = 10, TOP = 4095, SOURCE_LIMIT = 4096, MAPPED_LIMIT = 60000, LISTED = 65535, STACK = 4 << 20 };
 enum { INPUT = 0, MAJORITY = 3, OUTPUT = 4, BUFFER = 5 };
 
 static uint8_t source[WIDTH * SOURCE_LIMIT], mapped[WIDTH * MAPPED_LIMIT];
 static uint8_t state[2 * MAPPED_LIMIT], rows[SOURCE_LIMIT], values[SOURCE_LIMIT], outputs[SOURCE_LIMIT];
+static uint8_t list[2 * LISTED], counts[4 * LISTED];
 static uint8_t answer[28];
 static size_t records, mapped_records, inputs, output_count;
 
@@ -68,6 +69,14 @@ static uint32_t map(void) {
 }
 static uint32_t count(void) {
     return aqfp_count(source, WIDTH * records, 2, 0, answer);
+}
+/* The longest list, the records in turns. */
+static uint32_t count_nets(void) {
+    for (size_t k = 0; k < LISTED; k++) {
+        list[2 * k] = k % records & 255;
+        list[2 * k + 1] = k % records >> 8;
+    }
+    return aqfp_count_nets(source, WIDTH * records, 2, list, sizeof list, counts, sizeof counts, answer);
 }
 static uint32_t verify(void) {
     return aqfp_verify(source, WIDTH * records, 2, mapped, WIDTH * mapped_records, answer);
@@ -123,6 +132,7 @@ int main(void) {
     wide();
     row("aqfp_map", map, "12,285 sinks");
     row("aqfp_count", count, "12,285 sinks");
+    row("aqfp_count_nets", count_nets, "12,285 sinks");
     row("aqfp_evaluate", evaluate, "12,285 sinks");
     const size_t pairs[] = {1, 14};
     for (int i = 0; i < 2; i++) {

@@ -1,12 +1,13 @@
 //! Times the static library and the fast path on the same inputs in the same run, in turns.
 //!
-//! Three tables: for each call, shape and size the median time of both and the median of the samples'
+//! Four tables: for each call, shape and size the median time of both and the median of the samples'
 //! ratios; then how our time grows from N = 512 to N = 4,096, the two sizes in turns as well, since
 //! the machine's own speed drifts; then the mapper's time on sources that it refuses, in turns with
-//! the accepted one on which it took longest. Both answers are compared before a row is timed. Areas
-//! that a call writes are touched once before and not cleared between calls. A row of layered
-//! netlists goes round as many of them as have 65,536 records together, so that no size is timed on
-//! inputs that the processor has learnt by heart.
+//! the accepted one on which it took longest; then the time of lists of counts in turns with the
+//! mapper's on the same sources. Both answers are compared before a row is timed. Areas that a call
+//! writes are touched once before and not cleared between calls. A row of layered netlists goes round
+//! as many of them as have 65,536 records together, so that no size is timed on inputs that the
+//! processor has learnt by heart.
 
 use std::hint::black_box;
 use std::time::{Duration, Instant};
@@ -254,6 +255,30 @@ fn print_refused(refused: &Subject, accepted: &[Subject]) {
     println!("| map | {shape} | {n} | {number} | {first:.2} | {second:.2} | {ratio:.2} |");
 }
 
+/// The counts of the longest list, all of whose indices are the same.
+fn repeated(subject: &Subject) -> Call {
+    let records = indices(&vec![subject.driver as usize; MAX_LISTED]);
+    let areas = vec![vec![0; 4 * MAX_LISTED]];
+    Call { records, areas, ..subject.call(Name::CountNets) }
+}
+
+/// One row of the fourth table: our time for lists of counts over that of the mapper.
+fn print_over_map(subjects: &[Subject], list: &str, call: impl Fn(&Subject) -> Call) {
+    let mut lists: Vec<Call> = subjects.iter().map(call).collect();
+    let mut maps = calls_of(subjects, Name::Map);
+    let (shape, n, indices) = (subjects[0].shape, subjects[0].n(), lists[0].records.len() / 2);
+    for call in &lists {
+        compare(call, shape);
+    }
+    let (rounds, more) =
+        (rounds_in_a_sample(&LINKED, &mut lists), rounds_in_a_sample(&LINKED, &mut maps));
+    let Measured { first, second, ratio } = measure(|side| match side {
+        Side::First => time_of(&LINKED, &mut lists, rounds),
+        Side::Second => time_of(&LINKED, &mut maps, more),
+    });
+    println!("| {list} | {shape} | {n} | {indices} | {first:.2} | {second:.2} | {ratio:.2} |");
+}
+
 /// Sources that the mapper refuses by 8 or 9 after counting long nets.
 fn refused_shapes() -> [Subject; 4] {
     let far = shapes::three_far(MAX_SOURCE / 2);
@@ -329,6 +354,7 @@ fn main() {
     let majorities = [Subject::new("12,285 sinks", &majorities, 0)];
     map(&majorities);
     print_row(&majorities, Name::Count);
+    print_row(&majorities, Name::CountNets);
     let wide = shapes::wide(MAX_SOURCE, S);
     let shared = shapes::raised(&wide, usize::from(MAX_LEVEL - depth(&wide)));
     let shared = [Subject::new("wide, one long chain below", &shared, 0)];
@@ -354,4 +380,12 @@ fn main() {
     for refused in &refused_shapes() {
         print_refused(refused, slowest.1);
     }
+
+    println!();
+    println!("| list | shape | N | indices | count nets, us | map, us | ratio |");
+    println!("|---|---|---|---|---|---|---|");
+    for subjects in large {
+        print_over_map(subjects, "all drivers", |subject| subject.call(Name::CountNets));
+    }
+    print_over_map(&large[2], "one driver each time", repeated);
 }
