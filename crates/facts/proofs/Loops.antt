@@ -117,6 +117,15 @@ module _ (f : ℕ → Checked) where
       go Passed = refl
       go (Refused number place) = refl
 
+  -- one place more
+  pub scan-last : (k : ℕ) → scan f 0 (k + 1) ≡ (scan f 0 k andThen f k)
+  unfolding scan
+  scan-last k = rw (zero-add k) at (scan-split 0 k 1) ∙ ap (λ (a : Checked). scan f 0 k andThen a) (last (f k))
+    where
+      last : (c : Checked) → (c andThen Passed) ≡ c
+      last Passed = refl
+      last (Refused number place) = refl
+
   module _ (a n : ℕ) (l : a ≤ n) where
     parts : scan f 0 n ≡ (scan f 0 a andThen scan f a (n - a))
     parts =

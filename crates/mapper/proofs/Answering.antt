@@ -23,11 +23,12 @@ use Rattle.netlist.specs.Bytes.{bytesOf}
 use Rattle.fanout.specs.Nets.{fewestInAll}
 use Rattle.mapper.specs.declared.Mapping.{Mapping}
 use Rattle.mapper.specs.Mapped.{mappedSize, mapped}
-use Rattle.mapper.specs.PrivateWriting.{Ready, Counted}
+use Rattle.mapper.specs.PrivateWriting.{Ready, Counted, Sized}
 use Rattle.mapper.specs.Answer.{gatePrice, bufferPrice, share, junctions, figures, refusal, tooLarge, tooShort, sourceMaps, mapChecks, mapAnswer, mapArea}
 use Rattle.nets.specs.Checks.{treeCheck, treeChecks, noTree}
 use Rattle.nets.specs.declared.trees.Sizing.{Sizing}
 use Rattle.nets.specs.declared.trees.Sizing.the-variants.{Total, Stops}
+use Rattle.nets.specs.PrivateCounts.{NetNumbers}
 use Rattle.nets.specs.PrivateChains.{Chained, sizingOf}
 use Rattle.nets.proofs.TreeCounts.{total-small, refusing, counting, input-source, input-allowed}
 
@@ -96,6 +97,11 @@ module _ (bytes : List ℕ) (caps : Capacities) (i : inputChecks bytes caps ≡ 
   counted-all total z e f first next end l =
       let c = counting (netlist bytes) caps (recordCount bytes) total z e f in search
 
+  pub sized-all : (total : ℕ) (z : Sizing) → z ≡ sizingOf (treeChecks (netlist bytes) caps) (fewestInAll (netlist bytes) caps) →
+      z ≡ Total total → (totals : List ℕ) → NetNumbers (netlist bytes) caps N totals → N ≤ length totals → Sized bytes caps N totals total
+  sized-all total z e f totals t l =
+      let c = counting (netlist bytes) caps (recordCount bytes) total z e f in search
+
 -- what 1 to 9 show
 pub passed-ready : (bytes : List ℕ) (caps : Capacities) → inputChecks bytes caps ≡ Passed → treeChecks (netlist bytes) caps ≡ Passed →
     mappedSize (netlist bytes) caps ≤ mappedLimit → Ready (netlist bytes) caps
@@ -109,19 +115,20 @@ passed-ready bytes caps i t l =
       fits = l;
     }
 
+-- the total of all trees cannot overflow
+pub total-fits : (bytes : List ℕ) (caps : Capacities) (N total : ℕ) → inputChecks bytes caps ≡ Passed → N ≡ recordCount bytes →
+    total ≡ fewestInAll (netlist bytes) caps → Fits w64 (N + total)
+total-fits bytes caps N total i e f =
+    omega (
+      arith,
+      e,
+      f,
+      total-small (netlist bytes) caps (input-source bytes caps i) (input-allowed bytes caps i .low),
+      input-source bytes caps i .few,
+    )
+
 -- 9, 10 and acceptance
 module _ (bytes : List ℕ) (caps : Capacities) (N : ℕ) (first next : List ℕ) (end total : ℕ) (h : Counted bytes caps N first next end total) where
-  -- the total of all trees cannot overflow
-  pub total-fits : Fits w64 (N + total)
-  total-fits =
-      omega (
-        arith,
-        h .records,
-        h .buffers,
-        total-small (netlist bytes) caps (input-source bytes caps (h .input)) (input-allowed bytes caps (h .input) .low),
-        input-source bytes caps (h .input) .few,
-      )
-
   pub counted-ready : N + total ≤ mappedLimit → Ready (netlist bytes) caps
   counted-ready l = passed-ready bytes caps (h .input) (h .trees) (omega (arith, h .records, h .buffers))
 

@@ -1,34 +1,33 @@
 -- Laws of the block view: where a block begins, when there is none, and that its part lies within the area.
 use Prim.Native.Nat.{ℕ, suc, _+_, _-_, _*_, _≤_, _<_}
-use mathlib.Core.Path.{_≡_, sym, _∙_}
+use mathlib.Core.Path.{_≡_, _∙_}
 use mathlib.Core.Bool.{Bool, true, false, cond}
 use mathlib.Core.List.{List, []}
 use native.Mathlib.Omega.{arith}
 use native.Mathlib.Numerals.{add-one}
 use mir.Val.{Fits}
 use mir.Syntax.{w64}
-use lib.ListN.{length, take, drop}
+use lib.ListN.{length, getD, take, drop}
 use borrow.Author.Tests.{le-leb, lt-leb, le-ltb, lt-ltb}
 use Rattle.facts.specs.declared.Checked.{Checked}
 use Rattle.facts.specs.declared.Checked.the-variants.{Passed, Refused}
 use Rattle.facts.specs.Sums.{sum}
 use Rattle.facts.proofs.Sums.{sum-more}
-use Rattle.facts.proofs.Reflect.{scan-passed}
 use Rattle.netlist.specs.declared.Capacities.{Capacities}
-use Rattle.netlist.specs.Kinds.{width, mappedLimit, isDriver}
+use Rattle.netlist.specs.Kinds.{width, sourceLimit, mappedLimit, isDriver}
 use Rattle.netlist.specs.Records.{netlist, recordCount, recordAt}
 use Rattle.netlist.specs.Checks.{inputChecks}
 use Rattle.netlist.proofs.Records.{record-past}
 use Rattle.fanout.specs.Nets.{treeSize}
 use Rattle.nets.specs.declared.trees.Sizing.{Sizing}
-use Rattle.nets.specs.declared.trees.Sizing.the-variants.{Total, Stops}
+use Rattle.nets.specs.declared.trees.Sizing.the-variants.{Stops}
 use Rattle.mapper.specs.declared.Ends.{Ends}
 use Rattle.mapper.specs.Mapped.{blockStart, mappedSize}
 use Rattle.mapper.specs.Answer.{sourceMaps}
-use Rattle.nets.specs.Checks.{treeCheck, treesBelow, treeChecks}
+use Rattle.nets.specs.Checks.{treeChecks}
 use Rattle.nets.specs.PrivateChains.{sizingOf}
-use Rattle.mapper.specs.PrivateWriting.{Counted, Mappable}
-use Rattle.nets.proofs.TreeCounts.{input-allowed, total-small, refusing, counting}
+use Rattle.mapper.specs.PrivateWriting.{Sized, Mappable}
+use Rattle.nets.proofs.TreeCounts.{input-source, input-allowed, total-small, numbers-sum, refusing}
 use Rattle.mapper.specs.View.{noEnds, ownEnds, endsOf, blockEnds, between}
 
 module _ (bytes : List ℕ) (caps : Capacities) (d : ℕ) where
@@ -45,46 +44,40 @@ module _ (bytes : List ℕ) (caps : Capacities) (d : ℕ) where
   ends-tree i number place total z r e f g = cc (refusing (netlist bytes) caps number place total z e f)
 
 -- 9
-module _ (bytes : List ℕ) (caps : Capacities) (N : ℕ) (first next : List ℕ) (end total : ℕ) (h : Counted bytes caps N first next end total) where
+module _ (bytes : List ℕ) (caps : Capacities) (N : ℕ) (totals : List ℕ) (total : ℕ) (h : Sized bytes caps N totals total) where
   pub ends-large : (d : ℕ) (r : Ends) → mappedLimit < N + total → r ≡ noEnds → r ≡ blockEnds bytes caps d
   unfolding blockEnds sourceMaps
   ends-large d r l e = cc (lt-ltb mappedLimit (mappedSize (netlist bytes) caps) (omega (arith, h .records, h .buffers)))
 
-  pub ends-maps : N + total ≤ mappedLimit → Mappable bytes caps N first next end
+  pub ends-maps : N + total ≤ mappedLimit → Mappable bytes caps N totals
   unfolding sourceMaps
   ends-maps l =
       let maps : sourceMaps bytes caps ≡ Passed = cc (le-ltb mappedLimit (mappedSize (netlist bytes) caps) (omega (arith, h .records, h .buffers))) in
-      search input-allowed
+      search
 
-module _ (bytes : List ℕ) (caps : Capacities) (N : ℕ) (first next : List ℕ) (end : ℕ) (h : Mappable bytes caps N first next end) where
-  module _ (m : ℕ) (l : m ≤ N) (z : Sizing) (e : z ≡ sizingOf (treesBelow (netlist bytes) caps m) (sum (treeSize (netlist bytes) caps) m)) where
+module _ (bytes : List ℕ) (caps : Capacities) (N : ℕ) (totals : List ℕ) (h : Mappable bytes caps N totals) where
+  module _ (m : ℕ) (l : m ≤ N) where
+    pub start-few : m ≤ sourceLimit
+    start-few = omega (arith, h .records, input-source bytes caps (h .input) .few)
+
     -- where a block begins
-    pub start-is : (total : ℕ) → z ≡ Total total → N + total ≡ blockStart (netlist bytes) caps m
-    start-is total f = omega (arith, counting (netlist bytes) caps m total z e f .1, h .records)
+    module _ (total : ℕ) (e : total ≡ sum (λ d. getD totals d 0) m) where
+      before : total ≡ sum (treeSize (netlist bytes) caps) m
+      before = e ∙ numbers-sum bytes caps N totals m (h .trees) (h .numbers) (h .records) l
 
-    pub start-fits : (total : ℕ) → z ≡ Total total → Fits w64 (N + total)
-    start-fits total f =
-        omega (
-          arith,
-          counting (netlist bytes) caps m total z e f .1,
-          sum-more (treeSize (netlist bytes) caps) m (recordCount bytes) (omega (arith, h .records)),
-          total-small (netlist bytes) caps (h .chained .source) (h .allowed .low),
-          h .records,
-          h .chained .source .few,
-        )
+      pub start-is : N + total ≡ blockStart (netlist bytes) caps m
+      start-is = omega (arith, before, h .records)
 
-    -- the trees before m were counted
-    pub start-never : (number place : ℕ) → z ≡ Stops number place → 0 ≡ blockStart (netlist bytes) caps m
-    start-never number place f = absurd (go (treesBelow (netlist bytes) caps m) passed (sym e ∙ f))
-      where
-        passed : treesBelow (netlist bytes) caps m ≡ Passed
-        passed =
-            scan-passed (treeCheck (netlist bytes) caps) m .1
-            (λ k b. scan-passed (treeCheck (netlist bytes) caps) (recordCount bytes) .0 (h .trees) k (omega (arith, h .records)))
-
-        go : (a : Checked) → a ≡ Passed → sizingOf a (sum (treeSize (netlist bytes) caps) m) ≡ Stops number place → ⊥
-        go Passed p g = let z : _≡_ {A = ℕ} 0 1 = cc in omega arith
-        go (Refused n′ p′) p g = let z : _≡_ {A = ℕ} 0 1 = cc in omega arith
+      pub start-fits : Fits w64 (N + total)
+      start-fits =
+          omega (
+            arith,
+            before,
+            sum-more (treeSize (netlist bytes) caps) m (recordCount bytes) (omega (arith, h .records)),
+            total-small (netlist bytes) caps (input-source bytes caps (h .input)) (input-allowed bytes caps (h .input) .low),
+            h .records,
+            input-source bytes caps (h .input) .few,
+          )
 
   module _ (d : ℕ) where
     pub ends-past : (r : Ends) → N ≤ d → r ≡ noEnds → r ≡ blockEnds bytes caps d

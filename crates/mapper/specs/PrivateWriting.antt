@@ -14,6 +14,7 @@ use Rattle.netlist.specs.Source.{IsSource}
 use Rattle.netlist.specs.Capacities.{Allowed}
 use Rattle.nets.specs.Checks.{treeChecks}
 use Rattle.nets.specs.PrivateChains.{slotEnd, usedSlot, faninSlot, namesSlot, slotDistance, Chained}
+use Rattle.nets.specs.PrivateCounts.{NetNumbers}
 use Rattle.netlist.specs.Checks.{inputChecks}
 use Rattle.netlist.specs.PrivateBytes.{withRecords}
 use Rattle.fanout.specs.Nets.{row, nodesAt, netHasTree, treeSize, fewestInAll}
@@ -143,10 +144,20 @@ pub record Counted (bytes : List ℕ) (caps : Capacities) (size : ℕ) (first ne
   pub records : size ≡ recordCount bytes
   pub buffers : total ≡ fewestInAll (netlist bytes) caps
 
--- a source whose trees are counted and that is not too large; `allowed` and `trees` follow from `maps`
-pub record Mappable (bytes : List ℕ) (caps : Capacities) (size : ℕ) (first next : List ℕ) (end : ℕ) : Type 0 where
-  pub maps : sourceMaps bytes caps ≡ Passed
-  pub allowed : Allowed caps
+-- a source that passes 1 to 8, the numbers of its nets, and the buffers of all trees
+pub record Sized (bytes : List ℕ) (caps : Capacities) (size : ℕ) (totals : List ℕ) (total : ℕ) : Type 0 where
+  pub input : inputChecks bytes caps ≡ Passed
   pub trees : treeChecks (netlist bytes) caps ≡ Passed
-  pub chained : Chained (netlist bytes) first next 0 end
   pub records : size ≡ recordCount bytes
+  pub numbers : NetNumbers (netlist bytes) caps size totals
+  pub room : size ≤ length totals
+  pub buffers : total ≡ fewestInAll (netlist bytes) caps
+
+-- a source that passes 1 to 9, and the numbers of its nets; `input` and `trees` follow from `maps`
+pub record Mappable (bytes : List ℕ) (caps : Capacities) (size : ℕ) (totals : List ℕ) : Type 0 where
+  pub maps : sourceMaps bytes caps ≡ Passed
+  pub input : inputChecks bytes caps ≡ Passed
+  pub trees : treeChecks (netlist bytes) caps ≡ Passed
+  pub records : size ≡ recordCount bytes
+  pub numbers : NetNumbers (netlist bytes) caps size totals
+  pub room : size ≤ length totals

@@ -5,7 +5,7 @@ ghost use Rattle.netlist.specs.Records.{netlist};
 ghost use Rattle.netlist.specs.Checks.{inputChecks};
 ghost use Rattle.mapper.specs.Mapped.{blockStart};
 ghost use Rattle.mapper.specs.View.{noEnds, blockEnds};
-ghost use Rattle.mapper.specs.PrivateWriting.{Counted, Mappable};
+ghost use Rattle.mapper.specs.PrivateWriting.{Sized, Mappable};
 use crate::Ends;
 use facts::Checked;
 use fanout::DISTANCES;
@@ -27,46 +27,25 @@ fn no_ends() -> Ends
 }
 
 // The record at which the block of record m begins: behind the source and the trees before it.
-fn start_of(
-    source: &[u8],
-    capacities: Capacities,
-    n: usize,
-    end: usize,
-    first: &[u16],
-    next: &[u16],
-    m: usize,
-) -> usize
-    requires { ⌜ Mappable (now source) capacities n (now first) (now next) end ⌝ }
+fn start_of(source: &[u8], capacities: Capacities, n: usize, totals: &[u32], m: usize) -> usize
+    requires { ⌜ Mappable (now source) capacities n (now totals) ⌝ }
     requires { ⌜ m ≤ n ⌝ }
     ensures { λ r. ⌜ r ≡ blockStart (netlist (now (source .entry))) capacities m ⌝ }
 {
-    let mut row = [0u32; DISTANCES];
-    let sizing = trees::count_trees(source, capacities, m, end, first, next, &mut row);
-    match sizing {
-        Sizing::Total(total) => n + total,
-        Sizing::Stops(_, _) => 0,
-    }
+    n + trees::sum_below(totals, m)
 }
 
 // The block of record d of a source that passes 1 to 9.
-fn ends_of(
-    source: &[u8],
-    capacities: Capacities,
-    n: usize,
-    end: usize,
-    first: &[u16],
-    next: &[u16],
-    d: usize,
-) -> Ends
-    requires { ⌜ Mappable (now source) capacities n (now first) (now next) end ⌝ }
+fn ends_of(source: &[u8], capacities: Capacities, n: usize, totals: &[u32], d: usize) -> Ends
+    requires { ⌜ Mappable (now source) capacities n (now totals) ⌝ }
     ensures { λ r. ⌜ r ≡ blockEnds (now (source .entry)) capacities d ⌝ }
 {
     if n <= d {
         return no_ends();
     }
     if netlist::is_driver(netlist::kind_at(source, d)) {
-        let from = start_of(source, capacities, n, end, first, next, d);
-        let to = start_of(source, capacities, n, end, first, next, d + 1);
+        let from = start_of(source, capacities, n, totals, d);
+        let to = start_of(source, capacities, n, totals, d + 1);
         return Ends { from, to };
     }
     no_ends()
@@ -77,19 +56,17 @@ fn counted_ends(
     source: &[u8],
     capacities: Capacities,
     n: usize,
-    end: usize,
-    first: &[u16],
-    next: &[u16],
+    totals: &[u32],
     total: usize,
     d: usize,
 ) -> Ends
-    requires { ⌜ Counted (now source) capacities n (now first) (now next) end total ⌝ }
+    requires { ⌜ Sized (now source) capacities n (now totals) total ⌝ }
     ensures { λ r. ⌜ r ≡ blockEnds (now (source .entry)) capacities d ⌝ }
 {
     if MAPPED_LIMIT < n + total {
         return no_ends();
     }
-    ends_of(source, capacities, n, end, first, next, d)
+    ends_of(source, capacities, n, totals, d)
 }
 
 // Check 8 of a source that passes 1 to 7, and the block of record d.
@@ -103,9 +80,19 @@ fn source_ends(source: &[u8], capacities: Capacities, d: usize) -> Ends
     sinks::empty_chains(n, end as u16, &mut first);
     let mut next = [UNUSED; SINKS];
     let mut row = [0u32; DISTANCES];
-    let sizing = trees::size_trees(source, capacities, n, end, &mut first, &mut next, &mut row);
+    let mut totals = [0u32; RECORDS];
+    let sizing = trees::size_trees(
+        source,
+        capacities,
+        n,
+        end,
+        &mut first,
+        &mut next,
+        &mut row,
+        &mut totals,
+    );
     match sizing {
-        Sizing::Total(total) => counted_ends(source, capacities, n, end, &first, &next, total, d),
+        Sizing::Total(total) => counted_ends(source, capacities, n, &totals, total, d),
         Sizing::Stops(_, _) => no_ends(),
     }
 }

@@ -135,11 +135,13 @@ fn map_with(
     n: usize,
     first: &mut [u16],
     next: &mut [u16],
+    totals: &mut [u32],
     area: &mut [u8],
 ) -> Mapping
     requires { ⌜ inputChecks (now source) capacities ≡ Checked.Passed ⌝ }
     requires { ⌜ n ≡ recordCount (now source) ⌝ }
     requires { ⌜ (n ≤ length (now first)) × (slots * n ≤ length (now next)) ⌝ }
+    requires { ⌜ n ≤ length (now totals) ⌝ }
     requires { ⌜ AllUnused (now next) ⌝ }
     ensures { λ r. ⌜ r ≡ mapAnswer (now (source .entry)) capacities (now (area .entry)) ⌝ }
     ensures { λ _. ⌜ now (area .exit) ≡ mapArea (now (source .entry)) capacities (now (area .entry)) ⌝ }
@@ -147,7 +149,7 @@ fn map_with(
     let end = SLOTS * n;
     let mut row = [0u32; DISTANCES];
     sinks::empty_chains(n, end as u16, first);
-    let sizing = trees::size_trees(source, capacities, n, end, first, next, &mut row);
+    let sizing = trees::size_trees(source, capacities, n, end, first, next, &mut row, totals);
     match sizing {
         Sizing::Total(total) => map_trees(
             source,
@@ -174,11 +176,29 @@ fn map_source(source: &[u8], capacities: Capacities, area: &mut [u8]) -> Mapping
     if n <= SMALL {
         let mut first = [0u16; SMALL];
         let mut next = [UNUSED; SMALL_SINKS];
-        return map_with(source, capacities, n, &mut first, &mut next, area);
+        let mut totals = [0u32; SMALL];
+        return map_with(
+            source,
+            capacities,
+            n,
+            &mut first,
+            &mut next,
+            &mut totals,
+            area,
+        );
     }
     let mut first = [0u16; RECORDS];
     let mut next = [UNUSED; SINKS];
-    map_with(source, capacities, n, &mut first, &mut next, area)
+    let mut totals = [0u32; RECORDS];
+    map_with(
+        source,
+        capacities,
+        n,
+        &mut first,
+        &mut next,
+        &mut totals,
+        area,
+    )
 }
 
 // The mapper: the mapped netlist of a source into the area, and its seven numbers; or a refusal that leaves the area as it was.

@@ -13,17 +13,17 @@ use lib.Pow.{pow-lt}
 use mir.Syntax.{w8}
 use mir.Val.{Fits}
 use lib.Dec.{ltb, leb, eqb}
-use borrow.Author.Tests.{lt-ltb, le-ltb, le-leb, lt-leb, eq-eqb, ne-eqb, ltb-false, eqb-true}
+use borrow.Author.Tests.{lt-ltb, le-ltb, le-leb, lt-leb, leb-true, eq-eqb, ne-eqb, ltb-false, eqb-true}
 use Rattle.facts.specs.declared.Checked.{Checked}
 use Rattle.facts.specs.declared.Checked.the-variants.{Passed, Refused}
 use Rattle.facts.specs.Checks.{check, _andThen_, scan}
 use Rattle.facts.specs.Sums.{any, seek}
-use Rattle.facts.proofs.Bools.{or-false, or-r}
+use Rattle.facts.proofs.Bools.{and-r, or-false, or-r}
 use Rattle.facts.proofs.Sums.{any-none}
 use Rattle.facts.proofs.Reflect.{check-passed, then-passed, or-none, most-none, side-is}
 use Rattle.facts.proofs.Loops.{Seeking, seek-start, seek-more, seek-here, seek-end}
 use Rattle.netlist.specs.declared.Record.{Record}
-use Rattle.netlist.specs.Kinds.{width, slots, unused, topLevel, sourceLimit, input, output, arities, arity, isGate, invertible}
+use Rattle.netlist.specs.Kinds.{width, slots, unused, topLevel, sourceLimit, input, and, majority, output, arities, arity, isGate, invertible}
 use Rattle.netlist.specs.Records.{Netlist, netlist, recordCount, recordBytes, recordAt, slot, isOutput, depth}
 use Rattle.netlist.specs.Checks.{ragged, tooMany, badLevel, sizeChecks, badKind, badInversion, badSlot, badSlots, notBelow, misplaced, structureOf, levelOf, recordChecks, sourceChecks}
 use Rattle.netlist.specs.View.{viewOf}
@@ -41,9 +41,15 @@ arity-slots kind =
       | no g ↦ omega (arith, List·getD-eq-default arities 0 (let h : 6 ≤ kind = omega arith in h))
     ]
 
--- a kind that is no gate uses at most one slot
+-- a kind that is no gate uses at most one slot, a gate at least two, and a kind of a source that is no input at least one
 several : ℕ → Bool
 several kind = not (isGate kind) && ltb 1 (arity kind)
+
+single : ℕ → Bool
+single kind = isGate kind && ltb (arity kind) 2
+
+none : ℕ → Bool
+none kind = not (eqb kind input) && ltb (arity kind) 1
 
 pub other-arity : (kind : ℕ) (g : Bool) → g ≡ isGate kind → not g ≡ true → arity kind ≤ 1
 unfolding any several
@@ -52,6 +58,19 @@ other-arity kind g is f =
       | yes l ↦ let h = any-none several 6 .0 refl kind l in ltb-false 1 (arity kind) (rw (← is, f) at h)
       | no h ↦ omega (arith, List·getD-eq-default arities 0 (let h : 6 ≤ kind = omega arith in h))
     ]
+
+pub gate-arity : (kind : ℕ) (g : Bool) → g ≡ isGate kind → g ≡ true → 1 < arity kind
+unfolding any single
+gate-arity kind g is f =
+    let top : kind ≤ majority = leb-true kind majority (and-r (leb and kind) (leb kind majority) (sym is ∙ f)) in
+    let h = any-none single 6 .0 refl kind (omega arith) in
+    omega (arith, ltb-false (arity kind) 2 (rw (← is, f) at h))
+
+pub source-arity : (kind : ℕ) → (kind ≡ input → ⊥) → kind ≤ output → 0 < arity kind
+unfolding any none
+source-arity kind o l =
+    let h = any-none none 6 .0 refl kind (omega arith) in
+    omega (arith, ltb-false (arity kind) 1 (rw (ne-eqb kind input o) at h))
 
 -- not 0, 1 or 2 slots: all
 pub all-used : (kind used : ℕ) → used ≡ arity kind → used ≢ 0 → used ≢ 1 → used ≢ 2 → used ≡ slots

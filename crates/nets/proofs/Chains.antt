@@ -12,7 +12,7 @@ use mir.Syntax.{w16}
 use lib.ListN.{length, getD, set, replicate, length-set, length-replicate, getD-replicate}
 use lib.Seq.{getD-set-same, getD-set-other, set-getD}
 use lib.Dec.{eqb}
-use borrow.Author.Tests.{le-ltb, ltb-true, ltb-false, eq-eqb, ne-eqb}
+use borrow.Author.Tests.{lt-ltb, le-ltb, ltb-true, ltb-false, eq-eqb, ne-eqb}
 use Rattle.facts.specs.Sums.{count, seek}
 use Rattle.facts.proofs.Bools.{and-i, true-false}
 use Rattle.facts.proofs.Sums.{count-false, count-more, rank-lt}
@@ -20,7 +20,7 @@ use Rattle.netlist.specs.declared.Record.{Record}
 use Rattle.netlist.specs.Kinds.{slots, unused, sourceLimit, input, arity, isGate}
 use Rattle.netlist.specs.Records.{Netlist, slot, used, fanin}
 use Rattle.netlist.specs.Source.{IsSource}
-use Rattle.netlist.proofs.Checks.{other-arity}
+use Rattle.netlist.proofs.Checks.{other-arity, gate-arity, source-arity}
 use Rattle.nets.specs.PrivateChains.{slotEnd, usedSlot, faninSlot, namesSlot, nextSink, Emptied, AllUnused, Linked, Chained}
 
 -- what holds only where p does is counted nowhere on the way to the first p
@@ -207,18 +207,35 @@ module _ (n : Netlist) (i : ℕ) (first next : List ℕ) (s : IsSource n) (l : i
     pub slot-next-inside : x < length next
     slot-next-inside = omega (arith, h .nextLong)
 
+    -- a slot that is used, by a kind with more slots than j
+    module _ (u : j < arity (r .kind)) where
+      uses : used n i j ≡ true
+      uses = lt-ltb j _ (subst (λ (r : Record). j < arity (r .kind)) q u)
+
+      inside : v < n .size
+      inside = omega (arith, named, s .earlier i j l (ltb-true j _ uses))
+
+      pub sink-first-inside : (t : ℕ) → t ≡ v → t < length first
+      sink-first-inside t e = omega (arith, h .firstLong, inside)
+
+      pub sink-linked : (t : ℕ) → t ≡ v → Linked n (set first t x) (set next x (getD first t 0)) x
+      sink-linked t e = link-used n first next x t below (omega arith) (e ∙ named ∙ sym (at-x (fanin n))) (omega (arith, inside)) (at-x (used n) ∙ uses)
+
     -- a used slot names an earlier record, and an unused one says so
     whether : (w : Bool) → used n i j ≡ w → eqb v unused ≡ not w
     whether true g = ne-eqb v unused (λ (z : v ≡ unused). omega (arith, s .few, named, s .earlier i j l (ltb-true j _ g)))
     whether false g = eq-eqb v unused (named ∙ s .empty i j l (ltb-false j _ g) b)
 
     module _ (p t : ℕ) (ep : p ≡ cond (eqb v unused) i v) (et : t ≡ p) where
-      driver : (w : Bool) → used n i j ≡ w → t < n .size
-      driver true g = omega (arith, et, named, s .earlier i j l (ltb-true j _ g), (rw (whether true g) at ep))
-      driver false g = omega (arith, et, (rw (whether false g) at ep))
+      by-slot : (w : Bool) → used n i j ≡ w → t ≡ cond (not w) i v
+      by-slot w g = et ∙ ep ∙ ap (λ (b : Bool). cond b i v) (whether w g)
 
       pub slot-first-inside : t < length first
-      slot-first-inside = omega (arith, h .firstLong, driver (used n i j) refl)
+      slot-first-inside = go (used n i j) refl
+        where
+          go : (w : Bool) → used n i j ≡ w → t < length first
+          go true g = omega (arith, h .firstLong, named, s .earlier i j l (ltb-true j _ g), by-slot true g)
+          go false g = omega (arith, h .firstLong, by-slot false g)
 
       pub slot-linked : (a c : ℕ) → a ≡ cond (eqb v unused) unused (getD first t 0) → c ≡ cond (eqb v unused) (getD first t 0) x →
           Linked n (set first t c) (set next x a) x
@@ -227,7 +244,7 @@ module _ (n : Netlist) (i : ℕ) (first next : List ℕ) (s : IsSource n) (l : i
           go : (w : Bool) → used n i j ≡ w → Linked n (set first t c) (set next x a) x
           go true g =
               rw (ec, ea, whether true g)
-              (link-used n first next x t below (omega arith) (et ∙ (rw (whether true g) at ep) ∙ named ∙ sym (at-x (fanin n))) (driver true g) (at-x (used n) ∙ g))
+              (sink-linked (subst (λ (r : Record). j < arity (r .kind)) (sym q) (ltb-true j _ g)) t (by-slot true g))
           go false g =
               let same : getD next x 0 ≡ unused = h .rest x (omega arith) (at-x (used n) ∙ g) in
               rw (ec, ea, whether false g, ← same, set-getD first t 0, set-getD next x 0)
@@ -253,6 +270,14 @@ module _ (n : Netlist) (i : ℕ) (first next : List ℕ) (s : IsSource n) (l : i
   pub later-unused : (g : Bool) → g ≡ isGate (r .kind) → not g ≡ true → Linked n first next (slots * (i + 1)) → Linked n first next (slots * i + 1)
   later-unused g is f h =
       unused-from 1 2 (omega arith) (omega (arith, other-arity (r .kind) g is f, ap (λ (r : Record). arity (r .kind)) q)) (slots-above h)
+
+  -- a gate uses slot 1
+  pub later-used : (g : Bool) → g ≡ isGate (r .kind) → g ≡ true → 1 < arity (r .kind)
+  later-used g is t = gate-arity (r .kind) g is t
+
+  -- all but inputs use slot 0
+  pub first-used : (r .kind ≡ input → ⊥) → 0 < arity (r .kind)
+  first-used o = source-arity (r .kind) o (omega (arith, s .kinds i l, ap (λ (r : Record). r .kind) q))
 
   -- an input: slot 0 too
   pub first-unused : r .kind ≡ input → Linked n first next (slots * i + 1) → Linked n first next (slots * i)

@@ -1,13 +1,11 @@
 -- Laws of the list of counts: its checks, the number of each net, and the numbers looked up.
-use Prim.Native.Nat.{ℕ, suc, _+_, _*_, _/_, _%_, _<_, _≤_}
-use mathlib.Core.Path.{_≡_, refl, sym, _∙_, ap, subst}
+use Prim.Native.Nat.{ℕ, _+_, _*_, _/_, _%_, _<_, _≤_}
+use mathlib.Core.Path.{_≡_, refl, sym, _∙_, ap}
 use mathlib.Core.Bool.{Bool, true, false, not, _||_}
 use mathlib.Core.List.{List}
 use native.Mathlib.Omega.{arith}
-use native.Mathlib.Decide.{ℕ-discrete}
-use lib.ListN.{length, getD, set, replicate, length-set}
-use lib.Seq.{getD-set-same, getD-set-other}
-use lib.Dec.{ltb, eqb, leb}
+use lib.ListN.{length, getD}
+use lib.Dec.{ltb, eqb}
 use borrow.Author.Tests.{eq-eqb, ne-eqb, lt-ltb, le-ltb, ltb-false, not-false}
 use Rattle.facts.specs.declared.Checked.{Checked}
 use Rattle.facts.specs.declared.Checked.the-variants.{Passed, Refused}
@@ -20,18 +18,16 @@ use Rattle.facts.proofs.Stored.{Stored, stored-more, stored-all}
 use Rattle.facts.proofs.Loops.{Scanning, scan-more, scan-stop}
 use Rattle.facts.proofs.Reflect.{check-passed, then-passed, scan-passed, or-none, unlike-none}
 use Rattle.netlist.specs.declared.Capacities.{Capacities}
-use Rattle.netlist.specs.Kinds.{slots, topLevel, sourceLimit, isDriver}
-use Rattle.netlist.specs.Capacities.{capacityOf}
-use Rattle.netlist.specs.Records.{Netlist, netlist, recordCount, recordAt}
+use Rattle.netlist.specs.Kinds.{slots, sourceLimit, isDriver}
+use Rattle.netlist.specs.Records.{netlist, recordCount, recordAt}
 use Rattle.netlist.specs.Checks.{inputChecks}
 use Rattle.netlist.proofs.Source.{input-passed, driver-inside}
-use Rattle.fanout.specs.declared.TreeTotals.{TreeTotals}
 use Rattle.fanout.specs.declared.Count.{Count}
-use Rattle.fanout.specs.Answer.{noTree, netCount, countNumbers, countAnswer}
+use Rattle.fanout.specs.Answer.{netCount, countNumbers, countAnswer}
 use Rattle.fanout.specs.Promises.{Asked}
 use Rattle.fanout.proofs.Call.{call-counted}
 use Rattle.nets.specs.Counts.{indexLimit, indexCount, indexAt, badLists, indexCheck, listChecks, countsAnswer, singleCount, countsArea}
-use Rattle.nets.specs.PrivateChains.{Linked, Chained, Measured}
+use Rattle.nets.specs.PrivateChains.{Linked, Chained}
 use Rattle.nets.proofs.TreeCounts.{input-chained}
 use Rattle.nets.specs.PrivateCounts.{netNumber, NetNumbers, IndicesIn}
 
@@ -77,57 +73,6 @@ module _ (source records counts : List ℕ) (b : Bool) (e : b ≡ badLists recor
   pub lists-good : (a : Checked) → b ≡ false → a ≡ scan (indexCheck source records) 0 (indexCount records) → a ≡ listChecks source records counts
   unfolding listChecks
   lists-good a t f = f ∙ rw (← e, t)
-
--- the number of a net
-module _ (n : Netlist) (caps : Capacities) (d : ℕ) (t : TreeTotals) (m : Measured n caps d t) (b : Bool)
-    (e : b ≡ leb (t .nodes) (capacityOf caps (n .at d .kind))) where
-  pub number-fewest : b ≡ true → t .buffers ≡ netNumber n caps d
-  unfolding countNumbers
-  number-fewest f = m .buffers ∙ rw (← m .nodes, ← e, f)
-
-  pub number-none : b ≡ false → noTree ≡ netNumber n caps d
-  unfolding countNumbers
-  number-none f = rw (← m .nodes, ← e, f)
-
--- the numbers of the first d records
-pub record Numbering (n : Netlist) (caps : Capacities) (N : ℕ) (counts totals : List ℕ) (d : ℕ) : Type 0 where
-  pub within : d ≤ N
-  pub numbers : NetNumbers n caps d totals
-  pub clear : counts ≡ replicate (suc topLevel) 0
-
-module _ (n : Netlist) (caps : Capacities) (N : ℕ) where
-  pub numbers-start : (first next counts totals : List ℕ) (end : ℕ) → Chained n first next 0 end → counts ≡ replicate (suc topLevel) 0 →
-      length totals ≡ sourceLimit → Numbering n caps N counts totals 0
-  numbers-start first next counts totals end h e l =
-      record {
-        within = omega arith;
-        numbers = record { at = λ d b. absurd (omega arith); long = omega (arith, h .source .few) };
-        clear = e;
-      }
-
-  module _ (counts totals : List ℕ) (d : ℕ) (h : Numbering n caps N counts totals d) (size : N ≡ n .size) where
-    pub numbers-inside : d < N → d < length totals
-    numbers-inside l = omega (arith, h .numbers .long)
-
-    pub numbers-more : (after : List ℕ) (v : ℕ) → d < N → v ≡ netNumber n caps d → after ≡ replicate (suc topLevel) 0 →
-        Numbering n caps N after (set totals d v) (d + 1)
-    numbers-more after v l e c =
-        record {
-          within = omega arith;
-          numbers =
-              record {
-                at = λ x b.
-                    elim (ℕ-discrete x d) [
-                      | yes q ↦ rw q (getD-set-same totals d v 0 (omega (arith, h .numbers .long)) ∙ e)
-                      | no q ↦ getD-set-other totals d x v 0 q ∙ h .numbers .at x (omega (arith, q))
-                    ];
-                long = omega (arith, length-set totals d v, h .numbers .long);
-              };
-          clear = c;
-        }
-
-    pub numbers-end : N ≤ d → NetNumbers n caps N totals
-    numbers-end l = let e : d ≡ N = omega (arith, h .within) in subst (λ (x : ℕ). NetNumbers n caps x totals) e (h .numbers)
 
 -- the numbers of the indices before k, looked up and stored
 module _ (records totals area old : List ℕ) (k : ℕ) where

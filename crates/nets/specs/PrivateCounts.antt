@@ -1,8 +1,8 @@
--- For functions inside the engine alone: what the local array of counts holds.
-use Prim.Native.Nat.{ℕ, _<_, _≤_}
+-- For functions inside the engine alone: what the local array of all nets' numbers holds.
+use Prim.Native.Nat.{ℕ, _<_}
 use mathlib.Core.Path.{_≡_}
 use mathlib.Core.List.{List}
-use lib.ListN.{length, getD}
+use lib.ListN.{getD}
 use Rattle.netlist.specs.declared.Capacities.{Capacities}
 use Rattle.netlist.specs.Kinds.{sourceLimit}
 use Rattle.netlist.specs.Records.{Netlist}
@@ -16,7 +16,6 @@ netNumber n caps d = getD (countNumbers (netCount n caps d)) 2 0
 -- the numbers of the first m records
 pub record NetNumbers (n : Netlist) (caps : Capacities) (m : ℕ) (totals : List ℕ) : Type 0 where
   pub at : (d : ℕ) → d < m → getD totals d 0 ≡ netNumber n caps d
-  pub long : n .size ≤ length totals
 
 -- every index of a list stands within an array for the largest source
 pub record IndicesIn (records : List ℕ) : Type 0 where

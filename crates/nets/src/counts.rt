@@ -1,25 +1,19 @@
 // The checks and the area of a list of counts.
 ghost use mathlib.Core.Path.{_≡_};
-ghost use Prim.Native.Nat.{suc, _*_, _<_};
-ghost use lib.ListN.{length, getD, replicate};
+ghost use Prim.Native.Nat.{_*_, _<_};
+ghost use lib.ListN.{length, getD};
 ghost use Rattle.facts.specs.Checks.{scan};
 ghost use Rattle.facts.specs.Bytes.{four};
 ghost use Rattle.facts.specs.Lists.{joined};
 ghost use Rattle.facts.specs.declared.Checked.{Checked};
-ghost use Rattle.netlist.specs.Kinds.{topLevel, sourceLimit};
-ghost use Rattle.netlist.specs.Capacities.{Allowed};
-ghost use Rattle.netlist.specs.Records.{netlist, recordCount};
 ghost use Rattle.nets.specs.Counts.{indexCount, indexAt, badLists, indexCheck, listChecks, countsAnswer, countsArea};
-ghost use Rattle.nets.specs.PrivateChains.{Chained, Measured};
-ghost use Rattle.nets.specs.PrivateCounts.{netNumber, NetNumbers, IndicesIn};
+ghost use Rattle.nets.specs.PrivateCounts.{IndicesIn};
 use crate::sinks;
 use crate::sinks::RECORDS;
 use crate::sinks::SINKS;
 use crate::trees;
 use facts::Checked;
 use fanout::DISTANCES;
-use fanout::NO_TREE;
-use fanout::TreeTotals;
 use netlist::Capacities;
 use netlist::SLOTS;
 use netlist::UNUSED;
@@ -57,8 +51,8 @@ fn check_indices(source: &[u8], records: &[u8]) -> Checked
     let n = records.len() / 2;
     let mut k: usize = 0;
     while k < n {
-        let kind = netlist::kind_at(source, index_at(records, k));
-        if !netlist::is_driver(kind) {
+        let d = index_at(records, k);
+        if !netlist::is_driver(netlist::kind_at(source, d)) {
             return Checked::Refused(20, k as u32);
         }
         k += 1;
@@ -92,45 +86,6 @@ pub(crate) fn check_counts(
     }
 }
 
-// The number of d's net, whose tree is counted: its buffers, or what stands for no tree.
-fn number_of(source: &[u8], capacities: Capacities, d: usize, tree: TreeTotals) -> u32
-    requires { ⌜ Allowed capacities ⌝ }
-    requires { ⌜ Measured (netlist (now source)) capacities d tree ⌝ }
-    ensures { λ r. ⌜ r ≡ netNumber (netlist (now (source .entry))) capacities d ⌝ }
-{
-    if trees::may_feed(source, capacities, d, tree.nodes) {
-        tree.buffers
-    } else {
-        NO_TREE
-    }
-}
-
-// The numbers of the nets of all n records, each counted once. The row is all zero before and after.
-fn count_each(
-    source: &[u8],
-    capacities: Capacities,
-    n: usize,
-    end: usize,
-    first: &[u16],
-    next: &[u16],
-    row: &mut [u32; DISTANCES],
-    totals: &mut [u32; RECORDS],
-)
-    requires { ⌜ Chained (netlist (now source)) (now first) (now next) 0 end ⌝ }
-    requires { ⌜ Allowed capacities ⌝ }
-    requires { ⌜ n ≡ recordCount (now source) ⌝ }
-    requires { ⌜ now row ≡ replicate (suc topLevel) 0 ⌝ }
-    requires { ⌜ length (now totals) ≡ sourceLimit ⌝ }
-    ensures { λ _. ⌜ NetNumbers (netlist (now (source .entry))) capacities n (now (totals .exit)) ⌝ }
-{
-    let mut d: usize = 0;
-    while d < n {
-        let tree = trees::measure(source, capacities, end, first, next, d, row);
-        totals[d] = number_of(source, capacities, d, tree);
-        d += 1;
-    }
-}
-
 // The number of each index of a list, in four bytes.
 fn write_counts(records: &[u8], totals: &[u32; RECORDS], counts: &mut [u8])
     requires { ⌜ IndicesIn (now records) ⌝ }
@@ -160,7 +115,7 @@ pub(crate) fn write_list(source: &[u8], capacities: Capacities, records: &[u8], 
     sinks::link_all(source, n, &mut first, &mut next);
     let mut row = [0u32; DISTANCES];
     let mut totals = [0u32; RECORDS];
-    count_each(
+    trees::count_each(
         source,
         capacities,
         n,

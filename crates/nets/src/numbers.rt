@@ -1,6 +1,6 @@
 // Small numbers: stored ones as indices, bits, one of two.
 ghost use mathlib.Core.Path.{_≡_};
-ghost use Prim.Native.Nat.{max};
+ghost use Prim.Native.Nat.{max, _<_};
 ghost use mathlib.Core.Bool.{cond};
 ghost use Rattle.facts.specs.Sums.{bit};
 
@@ -34,7 +34,7 @@ pub fn one_if(b: bool) -> u32
 
 // A stored count, as a number to add to an index.
 pub fn amount(x: u32) -> usize
-    ensures { λ r. ⌜ r ≡ x ⌝ }
+    ensures { λ r. ⌜ (r ≡ x) × (r < 4294967296) ⌝ }
 {
     x as usize
 }

@@ -2,7 +2,7 @@
 ghost use mathlib.Core.Path.{_≡_};
 ghost use Prim.Native.Nat.{suc, _+_, _-_, _*_, _/_, _<_, _≤_};
 ghost use lib.ListN.{length, replicate};
-ghost use Rattle.netlist.specs.Kinds.{slots, topLevel};
+ghost use Rattle.netlist.specs.Kinds.{slots, topLevel, arity};
 ghost use Rattle.netlist.specs.Records.{netlist, recordCount};
 ghost use Rattle.netlist.specs.Source.{IsSource};
 ghost use Rattle.nets.specs.PrivateChains.{Above, Emptied, Linked, Chained, ChainIs};
@@ -41,7 +41,22 @@ pub fn empty_chains(n: usize, end: u16, first: &mut [u16])
     }
 }
 
-// Slot j of r, which is record i: it comes before what its driver had first. An unused slot stays unused, and record i's first sink as it was; so no branch goes by the slot.
+// Slot j of r, which is record i and uses it: it comes before what its driver had first.
+fn link_sink(source: &[u8], i: usize, r: Record, j: usize, first: &mut [u16], next: &mut [u16])
+    requires { ⌜ IsSource (netlist (now source)) ⌝ }
+    requires { ⌜ (i < netlist (now source) .size) × (j < slots) ⌝ }
+    requires { ⌜ j < arity (r .kind) ⌝ }
+    requires { ⌜ r ≡ netlist (now source) .at i ⌝ }
+    requires { ⌜ Linked (netlist (now source)) (now first) (now next) (slots * i + (j + 1)) ⌝ }
+    ensures { λ _. ⌜ Linked (netlist (now (source .entry))) (now (first .exit)) (now (next .exit)) (slots * i + j) ⌝ }
+{
+    let d = numbers::index(netlist::slot(r, j));
+    let x = SLOTS * i + j;
+    next[x] = first[d];
+    first[d] = x as u16;
+}
+
+// Slot j of r, which is record i, used or not. An unused slot stays unused, and record i's first sink as it was; so no branch goes by the slot.
 fn link_slot(source: &[u8], i: usize, r: Record, j: usize, first: &mut [u16], next: &mut [u16])
     requires { ⌜ IsSource (netlist (now source)) ⌝ }
     requires { ⌜ (i < netlist (now source) .size) × (j < slots) ⌝ }
@@ -58,7 +73,7 @@ fn link_slot(source: &[u8], i: usize, r: Record, j: usize, first: &mut [u16], ne
     first[driver] = numbers::pick(unused, old, x as u16);
 }
 
-// Slots 2 and 1 of r, which is record i: no record but a gate uses them.
+// Slots 2 and 1 of r, which is record i: a gate uses slot 1 and may use slot 2, and no other record uses either.
 fn link_later_slots(source: &[u8], i: usize, r: Record, first: &mut [u16], next: &mut [u16])
     requires { ⌜ IsSource (netlist (now source)) ⌝ }
     requires { ⌜ i < netlist (now source) .size ⌝ }
@@ -70,7 +85,7 @@ fn link_later_slots(source: &[u8], i: usize, r: Record, first: &mut [u16], next:
         return;
     }
     link_slot(source, i, r, 2, first, next);
-    link_slot(source, i, r, 1, first, next);
+    link_sink(source, i, r, 1, first, next);
 }
 
 // The slots of r, which is record i, from the last one down: an input uses none.
@@ -85,7 +100,7 @@ fn link_slots(source: &[u8], i: usize, r: Record, first: &mut [u16], next: &mut 
     if r.kind == INPUT {
         return;
     }
-    link_slot(source, i, r, 0, first, next);
+    link_sink(source, i, r, 0, first, next);
 }
 
 // The chains of all slots, from the last record down.

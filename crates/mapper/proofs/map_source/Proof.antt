@@ -14,8 +14,11 @@ slice-aggregate-map-with c = search needs
 slice-aggregate-map-with-2 : tie.Need-slice-aggregate-map-with-2
 slice-aggregate-map-with-2 c = search needs
 
+slice-aggregate-map-with-3 : tie.Need-slice-aggregate-map-with-3
+slice-aggregate-map-with-3 c = search needs
+
 map-with-requires : tie.Need-map-with-requires
-map-with-requires c κs = (search needs, (search needs, (search needs, search (needs, all-unused))))
+map-with-requires c κs = (search needs, (search needs, (search needs, (search needs, search (needs, all-unused)))))
 
 same-length : tie.Need-same-length
 same-length c = search needs
@@ -23,14 +26,17 @@ same-length c = search needs
 returns : tie.Need-returns
 returns c = search needs
 
-slice-aggregate-map-with-3 : tie.Need-slice-aggregate-map-with-3
-slice-aggregate-map-with-3 c = search needs
-
 slice-aggregate-map-with-4 : tie.Need-slice-aggregate-map-with-4
 slice-aggregate-map-with-4 c = search needs
 
+slice-aggregate-map-with-5 : tie.Need-slice-aggregate-map-with-5
+slice-aggregate-map-with-5 c = search needs
+
+slice-aggregate-map-with-6 : tie.Need-slice-aggregate-map-with-6
+slice-aggregate-map-with-6 c = search needs
+
 map-with-requires-2 : tie.Need-map-with-requires-2
-map-with-requires-2 c κs = (search needs, (search needs, ((search (input-source, records-few), search (input-source, slots-few)), search (needs, all-unused))))
+map-with-requires-2 c κs = (search needs, (search needs, ((search (input-source, records-few), search (input-source, slots-few)), (search (input-source, records-few), search (needs, all-unused)))))
 
 same-length-2 : tie.Need-same-length-2
 same-length-2 c = search needs
@@ -45,11 +51,13 @@ map-source-spec =
     record-count-requires
     slice-aggregate-map-with
     slice-aggregate-map-with-2
+    slice-aggregate-map-with-3
     map-with-requires
     same-length
     returns
-    slice-aggregate-map-with-3
     slice-aggregate-map-with-4
+    slice-aggregate-map-with-5
+    slice-aggregate-map-with-6
     map-with-requires-2
     same-length-2
     returns-2)

@@ -1,5 +1,5 @@
 -- `source_ends` meets its contract: the chains, the trees, then 8 or what follows it.
-use Rattle.mapper.proofs.Answering.{counted-all}
+use Rattle.mapper.proofs.Answering.{sized-all}
 use Rattle.nets.proofs.TreeCounts.{input-source}
 use Rattle.nets.proofs.Chains.{all-unused, records-few, slots-few, end-fits, link-start}
 use Rattle.mapper.proofs.View.{ends-tree}
@@ -28,8 +28,11 @@ slice-aggregate-size-trees c = search needs
 slice-aggregate-size-trees-2 : tie.Need-slice-aggregate-size-trees-2
 slice-aggregate-size-trees-2 c = search needs
 
+slice-aggregate-size-trees-3 : tie.Need-slice-aggregate-size-trees-3
+slice-aggregate-size-trees-3 c = search needs
+
 size-trees-requires : tie.Need-size-trees-requires
-size-trees-requires c κs = (search needs, (search needs, (search needs, (search (needs, input-source, slots-few, all-unused, link-start), search needs))))
+size-trees-requires c κs = (search needs, ((search needs, search (needs, input-source, records-few)), (search needs, (search (needs, input-source, slots-few, all-unused, link-start), search needs))))
 
 enum-known-sizing : tie.Need-enum-known-sizing
 enum-known-sizing c = search needs
@@ -37,11 +40,9 @@ enum-known-sizing c = search needs
 slice-aggregate-counted-ends : tie.Need-slice-aggregate-counted-ends
 slice-aggregate-counted-ends c = search needs
 
-slice-aggregate-counted-ends-2 : tie.Need-slice-aggregate-counted-ends-2
-slice-aggregate-counted-ends-2 c = search needs
-
 counted-ends-requires : tie.Need-counted-ends-requires
-counted-ends-requires c κs = counted-all _ _ (search needs) _ (search needs) _ _ (search needs) (c .before .before .before .sizing .given .1) _ _ _ (search needs)
+counted-ends-requires c κs =
+    sized-all _ _ (search needs) _ (search needs) _ _ (search needs) (c .before .before .sizing .given .1) _ (search needs) (search (needs, input-source, records-few))
 
 enum-told : tie.Need-enum-told
 enum-told c = search needs
@@ -66,10 +67,10 @@ source-ends-spec =
     empty-chains-requires
     slice-aggregate-size-trees
     slice-aggregate-size-trees-2
+    slice-aggregate-size-trees-3
     size-trees-requires
     enum-known-sizing
     slice-aggregate-counted-ends
-    slice-aggregate-counted-ends-2
     counted-ends-requires
     enum-told
     no-ends-requires

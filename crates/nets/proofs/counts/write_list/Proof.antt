@@ -36,8 +36,11 @@ slice-aggregate-count-each c = search needs
 slice-aggregate-count-each-2 : tie.Need-slice-aggregate-count-each-2
 slice-aggregate-count-each-2 c = search needs
 
+slice-aggregate-count-each-3 : tie.Need-slice-aggregate-count-each-3
+slice-aggregate-count-each-3 c = search needs
+
 count-each-requires : tie.Need-count-each-requires
-count-each-requires c κs = (search (needs, list-chained), (search (list-input, input-allowed), (search needs, (search needs, search needs))))
+count-each-requires c κs = (search (needs, list-chained), (search (list-input, input-allowed), ((search needs, search (needs, list-input, input-source, records-few)), search needs)))
 
 write-counts-requires : tie.Need-write-counts-requires
 write-counts-requires c κs = (search list-inside, search list-long)
@@ -62,6 +65,7 @@ write-list-spec =
     link-all-requires
     slice-aggregate-count-each
     slice-aggregate-count-each-2
+    slice-aggregate-count-each-3
     count-each-requires
     write-counts-requires
     same-length

@@ -1,5 +1,6 @@
 -- `link_later_slots` meets its contract: slot 2, then slot 1, or neither.
-use Rattle.nets.proofs.Chains.{slots-above, later-unused}
+use Rattle.nets.proofs.Chains.{slots-above, later-unused, later-used}
+use borrow.Author.Tests.{not-false}
 use borrow.Author.Needs.{needs}
 use Rattle.nets.proofs.sinks.link_later_slots.Statement.{statement}
 use Rattle.nets.proofs.sinks.link_later_slots.Tie as tie
@@ -13,8 +14,8 @@ returns c = search later-unused
 link-slot-requires : tie.Need-link-slot-requires
 link-slot-requires c κs = search (needs, slots-above)
 
-link-slot-requires-2 : tie.Need-link-slot-requires-2
-link-slot-requires-2 c κs = (search needs, (search needs, (search needs, search needs)))
+link-sink-requires : tie.Need-link-sink-requires
+link-sink-requires c κs = (search needs, (search needs, (search (later-used, not-false), (search needs, search needs))))
 
 same-length : tie.Need-same-length
 same-length c = search needs
@@ -32,7 +33,7 @@ link-later-slots-spec =
     is-gate-requires
     returns
     link-slot-requires
-    link-slot-requires-2
+    link-sink-requires
     same-length
     same-length-2
     returns-2)

@@ -1,5 +1,5 @@
 -- `link_slots` meets its contract: the later slots, then slot 0.
-use Rattle.nets.proofs.Chains.{first-unused, slots-done}
+use Rattle.nets.proofs.Chains.{first-unused, first-used, slots-done}
 use borrow.Author.Needs.{needs}
 use Rattle.nets.proofs.sinks.link_slots.Statement.{statement}
 use Rattle.nets.proofs.sinks.link_slots.Tie as tie
@@ -16,8 +16,8 @@ same-length-2 c = search needs
 returns : tie.Need-returns
 returns c = search first-unused
 
-link-slot-requires : tie.Need-link-slot-requires
-link-slot-requires c κs = (search needs, (search needs, (search needs, search needs)))
+link-sink-requires : tie.Need-link-sink-requires
+link-sink-requires c κs = (search needs, (search needs, (search first-used, (search needs, search needs))))
 
 same-length-3 : tie.Need-same-length-3
 same-length-3 c = search needs
@@ -36,7 +36,7 @@ link-slots-spec =
     same-length
     same-length-2
     returns
-    link-slot-requires
+    link-sink-requires
     same-length-3
     same-length-4
     returns-2)
