@@ -92,9 +92,9 @@ fn write_counts(records: &[u8], totals: &[u32; RECORDS], counts: &mut [u8])
     requires { ⌜ length (now counts) ≡ 4 * indexCount (now records) ⌝ }
     ensures { λ _. ⌜ now (counts .exit) ≡ joined (λ k. four (getD (now (totals .entry)) (indexAt (now (records .entry)) k) 0)) (indexCount (now (records .entry))) ⌝ }
 {
-    let n = records.len() / 2;
+    let listed = records.len() / 2;
     let mut k: usize = 0;
-    while k < n {
+    while k < listed {
         let d = index_at(records, k);
         let total = totals[d];
         facts::write_four(counts, k, total);
