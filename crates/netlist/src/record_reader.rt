@@ -38,9 +38,17 @@ pub(crate) fn record_part<'a>(bytes: &'a [u8], k: usize) -> &'a [u8]
 }
 
 // A record within the end.
-pub(crate) fn read_at(bytes: &[u8], k: usize) -> Record
+pub fn read_at(bytes: &[u8], k: usize) -> Record
     requires { ⌜ k < recordCount (now bytes) ⌝ }
     ensures { λ r. ⌜ r ≡ recordAt (now (bytes .entry)) k ⌝ }
 {
     read_record(record_part(bytes, k))
+}
+
+// The kind of a record within the end.
+pub fn kind_within(bytes: &[u8], k: usize) -> u8
+    requires { ⌜ k < recordCount (now bytes) ⌝ }
+    ensures { λ r. ⌜ r ≡ recordAt (now (bytes .entry)) k .kind ⌝ }
+{
+    read_at(bytes, k).kind
 }

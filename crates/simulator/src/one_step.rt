@@ -8,6 +8,7 @@ ghost use Rattle.netlist.specs.Balance.{Named};
 ghost use Rattle.simulator.specs.Step.{renewedBelow, older, stepped};
 ghost use Rattle.simulator.specs.PrivateStep.{Buffered, copied};
 use crate::plain_logic;
+use netlist::record_reader;
 
 // Keeps the first m bytes of a state area, as 0 or 1, in the next m.
 fn keep(m: usize, state: &mut [u8])
@@ -31,7 +32,7 @@ fn renew(mapped: &[u8], row: &[u8], n: usize, m: usize, state: &mut [u8])
     let mut i: usize = 0;
     while i < n {
         state[i] = plain_logic::next_byte(mapped, row, given, i, &state[m..]);
-        given += facts::one_if(netlist::kind_at(mapped, i) == netlist::INPUT);
+        given += facts::one_if(record_reader::kind_within(mapped, i) == netlist::INPUT);
         i += 1;
     }
 }

@@ -11,6 +11,7 @@ ghost use Rattle.simulator.specs.Logic.{on, turned, values};
 ghost use Rattle.simulator.specs.PrivateLogic.{functionIn, valueIn, Wired, readIn, thirdIn};
 use facts::one_if;
 use netlist::Record;
+use netlist::record_reader;
 
 // The value as a byte.
 pub(crate) fn byte_of(b: bool) -> u8
@@ -88,10 +89,11 @@ fn function_of(r: Record, held: &[u8]) -> bool
 
 // What record i holds next, as a byte: an input byte `given` of the row, every other record its function.
 pub(crate) fn next_byte(bytes: &[u8], row: &[u8], given: usize, i: usize, held: &[u8]) -> u8
+    requires { ⌜ i < recordCount (now bytes) ⌝ }
     requires { ⌜ Wired (recordAt (now bytes) i) (length (now held)) ⌝ }
     ensures { λ b. ⌜ b ≡ bit (valueIn (recordAt (now (bytes .entry)) i) (on (now (row .entry)) given) (now (held .entry))) ⌝ }
 {
-    let r = netlist::record_at(bytes, i);
+    let r = record_reader::read_at(bytes, i);
     if r.kind == netlist::INPUT {
         return byte_of(is_on(row, given));
     }
@@ -108,7 +110,7 @@ pub(crate) fn fill(source: &[u8], row: &[u8], n: usize, area: &mut [u8])
     let mut i: usize = 0;
     while i < n {
         area[i] = next_byte(source, row, given, i, &area[0..i]);
-        given += one_if(netlist::kind_at(source, i) == netlist::INPUT);
+        given += one_if(record_reader::kind_within(source, i) == netlist::INPUT);
         i += 1;
     }
 }

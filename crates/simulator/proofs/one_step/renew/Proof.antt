@@ -28,13 +28,13 @@ part-next-byte-end : tie.Need-part-next-byte-end Inv-loop μ-loop
 part-next-byte-end c = search needs
 
 next-byte-requires : tie.Need-next-byte-requires Inv-loop μ-loop
-next-byte-requires c κs = search renewing-wired
+next-byte-requires c κs = (search needs, search renewing-wired)
 
 slice-write-state : tie.Need-slice-write-state Inv-loop μ-loop
 slice-write-state c = search needs
 
-kind-at-requires : tie.Need-kind-at-requires Inv-loop μ-loop
-kind-at-requires c κs = search needs
+kind-within-requires : tie.Need-kind-within-requires Inv-loop μ-loop
+kind-within-requires c κs = search needs
 
 one-if-requires : tie.Need-one-if-requires Inv-loop μ-loop
 one-if-requires c κs = search needs
@@ -69,7 +69,7 @@ renew-spec =
     part-next-byte-end
     next-byte-requires
     slice-write-state
-    kind-at-requires
+    kind-within-requires
     one-if-requires
     add-given
     add-i

@@ -4,8 +4,8 @@ use borrow.Author.Needs.{needs}
 use Rattle.simulator.proofs.plain_logic.next_byte.Statement.{statement}
 use Rattle.simulator.proofs.plain_logic.next_byte.Tie as tie
 
-record-at-requires : tie.Need-record-at-requires
-record-at-requires c κs = search needs
+read-at-requires : tie.Need-read-at-requires
+read-at-requires c κs = search needs
 
 is-on-requires : tie.Need-is-on-requires
 is-on-requires c κs = search needs
@@ -29,7 +29,7 @@ pub next-byte-spec : {M : Type 1} → statement M
 next-byte-spec =
     tie.close
     (tie.spec
-    record-at-requires
+    read-at-requires
     is-on-requires
     byte-of-requires
     returns
