@@ -3,7 +3,6 @@ ghost use mathlib.Core.Path.{_≡_};
 ghost use Prim.Native.Nat.{_*_, _<_};
 ghost use lib.ListN.{length};
 ghost use Rattle.facts.specs.Checks.{checkedNumbers};
-ghost use Rattle.facts.specs.Bytes.{four};
 ghost use Rattle.netlist.specs.Capacities.{capacitiesOf};
 ghost use Rattle.fanout.specs.Answer.{countAnswer, countNumbers};
 ghost use Rattle.nets.specs.Counts.{countsAnswer, countsArea};

@@ -1,5 +1,4 @@
--- Laws of counting trees: of one net, of each net in turn, and of their sum, where the checks from driver d on are the checks and the
--- total is that of the drivers before d.
+-- Laws of counting trees: of one net, of each net in turn, and of the sum of their numbers.
 use Prim.Native.Nat.{ℕ, suc, min, _+_, _*_, _≤_, _<_}
 use mathlib.Core.Path.{_≡_, refl, sym, _∙_, ap, ap₂, subst}
 use mathlib.Core.Logic.{_⊎_, inl, inr}
@@ -63,7 +62,7 @@ pub one-hangs : (caps : Capacities) (kind nodes : ℕ) → Allowed caps → node
 one-hangs caps kind nodes a h = sym (le-leb nodes (capacityOf caps kind) (omega (arith, capacity-least caps kind a)))
 
 -- the number of a net, from its tree
-pub number-is : (n : Netlist) (caps : Capacities) (d : ℕ) (t : TreeTotals) → Measured n caps d t → (b : Bool) (v : ℕ) →
+number-is : (n : Netlist) (caps : Capacities) (d : ℕ) (t : TreeTotals) → Measured n caps d t → (b : Bool) (v : ℕ) →
     b ≡ leb (t .nodes) (capacityOf caps (n .at d .kind)) → v ≡ cond b (t .buffers) noTree → v ≡ netNumber n caps d
 unfolding countNumbers
 number-is n caps d t m b v e f = f ∙ go b refl
@@ -188,12 +187,10 @@ module _ (n : Netlist) (caps : Capacities) (N : ℕ) where
     pub count-numbers : N ≤ d → NetNumbers n caps N totals
     count-numbers l = let e : d ≡ N = omega (arith, h .within) in subst (λ (x : ℕ). NetNumbers n caps x totals) e (h .numbers)
 
--- a counted net's number, by whether it has a tree
-by-number : (n : Netlist) (caps : Capacities) (d v : ℕ) → v ≡ netNumber n caps d → (b : Bool) → netHasTree n caps d ≡ b →
-    v ≡ cond b (treeSize n caps d) noTree
+-- the number of a net that has a tree
+tree-number : (n : Netlist) (caps : Capacities) (d : ℕ) → netHasTree n caps d ≡ true → netNumber n caps d ≡ treeSize n caps d
 unfolding countNumbers
-by-number n caps d v e true f = e ∙ rw f refl
-by-number n caps d v e false f = e ∙ rw f refl
+tree-number n caps d e = rw e refl
 
 -- the sum of numbers before d
 pub record Summing (totals : List ℕ) (m total d : ℕ) : Type 0 where
@@ -238,7 +235,7 @@ pub numbers-sum : (bytes : List ℕ) (caps : Capacities) (N : ℕ) (totals : Lis
 numbers-sum bytes caps N totals m c t e k =
     sum-cong _ _ m
     (λ d l.
-    by-number (netlist bytes) caps d _ (t .at d (omega arith)) true
+    t .at d (omega arith) ∙ tree-number (netlist bytes) caps d
     (not-false _ (check-passed 8 d _ .0 (scan-passed (treeCheck (netlist bytes) caps) (recordCount bytes) .0 c d (omega arith)))))
 
 -- what an answer of the count says

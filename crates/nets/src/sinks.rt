@@ -104,7 +104,7 @@ fn link_slots(source: &[u8], i: usize, r: Record, first: &mut [u16], next: &mut 
 }
 
 // The chains of all slots, from the last record down.
-pub fn link_all(source: &[u8], n: usize, first: &mut [u16], next: &mut [u16])
+pub(crate) fn link_all(source: &[u8], n: usize, first: &mut [u16], next: &mut [u16])
     requires { ⌜ IsSource (netlist (now source)) ⌝ }
     requires { ⌜ n ≡ recordCount (now source) ⌝ }
     requires { ⌜ Linked (netlist (now source)) (now first) (now next) (slots * n) ⌝ }
