@@ -7,5 +7,6 @@ pub mod Lists
 pub mod Loops
 pub mod Reflect
 pub mod Refusals
+pub mod Rounding
 pub mod Sums
 pub mod Stored

@@ -4,4 +4,5 @@ pub mod Bytes
 pub mod Checks
 pub mod Lists
 pub mod Refusals
+pub mod Rounding
 pub mod Sums

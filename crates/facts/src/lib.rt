@@ -1,9 +1,10 @@
-// What every call shares and no netlist is needed for: the answer of a list of checks, a byte as a wider number, a bool as one, and a number written in four bytes.
+// What every call shares and no netlist is needed for: the answer of a list of checks, a byte as a wider number, a bool as one, a fraction rounded, and a number written in four bytes.
 ghost use mathlib.Core.Path.{_≡_};
 ghost use Prim.Native.Nat.{_+_, _*_, _<_, _≤_};
 ghost use lib.ListN.{length};
 ghost use Rattle.facts.specs.Areas.{put};
 ghost use Rattle.facts.specs.Bytes.{four};
+ghost use Rattle.facts.specs.Rounding.{rounded};
 ghost use Rattle.facts.specs.Sums.{bit};
 
 // All checks passed, or the number of the first that failed and its place.
@@ -24,6 +25,25 @@ pub fn one_if(b: bool) -> usize
     ensures { λ r. ⌜ r ≡ bit b ⌝ }
 {
     if b { 1 } else { 0 }
+}
+
+// A fraction rounded to the nearest whole number, an exact half to the even neighbour; 0 where the whole is 0.
+pub fn round(part: u32, whole: u32) -> u32
+    ensures { λ r. ⌜ r ≡ rounded part whole ⌝ }
+{
+    if whole == 0 {
+        return 0;
+    }
+    let down = part / whole;
+    let rest = part % whole;
+    let missing = whole - rest;
+    if rest < missing {
+        return down;
+    }
+    if missing < rest {
+        return down + 1;
+    }
+    down + down % 2
 }
 
 // Number k of an area of numbers, four bytes each, low byte first.
