@@ -136,7 +136,8 @@ extern "C" {
  *           records keep their indices; then come buffers by driver, then by distance from it
  *           rising. A mapped area of 600,000 bytes is always enough.
  * Answer:   number, place, M, buffers, D, Josephson junctions (6 a gate, 2 a buffer), share of
- *           the buffers in them (percent, rounded down; 0 if there are none).
+ *           the buffers in them (percent, rounded to the nearest whole number, an exact half to
+ *           the even one: 12.5 gives 12, 13.5 gives 14; 0 if there are no junctions).
  * Checks:   1 to 10.
  * Refused:  mapped stays as it was.
  */

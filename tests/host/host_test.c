@@ -518,6 +518,54 @@ static void test_map_worked(void)
     end();
 }
 
+/* Gates on two inputs of their own, and a line of so many buffers from an input to an output. */
+static void make_priced(unsigned gates, unsigned buffers)
+{
+    unsigned k;
+    clear();
+    for (k = 0; k < 2 * gates + 1; k++)
+        add_input();
+    for (k = 0; k < gates; k++)
+        add_and(1, 2 * k, 2 * k + 1);
+    add_one(OUTPUT, buffers + 1, 2 * gates);
+}
+
+static void test_shares(void)
+{
+    static const struct {
+        unsigned gates, buffers;
+        uint32_t junctions, share;
+        const char *what;
+    } rows[] = {
+        { 7, 3, 48, 12, "12.5 is rounded to the even 12" },
+        { 173, 81, 1200, 14, "13.5 is rounded to the even 14" },
+        { 107, 46, 734, 13, "12.53 is rounded up" },
+        { 171, 80, 1186, 13, "13.49 is rounded down" },
+        { 2, 3, 18, 33, "33.3 is rounded down" },
+        { 1, 6, 18, 67, "66.7 is rounded up" },
+        { 1, 3, 12, 50, "50 stays" },
+        { 13, 1, 80, 2, "2.5 is rounded to the even 2" },
+        { 1364, 0, 8184, 0, "no buffers" },
+        { 199, 3, 1200, 0, "0.5 is rounded to the even 0" },
+        { 1327, 20, 8002, 0, "0.49987 is rounded down" },
+        { 1326, 20, 7996, 1, "0.50025 is rounded up" },
+        { 1, 597, 1200, 100, "99.5 is rounded to the even 100" },
+        { 1, 596, 1198, 99, "99.499 is rounded down" },
+        { 1, 4094, 8194, 100, "99.9 is rounded up" },
+        { 0, 1, 2, 100, "buffers alone" },
+        { 0, 0, 0, 0, "no junctions" }
+    };
+    size_t k;
+    begin("aqfp_map, shares");
+    for (k = 0; k < sizeof rows / sizeof rows[0]; k++) {
+        make_priced(rows[k].gates, rows[k].buffers);
+        do_map(made(), 2, fill(netlist_len + RECORD * rows[k].buffers));
+        check(answered(0, 0) && answer[3] == rows[k].buffers && answer[5] == rows[k].junctions
+              && answer[6] == rows[k].share, rows[k].what);
+    }
+    end();
+}
+
 /* Record 0 with sinks at the distances, gates that name it once and record 1 once. */
 static void make_net(const unsigned *distances, size_t count)
 {
@@ -964,7 +1012,7 @@ static void test_map_sizes(void)
     add_and(3, 2, 1);
     do_map(made(), 2, fill(100));
     check(answered(0, 0) && answer[2] == 7 && answer[3] == 3 && answer[4] == 0 && answer[5] == 18
-          && answer[6] == 33, "a share of 33.3 is rounded down; without outputs D is 0");
+          && answer[6] == 33, "without outputs D is 0");
     two_records(AND, 0, 1, 0, 0, UNUSED);
     for (k = 0; k < 15; k++)
         add_input();
@@ -1722,7 +1770,7 @@ static void hold_block_map(struct blocks b, struct bytes source, struct bytes ma
     expected[3] = buffers;
     expected[4] = 4 + b.line;
     expected[5] = price;
-    expected[6] = 200 * buffers / price;
+    expected[6] = (400 * buffers + price) / (2 * price); /* none is an exact half */
     do_map(source, b.s, fill(mapped.len + 5));
     check(memcmp(answer, expected, sizeof expected) == 0, "the seven numbers");
     check(memcmp(mapped_area.at, mapped.at, mapped.len) == 0, "the mapped netlist");
@@ -1816,7 +1864,7 @@ static void fill_filler(void)
 static void test_all(void)
 {
     static void (*const tests[])(void) = {
-        test_map_worked, test_count_worked, test_count_limits, test_lists_worked,
+        test_map_worked, test_shares, test_count_worked, test_count_limits, test_lists_worked,
         test_list_limits, test_run_worked, test_run_limits, test_capacities, test_source_lengths,
         test_source_records, test_source_order, test_map_sizes, test_count_record,
         test_list_lengths, test_list_records, test_mapped_length, test_mapped_records,

@@ -1,13 +1,13 @@
--- Laws of the mapper's answer: gates, share and junctions, and which check refuses.
-use Prim.Native.Nat.{ℕ, _+_, _*_, _≤_, _<_, _/_}
-use mathlib.Core.Path.{_≡_, sym, ap}
-use mathlib.Core.Bool.{Bool, true, false, cond}
+-- Laws of the mapper's answer: gates, junctions and share, and which check refuses.
+use Prim.Native.Nat.{ℕ, _+_, _*_, _≤_, _<_}
+use mathlib.Core.Path.{_≡_}
+use mathlib.Core.Bool.{true, false}
 use mathlib.Core.List.{List}
 use native.Mathlib.Omega.{arith}
 use mir.Val.{Fits}
 use mir.Syntax.{w32, w64}
 use lib.ListN.{length}
-use borrow.Author.Tests.{eq-eqb, ne-eqb, lt-ltb, le-ltb, not-false}
+use borrow.Author.Tests.{lt-ltb, le-ltb, not-false}
 use Rattle.facts.specs.declared.Checked.{Checked}
 use Rattle.facts.specs.declared.Checked.the-variants.{Passed, Refused}
 use Rattle.facts.specs.Checks.{check}
@@ -31,13 +31,6 @@ use Rattle.nets.specs.declared.trees.Sizing.the-variants.{Total, Stops}
 use Rattle.nets.specs.PrivateCounts.{NetNumbers}
 use Rattle.nets.specs.PrivateChains.{Chained, sizingOf}
 use Rattle.nets.proofs.TreeCounts.{total-small, refusing, counting, input-source, input-allowed}
-
--- the share, where the whole is 0 and where it is not
-pub share-none : (part whole : ℕ) → whole ≡ 0 → 0 ≡ share part whole
-share-none part whole e = ap (λ (b : Bool). cond b 0 (100 * part / whole)) (sym (eq-eqb whole 0 e))
-
-pub share-some : (part whole : ℕ) → (whole ≡ 0 → ⊥) → 100 * part / whole ≡ share part whole
-share-some part whole e = ap (λ (b : Bool). cond b 0 (100 * part / whole)) (sym (ne-eqb whole 0 e))
 
 -- the numbers of an accepted source
 module _ (n : Netlist) (N bs g : ℕ) (size : N ≡ n .size) (few : N ≤ sourceLimit) (b : bs ≤ mappedLimit) (e : g ≡ gates n) where

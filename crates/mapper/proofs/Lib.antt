@@ -7,6 +7,7 @@ pub mod Lines
 pub mod Mapped
 pub mod Nodes
 pub mod Promises
+pub mod Shares
 pub mod SinkParents
 pub mod View
 pub mod Whole

@@ -1,12 +1,13 @@
 -- The mapper's answer (specification 4.1, 2.6, 3.3): checks 1 to 10, seven numbers, the area.
-use Prim.Native.Nat.{ℕ, _+_, _*_, _/_}
-use mathlib.Core.Bool.{Bool, cond}
+use Prim.Native.Nat.{ℕ, _+_, _*_}
+use mathlib.Core.Bool.{Bool}
 use mathlib.Core.List.{List, [], _∷_}
 use lib.ListN.{length}
-use lib.Dec.{ltb, eqb}
+use lib.Dec.{ltb}
 use Rattle.facts.specs.declared.Checked.{Checked}
 use Rattle.facts.specs.Checks.{check, _andThen_, outcome, unlessRefused}
 use Rattle.facts.specs.Areas.{onto}
+use Rattle.facts.specs.Rounding.{rounded}
 use Rattle.netlist.specs.declared.Capacities.{Capacities}
 use Rattle.netlist.specs.Kinds.{width, mappedLimit}
 use Rattle.netlist.specs.Records.{Netlist, netlist, depth}
@@ -46,9 +47,9 @@ bufferPrice = 2
 abbrev pub junctions : ℕ → ℕ → ℕ
 junctions gs bs = gatePrice * gs + bufferPrice * bs
 
--- the buffers' part of all junctions in whole percent, rounded down
+-- the buffers' part of all junctions in percent, rounded
 abbrev pub share : ℕ → ℕ → ℕ
-share part whole = cond (eqb whole 0) 0 (100 * part / whole)
+share part whole = rounded (100 * part) whole
 
 -- a refusal: what follows the place is 0
 abbrev pub refusal : ℕ → ℕ → Mapping

@@ -1,5 +1,6 @@
 pub mod Mapped
 pub mod Answer
 pub mod PrivateWriting
+pub mod Shares
 pub mod View
 pub mod Promises

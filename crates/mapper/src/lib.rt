@@ -54,15 +54,12 @@ struct Ends {
     to: usize,
 }
 
-// The share of a part in whole percent, rounded down.
+// The share of a part in percent, rounded.
 fn share_of(part: u32, whole: u32) -> u32
     requires { ⌜ part ≤ 1000000 ⌝ }
     ensures { λ r. ⌜ r ≡ share part whole ⌝ }
 {
-    if whole == 0 {
-        return 0;
-    }
-    100 * part / whole
+    facts::round(100 * part, whole)
 }
 
 // A refusal: what follows the place is 0.

@@ -1,4 +1,5 @@
 -- The three demands, from the theorems of the crates below and of this one.
+use Rattle.facts.proofs.Rounding.{rounded-exact}
 use Rattle.netlist.proofs.Refusals.{source-exact, input-exact}
 use Rattle.fanout.proofs.Numbers.{numbers-exactly}
 use Rattle.verifier.proofs.Fewest.{on-net-exactly}
@@ -45,6 +46,7 @@ demand-1 =
       keeps = refused-keeps;
       countNumbers = numbers-exactly;
       numbers = numbers-exact;
+      rounding = rounded-exact;
     }
 
 pub demand-2 : Demand2

@@ -1,14 +1,14 @@
 -- The numbers of an accepted mapping are the facts of `Figures`, and no other numbers are: the netlist written has the source's
--- gates and outputs, and a quotient rounded down is one number.
-use Prim.Native.Nat.{ℕ, suc, _+_, _*_, _-_, _/_, _<_}
-use native.Mathlib.Decide.{decLt}
+-- gates and outputs, and a fraction is rounded to one number.
+use Prim.Native.Nat.{ℕ, _+_, _*_, _-_}
 use native.Mathlib.Omega.{arith}
-use native.Mathlib.Nat.{add-sub-of-le, le-div-iff-mul-le, div-lt-iff-lt-mul}
+use native.Mathlib.Nat.{add-sub-of-le}
 use mathlib.Core.Path.{_≡_, refl, sym, ap, subst, _∙_}
 use mathlib.Core.List.{List, [], _∷_}
 use lib.ListN.{take}
 use Rattle.facts.specs.Sums.{count}
 use Rattle.facts.proofs.Bools.{true-false}
+use Rattle.facts.proofs.Rounding.{rounded-exact}
 use Rattle.facts.proofs.Sums.{count-append, count-cong, count-none}
 use Rattle.netlist.specs.declared.Capacities.{Capacities}
 use Rattle.netlist.specs.Kinds.{width, isGate}
@@ -18,9 +18,8 @@ use Rattle.netlist.proofs.Source.{outputs-at, outputs-at-one}
 use Rattle.verifier.specs.Legal.{Legal}
 use Rattle.verifier.proofs.Balance.{outputs-kept}
 use Rattle.mapper.specs.Answer.{share, mapAnswer}
-use Rattle.mapper.proofs.Answering.{share-none, share-some}
 use Rattle.promises.specs.Written.{Maps, written}
-use Rattle.promises.specs.Numbers.{RoundedDown, Figures}
+use Rattle.promises.specs.Numbers.{Figures}
 use Rattle.promises.proofs.Written.{maps-passed, answer-size, written-netlist, written-legal, buffers-one-number}
 
 -- a legal mapped netlist has the source's gates
@@ -35,24 +34,6 @@ gates-kept n caps m legal =
       count-none (λ i. isGate (m .at (n .size + i) .kind)) (m .size - n .size)
           (λ i l e. true-false _ e (ap isGate (legal .buffers (n .size + i) (omega arith) (omega arith) .kind))),
     ))
-
-share-rounded : (part whole : ℕ) → RoundedDown part whole (share part whole)
-share-rounded part whole =
-    record {
-      none = λ e. sym (share-none part whole e);
-      reached = λ p. rw (← share-some part whole (λ e. omega arith)) (le-div-iff-mul-le p .0 (omega arith));
-      next = λ p. rw (← share-some part whole (λ e. omega arith)) (div-lt-iff-lt-mul p .0 (omega arith));
-    }
-
-rounded-one : (part whole a b : ℕ) → RoundedDown part whole a → RoundedDown part whole b → a ≡ b
-rounded-one part whole a b f g =
-    elim (decLt 0 whole) [
-      | yes p ↦ sym (quotient a f p) ∙ quotient b g p
-      | no p ↦ let z : whole ≡ 0 = omega arith in f .none z ∙ sym (g .none z)
-    ]
-  where
-    quotient : (x : ℕ) → RoundedDown part whole x → 0 < whole → 100 * part / whole ≡ x
-    quotient x h p = omega (arith, le-div-iff-mul-le {x = x} {y = 100 * part} p .1 (h .reached p), div-lt-iff-lt-mul {x = 100 * part} {y = suc x} p .1 (h .next p))
 
 module _ (source : List ℕ) (caps : Capacities) (area : List ℕ) (maps : Maps source caps area) where
   answers : (mapAnswer source caps area .depth ≡ depth (netlist source))
@@ -76,7 +57,7 @@ module _ (source : List ℕ) (caps : Capacities) (area : List ℕ) (maps : Maps 
         fewest = sym (one .counts);
         outputs = rw (answers .0) (outputs-kept n caps m (a .isSource .isSource) (a .legal) (outputs-at source (a .isSource)));
         prices = rw (one .kinds) (omega (arith, answers .1, gates-kept n caps m (a .legal)));
-        part = rw (one .kinds, answers .2) (share-rounded _ _);
+        part = rw (one .kinds, answers .2) (rounded-exact .computed _ _);
       }
 
 -- two lists of figures for one netlist written
@@ -89,7 +70,7 @@ module _ (source : List ℕ) (caps : Capacities) (m : List ℕ) (M B D J P M′ 
         f .kinds ∙ sym (g .kinds),
         outputs-at-one (netlist m) D D′ (f .outputs) (g .outputs),
         same,
-        rounded-one (2 * bufferCount (netlist m)) J′ P P′ (rw same at (f .part)) (g .part),
+        rounded-exact .one (100 * (2 * bufferCount (netlist m))) J′ P P′ (rw same at (f .part)) (g .part),
       )
 
 -- and for the first M records of one area

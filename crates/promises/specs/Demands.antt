@@ -3,6 +3,7 @@ use Prim.Native.Nat.{ℕ}
 use mathlib.Core.Path.{_≡_}
 use mathlib.Core.List.{List}
 use Rattle.facts.specs.declared.Checked.the-variants.{Refused}
+use Rattle.facts.specs.Rounding.{RoundedExact}
 use Rattle.netlist.specs.declared.Capacities.{Capacities}
 use Rattle.netlist.specs.Refusals.{SourceExact, InputExact}
 use Rattle.verifier.specs.Accepted.{AcceptedExactly}
@@ -33,7 +34,7 @@ pub record RefusedKeeps : Type 0 where
       runAnswer source caps mapped r rows area outs ≡ Refused number place → runOutputs source caps mapped r rows area outs ≡ outs
 
 -- demand 1: each call answers a number exactly where its condition is the first that holds, accepts exactly if none does, with the
--- numbers that specification 4 says, and a refused call leaves every lent area
+-- numbers that specification 4 says, the share rounded as 2.6 says, and a refused call leaves every lent area
 pub record Demand1 : Type 0 where
   pub source : SourceExact
   pub input : InputExact
@@ -49,6 +50,7 @@ pub record Demand1 : Type 0 where
   pub keeps : RefusedKeeps
   pub countNumbers : net.NumbersExactly
   pub numbers : NumbersExact
+  pub rounding : RoundedExact
 
 -- demand 2: what is written is legal, path-balanced, properly branched and accepted, with the number of buffers answered; 'no tree'
 -- exactly when no tree at all is legal, by the count of one net and in a list of counts, which is the single counts; the verifier

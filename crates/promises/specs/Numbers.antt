@@ -1,12 +1,13 @@
 -- The numbers of each answer (specification 4): refused exactly where a check is the first that fails, accepted exactly if none does, and
 -- what each number of an accepted answer is, as facts of what was handed in and written.
-use Prim.Native.Nat.{ℕ, suc, _+_, _*_, _≤_, _<_}
+use Prim.Native.Nat.{ℕ, _+_, _*_, _<_}
 use mathlib.Core.Path.{_≡_}
 use mathlib.Core.Logic.{_↔_}
 use mathlib.Core.List.{List, [], _∷_}
 use lib.ListN.{take}
 use Rattle.facts.specs.Checks.{checkedNumbers}
 use Rattle.facts.specs.Refusals.{Conditions, Clear, FirstAt}
+use Rattle.facts.specs.Rounding.{Rounded}
 use Rattle.netlist.specs.declared.Capacities.{Capacities}
 use Rattle.netlist.specs.Kinds.{width}
 use Rattle.netlist.specs.Records.{netlist, recordCount}
@@ -34,12 +35,6 @@ pub record TwoNumbers (F : Conditions) (numbers : List ℕ) : Type 0 where
   pub refused : AnsweredExactly F numbers (λ number place. number ∷ place ∷ [])
   pub accepted : (numbers ≡ 0 ∷ 0 ∷ []) ↔ Clear F
 
--- a part of a whole in percent, rounded down; 0 where the whole is 0
-pub record RoundedDown (part whole percent : ℕ) : Type 0 where
-  pub none : whole ≡ 0 → percent ≡ 0
-  pub reached : 0 < whole → percent * whole ≤ 100 * part
-  pub next : 0 < whole → 100 * part < suc percent * whole
-
 -- the last five of an accepted mapping's numbers, as facts of the source and of the netlist written
 pub record Figures (source : List ℕ) (caps : Capacities) (written : List ℕ) (M buffers D JJs share : ℕ) : Type 0 where
   -- M is the records written: the source's and the buffers
@@ -50,9 +45,9 @@ pub record Figures (source : List ℕ) (caps : Capacities) (written : List ℕ) 
   pub fewest : buffers ≡ fewestInAll (netlist source) caps
   -- D is the level of the outputs written, or 0
   pub outputs : OutputsAt (netlist written) D
-  -- JJs are 6 a gate and 2 a buffer written, the share is the buffers' part of them
+  -- JJs are 6 a gate and 2 a buffer written, the share is the buffers' part of them in percent, rounded
   pub prices : JJs ≡ 6 * gates (netlist written) + 2 * bufferCount (netlist written)
-  pub part : RoundedDown (2 * bufferCount (netlist written)) JJs share
+  pub part : Rounded (100 * (2 * bufferCount (netlist written))) JJs share
 
 -- the mapper's seven numbers
 pub record MapNumbers (source : List ℕ) (caps : Capacities) (area : List ℕ) (numbers : List ℕ) : Type 0 where

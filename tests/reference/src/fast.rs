@@ -314,6 +314,20 @@ fn write_all<const S: usize>(
     }
 }
 
+/// A fraction rounded half up, and down again from an odd number where that was an exact half.
+fn share(part: u32, whole: u32) -> u32 {
+    if whole == 0 {
+        return 0;
+    }
+    let raised = 2 * part + whole;
+    let up = raised / (2 * whole);
+    if raised % (2 * whole) == 0 {
+        up & !1
+    } else {
+        up
+    }
+}
+
 fn map_checked<const S: usize>(source: &[u8], mapped: &mut [u8]) -> Result<[u32; 7], Refused> {
     let (source, totals) = check_source(source)?;
     let n = source.len();
@@ -333,8 +347,7 @@ fn map_checked<const S: usize>(source: &[u8], mapped: &mut [u8]) -> Result<[u32;
     write_all::<S>(source, &sinks, &mut row, mapped.as_chunks_mut().0);
     let gates = (n - totals.inputs - totals.outputs) as u32;
     let junctions = 6 * gates + 2 * buffers;
-    let share = (200 * buffers).checked_div(junctions).unwrap_or(0);
-    Ok([0, 0, m, buffers, totals.depth.into(), junctions, share])
+    Ok([0, 0, m, buffers, totals.depth.into(), junctions, share(200 * buffers, junctions)])
 }
 
 #[inline(never)]

@@ -80,9 +80,10 @@ fn junctions(records: &[Record]) -> usize {
     6 * records.iter().filter(|record| record.is_gate()).count() + 2 * number_of(BUFFER, records)
 }
 
-/// The buffers' part of the junctions in percent, rounded down.
-fn share(buffers: usize, junctions: usize) -> usize {
-    (100 * 2 * buffers).checked_div(junctions).unwrap_or(0)
+/// A part in percent: of all whole numbers a nearest one, of two as near the even one.
+fn share(part: usize, whole: usize) -> usize {
+    let nearest = |percent: &usize| ((percent * whole).abs_diff(100 * part), percent % 2);
+    (0..=100).min_by_key(nearest).unwrap_or(0)
 }
 
 /// The mapper: the seven numbers after number and place, with the area written.
@@ -95,6 +96,6 @@ pub fn map(source: &[u8], capacity: u32, area: &mut [u8]) -> Result<[u32; 5], Re
     area[..bytes.len()].copy_from_slice(&bytes);
     let buffers = number_of(BUFFER, &records);
     let jjs = junctions(&records);
-    let numbers = [records.len(), buffers, depth(&records).into(), jjs, share(buffers, jjs)];
+    let numbers = [records.len(), buffers, depth(&records).into(), jjs, share(2 * buffers, jjs)];
     Ok(numbers.map(|number| number as u32))
 }

@@ -29,6 +29,17 @@ pub fn net(distances: &[usize]) -> Vec<Record> {
     records
 }
 
+/// A source whose mapped netlist has so many gates and buffers: gates on two inputs of their own, and
+/// one line from an input to an output.
+pub fn priced(gates: usize, buffers: usize) -> Vec<Record> {
+    let mut records = inputs(2 * gates + 1);
+    for gate in 0..gates as u16 {
+        records.push(Record::new(AND, 0, 1, &[2 * gate, 2 * gate + 1]));
+    }
+    records.push(Record::new(OUTPUT, 0, buffers as u16 + 1, &[2 * gates as u16]));
+    records
+}
+
 /// `size` inputs.
 pub fn inputs(size: usize) -> Vec<Record> {
     vec![Record::new(INPUT, 0, 0, &[]); size]

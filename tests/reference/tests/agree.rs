@@ -74,6 +74,23 @@ fn listed_counts_are_single_counts() {
     assert!(compared > 5_000 && treeless > 500, "{compared} compared, {treeless} without a tree");
 }
 
+/// Shares of up to 60 gates and 60 buffers, exact halves of both kinds among them.
+#[test]
+fn shares_agree() {
+    let mut halves = [0, 0];
+    for (gates, buffers) in (0..60).flat_map(|gates| (0..60).map(move |buffers| (gates, buffers))) {
+        let source = encode(&shapes::priced(gates, buffers));
+        let answer = (PLAIN.map)(&source, 2, &mut vec![0; 3000]);
+        assert_eq!((FAST.map)(&source, 2, &mut vec![0; 3000]), answer, "{gates}, {buffers}");
+        assert_eq!(answer[3], buffers as u32);
+        let [part, whole] = [200 * answer[3], answer[5]];
+        if whole > 0 && 2 * (part % whole) == whole {
+            halves[(part / whole % 2) as usize] += 1;
+        }
+    }
+    assert!(halves.iter().all(|&met| met > 10), "{halves:?}");
+}
+
 #[test]
 fn feeding_does_not_wrap() {
     for index in 0..10 {

@@ -25,6 +25,18 @@ const NETS: [(usize, &[usize], Option<usize>); 12] = [
     (4, &[2, 2, 2, 2, 2], None),
 ];
 
+/// Shares (8.3): gates, buffers, JJs, share.
+const SHARES: [(usize, usize, u32, u32); 8] = [
+    (7, 3, 48, 12),
+    (173, 81, 1200, 14),
+    (107, 46, 734, 13),
+    (171, 80, 1186, 13),
+    (2, 3, 18, 33),
+    (1, 6, 18, 67),
+    (1, 3, 12, 50),
+    (0, 0, 0, 0),
+];
+
 fn worked() -> Vec<u8> {
     encode(&shapes::worked())
 }
@@ -47,6 +59,20 @@ fn nets_by_every_way_to_count() {
         let number = expected.map_or(NO_TREE, |buffers| buffers as u32);
         assert_eq!(count(&source, s as u32, 0), [0, 0, number], "{s} {distances:?}");
         hold_counts(&source, s as u32, &[0, 1, 0], &[number; 3]);
+    }
+}
+
+#[test]
+fn shares() {
+    for (gates, buffers, jjs, share) in SHARES {
+        let source = encode(&shapes::priced(gates, buffers));
+        for engine in [PLAIN, FAST] {
+            let answer = (engine.map)(&source, 2, &mut vec![0; 10_000]);
+            assert_eq!(
+                [answer[0], answer[3], answer[5], answer[6]],
+                [0, buffers as u32, jjs, share]
+            );
+        }
     }
 }
 

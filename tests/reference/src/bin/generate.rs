@@ -332,7 +332,7 @@ fn map_on(source: &[Record], capacity: u32, len: usize) -> Call {
     Call { areas: vec![vec![FILL; len]], ..bare(Name::Map, source, capacity) }
 }
 
-/// The worked case (specification 8.2), chains, wide fanouts, and too many records.
+/// The worked cases (specification 8.2, 8.3), chains, wide fanouts, and too many records.
 fn worked_mapper() -> Vec<Case> {
     let worked = shapes::worked();
     let mut calls: Vec<Call> =
@@ -342,6 +342,9 @@ fn worked_mapper() -> Vec<Case> {
     }
     calls.push(map_on(&[], 2, 0));
     calls.push(map_on(&[], 4, 7));
+    for (gates, buffers) in [(7, 3), (2, 3), (1, 6), (1, 5), (5, 9)] {
+        calls.push(map_on(&shapes::priced(gates, buffers), 2, 400));
+    }
     for s in 2..=4 {
         calls.push(map_on(&shapes::chains(12), s, 250));
         calls.push(map_on(&shapes::wide(30, s as usize), s, 900));
