@@ -1841,15 +1841,18 @@ static void hold_blocks(uint32_t n, uint32_t m, uint32_t s)
 }
 
 /* The library has shorter arrays for sources of up to 1,024 records and for mapped netlists of up
- * to 8,192. */
+ * to 2,048 and of up to 16,384. */
 static void test_array_sizes(void)
 {
     uint32_t s, n, m;
-    begin("sources of 1,024 and 1,025 records, mapped netlists of 8,192 and 8,193; the largest");
-    for (s = 2; s <= 4; s++)
+    begin("on both sides of 1,024 source records, and of 2,048 and 16,384 mapped; the largest");
+    for (s = 2; s <= 4; s++) {
+        for (m = 2048; m <= 2049; m++)
+            hold_blocks(500, m, s);
         for (n = 1024; n <= 1025; n++)
-            for (m = 8192; m <= 8193; m++)
+            for (m = 16384; m <= 16385; m++)
                 hold_blocks(n, m, s);
+    }
     hold_blocks(MAX_SOURCE, MAX_MAPPED, 2);
     end();
 }

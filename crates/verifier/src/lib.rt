@@ -17,8 +17,10 @@ mod traces;
 // Entries of the local arrays: one for each record of a mapped netlist.
 const RECORDS: usize = netlist::MAPPED_LIMIT;
 
-// Up to how many records short arrays serve.
-const SMALL: usize = 8192;
+// Up to how many records short arrays serve, and up to how many middle ones.
+const SHORT: usize = 2048;
+
+const MIDDLE: usize = 16384;
 
 // A legal mapped netlist's number of buffers, or the number of the first failing check and its place.
 pub enum Verified {
@@ -83,9 +85,14 @@ fn check_legal(source: &[u8], capacities: Capacities, mapped: &[u8], n: u32, m: 
     requires { ⌜ Allowed capacities ⌝ }
     ensures { λ a. ⌜ a ≡ legalChecks (netlist (now (source .entry))) capacities (netlist (now (mapped .entry))) ⌝ }
 {
-    if m as usize <= SMALL {
-        let mut counts = [0u8; SMALL];
-        let mut drivers = [UNKNOWN; SMALL];
+    if m as usize <= SHORT {
+        let mut counts = [0u8; SHORT];
+        let mut drivers = [UNKNOWN; SHORT];
+        return check_with(source, capacities, mapped, n, m, &mut counts, &mut drivers);
+    }
+    if m as usize <= MIDDLE {
+        let mut counts = [0u8; MIDDLE];
+        let mut drivers = [UNKNOWN; MIDDLE];
         return check_with(source, capacities, mapped, n, m, &mut counts, &mut drivers);
     }
     let mut counts = [0u8; RECORDS];

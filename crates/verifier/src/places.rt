@@ -21,6 +21,7 @@ use netlist::Record;
 use netlist::arity;
 use netlist::record_at;
 use netlist::record_count;
+use netlist::record_reader;
 use netlist::slot;
 
 // Checks 12 and 13 of the slots that the kind does not use: one names something.
@@ -148,7 +149,7 @@ fn check_record(source: &[u8], mapped: &[u8], k: u32, counts: &mut [u8]) -> Chec
     ensures { λ a. ⌜ TalliedIfPassed a (placeChecks (netlist (now (source .entry))) (netlist (now (mapped .entry))) k) (netlist (now (mapped .entry))) (k + 1) (now (counts .exit)) ⌝ }
 {
     let r = record_at(mapped, k as usize);
-    if differs(record_at(source, k as usize), r) {
+    if differs(record_reader::read_at(source, k as usize), r) {
         return Checked::Refused(12, k);
     }
     if feed_used(mapped, r, counts) {
@@ -186,7 +187,7 @@ fn check_buffer(mapped: &[u8], n: u32, k: u32, counts: &mut [u8], drivers: &mut 
     ensures { λ a. ⌜ TalliedIfPassed a (bufferChecks (netlist (now (mapped .entry))) k) (netlist (now (mapped .entry))) (k + 1) (now (counts .exit)) ⌝ }
     ensures { λ _. ⌜ Known (netlist (now (mapped .entry))) (now (drivers .exit)) ⌝ }
 {
-    let r = record_at(mapped, k as usize);
+    let r = record_reader::read_at(mapped, k as usize);
     if no_buffer(r) {
         return Checked::Refused(13, k);
     }

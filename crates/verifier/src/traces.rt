@@ -12,7 +12,7 @@ ghost use Rattle.verifier.specs.Checks.{strays, traceCheck};
 use facts::Checked;
 use netlist::Record;
 use netlist::arity;
-use netlist::record_at;
+use netlist::record_reader;
 use netlist::slot;
 
 // What stands for a driver that is not known yet.
@@ -134,8 +134,8 @@ pub(crate) fn check_traces(
             mapped,
             n,
             drivers,
-            record_at(source, k as usize),
-            record_at(mapped, k as usize),
+            record_reader::read_at(source, k as usize),
+            record_reader::read_at(mapped, k as usize),
         ) {
             return Checked::Refused(16, k);
         }

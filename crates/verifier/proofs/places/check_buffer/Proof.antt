@@ -5,8 +5,8 @@ use Rattle.verifier.proofs.Walking.{fanin-room, buffer-known}
 use Rattle.verifier.proofs.places.check_buffer.Statement.{statement}
 use Rattle.verifier.proofs.places.check_buffer.Tie as tie
 
-record-at-requires : tie.Need-record-at-requires
-record-at-requires c κs = search needs
+read-at-requires : tie.Need-read-at-requires
+read-at-requires c κs = search needs
 
 no-buffer-requires : tie.Need-no-buffer-requires
 no-buffer-requires c κs = search needs
@@ -54,7 +54,7 @@ pub check-buffer-spec : {M : Type 1} → statement M
 check-buffer-spec =
     tie.close
     (tie.spec
-    record-at-requires
+    read-at-requires
     no-buffer-requires
     returns
     arity-requires

@@ -8,8 +8,8 @@ use Rattle.verifier.proofs.places.check_record.Tie as tie
 record-at-requires : tie.Need-record-at-requires
 record-at-requires c κs = search needs
 
-record-at-requires-2 : tie.Need-record-at-requires-2
-record-at-requires-2 c κs = search needs
+read-at-requires : tie.Need-read-at-requires
+read-at-requires c κs = search needs
 
 differs-requires : tie.Need-differs-requires
 differs-requires c κs = search source-empty
@@ -40,7 +40,7 @@ check-record-spec =
     tie.close
     (tie.spec
     record-at-requires
-    record-at-requires-2
+    read-at-requires
     differs-requires
     returns
     feed-used-requires

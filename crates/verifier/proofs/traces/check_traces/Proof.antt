@@ -20,17 +20,17 @@ walk-buffers-requires c κs = search (needs, passed-walkable)
 loop-holds : tie.Need-loop-holds Inv-loop μ-loop
 loop-holds c = search (needs, tracing-start)
 
-cast-record-at : tie.Need-cast-record-at Inv-loop μ-loop
-cast-record-at c = search needs
+cast-read-at : tie.Need-cast-read-at Inv-loop μ-loop
+cast-read-at c = search needs
 
-record-at-requires : tie.Need-record-at-requires Inv-loop μ-loop
-record-at-requires c κs = search needs
+read-at-requires : tie.Need-read-at-requires Inv-loop μ-loop
+read-at-requires c κs = search needs
 
-cast-record-at-2 : tie.Need-cast-record-at-2 Inv-loop μ-loop
-cast-record-at-2 c = search needs
+cast-read-at-2 : tie.Need-cast-read-at-2 Inv-loop μ-loop
+cast-read-at-2 c = search needs
 
-record-at-requires-2 : tie.Need-record-at-requires-2 Inv-loop μ-loop
-record-at-requires-2 c κs = search needs
+read-at-requires-2 : tie.Need-read-at-requires-2 Inv-loop μ-loop
+read-at-requires-2 c κs = search needs
 
 used-strays-requires : tie.Need-used-strays-requires Inv-loop μ-loop
 used-strays-requires c κs = search (needs, tracing-slots)
@@ -64,10 +64,10 @@ check-traces-spec =
     μ-loop
     walk-buffers-requires
     loop-holds
-    cast-record-at
-    record-at-requires
-    cast-record-at-2
-    record-at-requires-2
+    cast-read-at
+    read-at-requires
+    cast-read-at-2
+    read-at-requires-2
     used-strays-requires
     same-length
     returns
