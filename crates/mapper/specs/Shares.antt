@@ -10,6 +10,7 @@ pub record ShareCase : Type 0 where
   pub whole : ℕ
   pub answer : ℕ
 
+-- a row of them
 abbrev pub shareCase : ℕ → ℕ → ℕ → ShareCase
 shareCase part whole answer = record { part = part; whole = whole; answer = answer }
 
