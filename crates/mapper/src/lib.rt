@@ -6,7 +6,7 @@ ghost use Rattle.netlist.specs.Kinds.{slots, topLevel, sourceLimit, mappedLimit
 ghost use Rattle.netlist.specs.Records.{netlist, recordCount};
 ghost use Rattle.netlist.specs.Checks.{inputChecks};
 ghost use Rattle.mapper.specs.Mapped.{mapped};
-ghost use Rattle.mapper.specs.Answer.{share, refusal, figures, mapAnswer, mapArea};
+ghost use Rattle.mapper.specs.Answer.{refusal, figures, mapAnswer, mapArea};
 ghost use Rattle.mapper.specs.View.{blockView};
 ghost use Rattle.nets.specs.PrivateChains.{AllUnused};
 ghost use Rattle.mapper.specs.PrivateWriting.{Counted};
@@ -54,14 +54,6 @@ struct Ends {
     to: usize,
 }
 
-// The share of a part in percent, rounded.
-fn share_of(part: u32, whole: u32) -> u32
-    requires { ⌜ part ≤ 1000000 ⌝ }
-    ensures { λ r. ⌜ r ≡ share part whole ⌝ }
-{
-    facts::round(100 * part, whole)
-}
-
 // A refusal: what follows the place is 0.
 fn refuse(number: u32, place: u32) -> Mapping
     ensures { λ r. ⌜ r ≡ refusal number place ⌝ }
@@ -93,7 +85,7 @@ fn accept(source: &[u8], n: usize, buffers: u32) -> Mapping
         buffers,
         depth: netlist::depth(source) as u32,
         junctions,
-        share: share_of(BUFFER_PRICE * buffers, junctions),
+        share: facts::round(100 * (BUFFER_PRICE * buffers), junctions),
     }
 }
 

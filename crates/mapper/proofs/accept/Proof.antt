@@ -32,11 +32,14 @@ depth-requires c κs = search needs
 cast-t10 : tie.Need-cast-t10
 cast-t10 c = search needs
 
-mul-share-of : tie.Need-mul-share-of
-mul-share-of c = search needs
+mul-round : tie.Need-mul-round
+mul-round c = search needs
 
-share-of-requires : tie.Need-share-of-requires
-share-of-requires c κs = search needs
+mul-round-2 : tie.Need-mul-round-2
+mul-round-2 c = search needs
+
+round-requires : tie.Need-round-requires
+round-requires c κs = search needs
 
 returns : tie.Need-returns
 returns c = search (accepted, gates-counted)
@@ -54,6 +57,7 @@ accept-spec =
     add-t8
     depth-requires
     cast-t10
-    mul-share-of
-    share-of-requires
+    mul-round
+    mul-round-2
+    round-requires
     returns)
