@@ -1,11 +1,12 @@
--- Laws of an area: bytes put into it, side by side and one within another, and loops that write it from the front on.
+-- Laws of an area: bytes put into it, side by side and one within another, and loops that write it or copy into it from the front on.
 use Prim.Native.Nat.{ℕ, suc, _+_, _-_, _<_, _≤_}
 use mathlib.Core.Path.{_≡_, refl, sym, _∙_, ap, ap₂}
 use mathlib.Core.List.{List, [], _∷_, _++_, append-assoc, append-nil}
+use native.Mathlib.Decide.{ℕ-discrete}
 use native.Mathlib.Omega.{arith}
 use native.Mathlib.Nat.{add-sub-of-le, add-sub-cancel-left, add-zero}
 use lib.ListN.{length, getD, take, drop, set, replicate, length-append, length-take, length-set, length-drop, take-append-drop, drop-of-length-le}
-use lib.Seq.{sets, sets-eq, drop-cons, set-at, append-snoc, take-at, drop-at, drop-drop, drop-append-add, length-take-le, take-append-le, take-take}
+use lib.Seq.{sets, sets-eq, drop-cons, set-at, append-snoc, take-at, drop-at, drop-drop, drop-append-add, length-take-le, take-append-le, take-take, getD-set-same, getD-set-other, ext-getD}
 use borrow.Author.Fill.{fill-more}
 use Rattle.facts.specs.Areas.{put}
 
@@ -154,3 +155,29 @@ module _ (n : ℕ) (old : List ℕ) where
       ∙ ap (λ (l : List ℕ). replicate i 0 ++ l) (drop-of-length-le old {i = i} (omega arith))
       ∙ append-nil (replicate i 0)
       ∙ ap (λ (k : ℕ). replicate k 0) e
+
+-- the first k bytes of one area are copied into another
+pub record Copying (from to : List ℕ) (n k : ℕ) : Type 0 where
+  pub within : k ≤ n
+  pub all : n ≡ length from
+  pub long : length to ≡ length from
+  pub same : (i : ℕ) → i < k → getD to i 0 ≡ getD from i 0
+
+module _ (from to : List ℕ) (n : ℕ) where
+  pub copying-start : length to ≡ length from → n ≡ length from → Copying from to n 0
+  copying-start l e = record { within = omega arith; all = e; long = l; same = λ i h. absurd (omega arith) }
+
+  pub copying-more : (k : ℕ) → Copying from to n k → k < n → Copying from (set to k (getD from k 0)) n (k + 1)
+  copying-more k c h =
+      record {
+        within = omega arith;
+        all = c .all;
+        long = length-set to k _ ∙ c .long;
+        same = λ i l. elim (ℕ-discrete i k) [
+          | yes e ↦ rw e (getD-set-same to k (getD from k 0) 0 (omega (arith, c .long, c .all)))
+          | no g ↦ getD-set-other to k i (getD from k 0) 0 g ∙ c .same i (omega arith)
+        ];
+      }
+
+  pub copying-end : (k : ℕ) → Copying from to n k → n ≤ k → to ≡ from
+  copying-end k c h = ext-getD 0 to from (c .long) (λ i l. c .same i (omega (arith, c .long, c .all)))

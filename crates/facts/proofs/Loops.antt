@@ -2,6 +2,7 @@
 use Prim.Native.Nat.{ℕ, zero, suc, _+_, _-_, _<_, _≤_}
 use native.Mathlib.Numerals.{add-one}
 use native.Mathlib.Nat.{add-sub-of-le, add-zero, zero-add, suc-add, add-suc}
+use native.Mathlib.Decide.{ℕ-discrete}
 use native.Mathlib.Omega.{arith}
 use mathlib.Core.Path.{_≡_, refl, sym, ap, ap₂, subst, _∙_}
 use mathlib.Core.Bool.{Bool, true, false, cond}
@@ -69,6 +70,42 @@ unfolding seek
 seek-none p i zero h = omega arith
 seek-none p i (suc n) h =
     rw (h i (omega arith) (omega arith)) (seek-none p (suc i) n (λ k l u. h k (omega arith) (omega arith)) ∙ omega arith)
+
+-- the first p stands within the range, and p holds there
+pub seek-within : (p : ℕ → Bool) (y m : ℕ) → (y ≤ seek p y m) × (seek p y m ≤ y + m)
+unfolding seek
+seek-within p y zero = omega arith
+seek-within p y (suc m) = go (p y) (seek-within p (suc y) m)
+  where
+    go : (b : Bool) → (suc y ≤ seek p (suc y) m) × (seek p (suc y) m ≤ suc y + m) →
+        (y ≤ cond b y (seek p (suc y) m)) × (cond b y (seek p (suc y) m) ≤ y + suc m)
+    go true h = omega arith
+    go false h = omega arith
+
+pub seek-true : (p : ℕ → Bool) (y m : ℕ) → seek p y m < y + m → p (seek p y m) ≡ true
+unfolding seek
+seek-true p y zero l = absurd (omega arith)
+seek-true p y (suc m) l = go (p y) refl l (seek-true p (suc y) m)
+  where
+    go : (b : Bool) → p y ≡ b → cond b y (seek p (suc y) m) < y + suc m →
+        (seek p (suc y) m < suc y + m → p (seek p (suc y) m) ≡ true) → p (cond b y (seek p (suc y) m)) ≡ true
+    go true e l r = e
+    go false e l r = r (omega arith)
+
+-- and nowhere before it
+pub seek-before : (p : ℕ → Bool) (y m k : ℕ) → y ≤ k → k < seek p y m → p k ≡ false
+unfolding seek
+seek-before p y zero k a b = absurd (omega arith)
+seek-before p y (suc m) k a b = go (p y) refl b (seek-before p (suc y) m k)
+  where
+    go : (x : Bool) → p y ≡ x → k < cond x y (seek p (suc y) m) →
+        (suc y ≤ k → k < seek p (suc y) m → p k ≡ false) → p k ≡ false
+    go true e l r = absurd (omega arith)
+    go false e l r =
+        elim (ℕ-discrete y k) [
+          | yes s ↦ subst (λ (i : ℕ). p i ≡ false) s e
+          | no n ↦ r (omega arith) l
+        ]
 
 -- the answer from k on is the answer
 pub record Scanning (f : ℕ → Checked) (n k : ℕ) : Type 0 where

@@ -1,4 +1,4 @@
--- Laws of sums and counts over the numbers below n: congruence, order, addition, swapping, fibres, double counting, ranks.
+-- Laws of sums, counts and largest values over the numbers below n: congruence, order, addition, swapping, fibres, double counting, ranks.
 use Prim.Native.Nat.{ℕ, zero, suc, _+_, _*_, _-_, _≤_, _<_, _/_, _%_}
 use mathlib.Core.Path.{_≡_, refl, sym, _∙_, ap, ap₂, subst, subst⁻¹}
 use mathlib.Core.Bool.{Bool, true, false, not, _&&_, _||_}
@@ -10,7 +10,7 @@ use native.Mathlib.Numerals.{add-one}
 use lib.Dec.{ltb, eqb}
 use borrow.Author.Tests.{ltb-true, lt-ltb, eq-eqb, ne-eqb, eqb-true}
 use Rattle.facts.proofs.Bools.{and-l, and-r, or-l, or-r, true-false, not-true}
-use Rattle.facts.specs.Sums.{bit, sum, count, count₂, any}
+use Rattle.facts.specs.Sums.{bit, sum, count, count₂, largest, any}
 
 -- equal terms below n give equal sums
 pub sum-cong : (f g : ℕ → ℕ) (n : ℕ) → ((i : ℕ) → i < n → f i ≡ g i) → sum f n ≡ sum g n
@@ -336,17 +336,15 @@ any-found p (suc n) e = go (any p n) refl (any-found p n)
     go true h before = let f = before h in (f .0, omega (arith, f .1), f .2)
     go false h before = (n, omega arith, rw h at e)
 
--- over some of the values, the counts at each add up to at most the range
-pub values-le : (f : ℕ → ℕ) (n Y : ℕ) → sum (λ y. count (λ i. eqb (f i) y) n) Y ≤ n
+-- over some of the values, the counts at each add up to at most the whole count
+pub values-le : (p : ℕ → Bool) (f : ℕ → ℕ) (n Y : ℕ) → sum (λ y. count (λ i. p i && eqb (f i) y) n) Y ≤ count p n
 unfolding count
-values-le f n Y =
-    subst (λ (c : ℕ). c ≤ n) (sum-swap (λ i y. bit (eqb (f i) y)) Y n)
-    (omega (
-      arith,
-      sum-mono (λ i. count (λ y. eqb (f i) y) Y) (λ i. 1) n
-          (λ i l. count-within (λ y. eqb (f i) y) (f i) 1 Y (λ y e. omega (arith, eqb-true (f i) y e))),
-      sum-const 1 n,
-    ))
+values-le p f n Y =
+    subst (λ (c : ℕ). c ≤ count p n) (sum-swap (λ i y. bit (p i && eqb (f i) y)) Y n) (sum-mono _ _ n (λ i l. one (p i) (f i)))
+  where
+    one : (b : Bool) (x : ℕ) → count (λ y. b && eqb x y) Y ≤ bit b
+    one true x = count-within (λ y. eqb x y) x 1 Y (λ y e. omega (arith, eqb-true x y e))
+    one false x = omega (arith, sum-zero Y)
 
 -- some number below n has p
 pub any-some : (p : ℕ → Bool) (n : ℕ) → (any p n ≡ true) ↔ ((i : ℕ) × (i < n) × (p i ≡ true))
@@ -418,3 +416,23 @@ tight f g (suc n) h e i l =
           subst (λ (j : ℕ). g j ≤ f j) (sym last)
           (omega (arith, sum-mono f g n (λ j k. h j (omega arith))))
     ]
+
+-- each value is at most the largest, and the largest is at most what each is at most
+pub le-largest : (f : ℕ → ℕ) (i n : ℕ) → i < n → f i ≤ largest f n
+unfolding largest
+le-largest f i zero l = absurd (omega arith)
+le-largest f i (suc n) l =
+    elim (decLt i n) [
+      | yes b ↦ omega (arith, le-largest f i n b)
+      | no g ↦ (let e : i ≡ n = omega arith in omega (arith, ap f e))
+    ]
+
+pub largest-le : (f : ℕ → ℕ) (n b : ℕ) → ((i : ℕ) → i < n → f i ≤ b) → largest f n ≤ b
+unfolding largest
+largest-le f zero b h = omega arith
+largest-le f (suc n) b h = omega (arith, largest-le f n b (λ i l. h i (omega arith)), h n (omega arith))
+
+pub largest-cong : (f g : ℕ → ℕ) (n : ℕ) → ((i : ℕ) → i < n → f i ≡ g i) → largest f n ≡ largest g n
+unfolding largest
+largest-cong f g zero h = refl
+largest-cong f g (suc n) h = cc (largest-cong f g n (λ i l. h i (omega arith)), h n (omega arith))

@@ -10,7 +10,7 @@ use Rattle.facts.specs.declared.Checked.the-variants.{Passed, Refused}
 infixr 15 _or_
 -- the table's rows in the order in which they are checked; entry n is the row of number n
 abbrev pub rows : List ℕ
-rows = 0 ∷ 1 ∷ 2 ∷ 3 ∷ 4 ∷ 4 ∷ 4 ∷ 4 ∷ 5 ∷ 6 ∷ 7 ∷ 8 ∷ 9 ∷ 9 ∷ 9 ∷ 9 ∷ 10 ∷ 11 ∷ 12 ∷ 13 ∷ 15 ∷ 14 ∷ []
+rows = 0 ∷ 1 ∷ 2 ∷ 3 ∷ 4 ∷ 4 ∷ 4 ∷ 4 ∷ 7 ∷ 8 ∷ 9 ∷ 10 ∷ 11 ∷ 11 ∷ 11 ∷ 11 ∷ 12 ∷ 13 ∷ 14 ∷ 15 ∷ 17 ∷ 16 ∷ 5 ∷ 6 ∷ []
 
 abbrev pub rowOf : ℕ → ℕ
 rowOf number = getD rows number 0

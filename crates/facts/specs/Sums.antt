@@ -1,5 +1,5 @@
--- Sums, counts and searches over ranges of numbers.
-use Prim.Native.Nat.{ℕ, zero, suc, _+_}
+-- Sums, counts, largest values and searches over ranges of numbers.
+use Prim.Native.Nat.{ℕ, zero, suc, _+_, max}
 use mathlib.Core.Bool.{Bool, true, false, cond, _||_}
 
 -- 1 for true, 0 for false
@@ -19,6 +19,11 @@ count p n = sum (λ i. bit (p i)) n
 -- how many pairs (i, j), i below n and j below w, have p
 unfoldable pub count₂ : (ℕ → ℕ → Bool) → ℕ → ℕ → ℕ
 count₂ p w n = sum (λ i. count (p i) w) n
+
+-- the largest of f 0, .., f (n - 1), 0 where n is 0
+unfoldable pub largest : (ℕ → ℕ) → ℕ → ℕ
+largest f zero = 0
+largest f (suc n) = max (largest f n) (f n)
 
 -- whether some number below n has p
 unfoldable pub any : (ℕ → Bool) → ℕ → Bool

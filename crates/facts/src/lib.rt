@@ -1,4 +1,4 @@
-// What every call shares and no netlist is needed for: the answer of a list of checks, a byte as a wider number, a bool as one, a fraction rounded, and a number written in four bytes.
+// What every call shares and no netlist is needed for: the answer of a list of checks, a byte as a wider number, a bool as one, a fraction rounded, an area copied, and a number written in four bytes.
 ghost use mathlib.Core.Path.{_≡_};
 ghost use Prim.Native.Nat.{_+_, _*_, _<_, _≤_};
 ghost use lib.ListN.{length};
@@ -44,6 +44,19 @@ pub fn round(part: u32, whole: u32) -> u32
         return down + 1;
     }
     down + down % 2
+}
+
+// The bytes of one area in another.
+pub fn copy(from: &[u8], to: &mut [u8])
+    requires { ⌜ length (now to) ≡ length (now from) ⌝ }
+    ensures { λ _. ⌜ now (to .exit) ≡ now (from .entry) ⌝ }
+{
+    let n = from.len();
+    let mut k: usize = 0;
+    while k < n {
+        to[k] = from[k];
+        k += 1;
+    }
 }
 
 // Number k of an area of numbers, four bytes each, low byte first.

@@ -10,7 +10,7 @@ use lib.Dec.{eqb}
 use borrow.Author.Tests.{eqb-true, eqb-false, ne-eqb}
 use Rattle.facts.specs.Sums.{bit, sum, count}
 use Rattle.facts.proofs.Bools.{and-l, and-r, and-i}
-use Rattle.facts.proofs.Sums.{sum-add, sum-mono, sum-first, sum-bounded, fibres₁, values-le, count-none, count-mono}
+use Rattle.facts.proofs.Sums.{sum-add, sum-mono, sum-first, sum-bounded, fibres₁, values-le, count-none, count-le, count-mono}
 use Rattle.fanout.specs.Nets.{nodesAt, buffersAt, fewest}
 use Rattle.fanout.specs.Trees.{Net, Tree, Legal, RowOf, sinksAt, buffersIn, nodeDistance, fed}
 use Rattle.fanout.proofs.Nets.{minimal, minimal-nodes, fewest-sum}
@@ -130,7 +130,8 @@ module _ (c s : ℕ) (net : Net) (r : List ℕ) (pos : 0 < s) (counts : RowOf ne
         fewest-sum s r (length r) pos (omega arith),
         sum-mono (λ k. buffersAt s r (suc k)) (λ k. buffersIn t (suc k)) (length r) (λ k l. bound-at (suc k) (omega arith)),
         sum-first (buffersIn t) (length r),
-        values-le (t .distance) (t .buffers) (suc (length r)),
+        values-le (λ b. true) (t .distance) (t .buffers) (suc (length r)),
+        count-le (λ b. true) (t .buffers),
       )
 
   -- a net with a legal tree leaves few nodes at distance 1

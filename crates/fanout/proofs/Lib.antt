@@ -1,5 +1,6 @@
 pub mod Nets
 pub mod Rows
+pub mod Far
 pub mod Least
 pub mod Built
 pub mod Promises

@@ -1,5 +1,5 @@
 -- What is promised of trees and of the counts: for any net, any driver capacity c and any buffer capacity s above 0.
-use Prim.Native.Nat.{ℕ, _+_, _<_, _≤_}
+use Prim.Native.Nat.{ℕ, _+_, _^_, _<_, _≤_}
 use mathlib.Core.Path.{_≡_}
 use mathlib.Core.Logic.{_⊎_, _↔_}
 use mathlib.Core.Bool.{true, _&&_}
@@ -7,7 +7,7 @@ use mathlib.Core.List.{List, [], _∷_}
 use lib.ListN.{getD}
 use lib.Dec.{eqb}
 use Rattle.facts.specs.declared.Checked.the-variants.{Passed}
-use Rattle.facts.specs.Sums.{count₂}
+use Rattle.facts.specs.Sums.{count, count₂}
 use Rattle.facts.specs.Refusals.{Conditions, Fails, _or_, FirstAt, Exact}
 use Rattle.netlist.specs.declared.Capacities.{Capacities}
 use Rattle.netlist.specs.Kinds.{slots, topLevel, output, isDriver}
@@ -28,6 +28,14 @@ abbrev pub TreeExactly : Type 0
 TreeExactly =
     (c s : ℕ) (net : Net) (r : List ℕ) → 0 < s → RowOf net r →
     ((t : Tree) × Legal c s net t) ↔ (hasTree c s r ≡ true)
+
+-- and at most 1 is left where the sinks, no more than s to the power h, all stand at distance 1 + h or more
+abbrev pub FarTree : Type 0
+FarTree =
+    (c s h : ℕ) (net : Net) (r : List ℕ) → 0 < c → 0 < s → RowOf net r →
+    count (net .sink) (net .places) ≤ s ^ h →
+    ((x : ℕ) → x < net .places → net .sink x ≡ true → h < net .distance x) →
+    hasTree c s r ≡ true
 
 -- every legal tree has at least the counted buffers at each distance
 abbrev pub LeastAtEach : Type 0

@@ -1,5 +1,6 @@
 pub mod Balance
 pub mod Bytes
+pub mod Levels
 pub mod Checks
 pub mod Counts
 pub mod Records

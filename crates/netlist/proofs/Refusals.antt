@@ -7,8 +7,10 @@ use mathlib.Core.Bool.{true, not, _&&_, _||_}
 use mathlib.Core.List.{List}
 use lib.ListN.{length}
 use lib.Dec.{leb, eqb}
+use Rattle.facts.specs.declared.Checked.{Checked}
+use Rattle.facts.specs.Checks.{_andThen_, scan}
 use Rattle.facts.specs.Sums.{any}
-use Rattle.facts.specs.Refusals.{rowOf, Fails, _or_, Each, First}
+use Rattle.facts.specs.Refusals.{Conditions, rowOf, Fails, _or_, Each, First}
 use Rattle.facts.proofs.Bits.{bit-from}
 use Rattle.facts.proofs.Sums.{any-some}
 use Rattle.facts.proofs.Reflect.{iff-sum, iff-pair, iff-trans, iff-some, less, most, same, unlike, either-is, both-is, side}
@@ -17,12 +19,15 @@ use Rattle.netlist.specs.declared.Capacities.{Capacities}
 use Rattle.netlist.specs.declared.Record.{Record}
 use Rattle.netlist.specs.Kinds.{width, slots, unused, sourceLimit, topLevel, arity, input, output, invertible}
 use Rattle.netlist.specs.Records.{Netlist, netlist, recordCount, slot, depth}
-use Rattle.netlist.specs.Checks.{badCapacity, badInversion, badSlot, badSlots, notBelow, misplaced, badLevel, recordChecks, sourceChecks, inputChecks}
+use Rattle.netlist.specs.Checks.{badCapacity, badInversion, badSlot, badSlots, notBelow, misplaced, badLevel, capacityCheck, sizeChecks, structureAt, recordChecks, sourceChecks, structureChecks, inputChecks}
 use Rattle.netlist.proofs.Checks.{arity-slots}
-use Rattle.netlist.specs.Refusals.{BadCapacity, Ragged, TooMany, BadInversion, BadSlots, Misplaced, BadLevel, SizeFails, StructureFails, RecordFails, SourceFails, InputFails, SourceExact, InputExact}
+use Rattle.netlist.specs.Refusals.{BadCapacity, Ragged, TooMany, BadInversion, BadSlots, Misplaced, BadLevel, SizeFails, StructureFails, RecordFails, SourceFails, StructuresFail, InputFails, SourceExact, StructureExact, InputExact}
 
 capacity-is : (s : ℕ) → (badCapacity s ≡ true) ↔ BadCapacity s
 capacity-is s = either-is (less s 2) (less 4 s)
+
+pub capacity-first : (s : ℕ) → First (Fails 1 0 (BadCapacity s)) (capacityCheck s)
+capacity-first s = first-check 1 0 (capacity-is s)
 
 inversion-is : (r : Record) → (badInversion r ≡ true) ↔ BadInversion r
 inversion-is r = iff-trans (most (2 ^ invertible (r .kind)) (r .inversion)) (bit-from (invertible (r .kind)) (r .inversion))
@@ -65,18 +70,19 @@ structure-within m k = within-or (rowOf 7) k 4 4 5 6 (within-one 4 k _) (later-w
 record-within : (m : Netlist) (k : ℕ) → Within (rowOf 7) k 4 7 (RecordFails m k)
 record-within m k = within-or (rowOf 7) k 4 6 7 7 (structure-within m k) (within-one 7 k _) (omega arith) (omega arith) (omega arith)
 
-record-first : (m : Netlist) (k : ℕ) → First (RecordFails m k) (recordChecks m k)
-record-first m k =
-    first-then (within-before (rowOf 7) k 4 6 7 7 (structure-within m k) (within-one 7 k _) (omega arith))
-    (first-then (within-before (rowOf 7) k 4 4 5 6 (within-one 4 k _) (later-within m k) (omega arith))
+structure-first : (m : Netlist) (k : ℕ) → First (StructureFails m k) (structureAt m k)
+structure-first m k =
+    first-then (within-before (rowOf 7) k 4 4 5 6 (within-one 4 k _) (later-within m k) (omega arith))
     (first-check 4 k (less output (m .at k .kind)))
     (first-then (within-before (rowOf 7) k 5 5 6 6 (within-one 5 k _) (within-one 6 k _) (omega arith))
     (first-check 5 k (inversion-is (m .at k)))
-    (first-check 6 k (slots-are m k (m .at k)))))
-    (first-check 7 k (level-is m (m .at k)))
+    (first-check 6 k (slots-are m k (m .at k))))
 
-records-rows : (bytes : List ℕ) → InRow (rowOf 7) (Each (recordCount bytes) (RecordFails (netlist bytes)))
-records-rows bytes = scan-rows (RecordFails (netlist bytes)) (rowOf 7) 4 7 (recordCount bytes) (record-within (netlist bytes))
+record-first : (m : Netlist) (k : ℕ) → First (RecordFails m k) (recordChecks m k)
+record-first m k =
+    first-then (within-before (rowOf 7) k 4 6 7 7 (structure-within m k) (within-one 7 k _) (omega arith))
+    (structure-first m k)
+    (first-check 7 k (level-is m (m .at k)))
 
 size-rows : (bytes : List ℕ) (n p : ℕ) → SizeFails bytes n p → (rowOf 1 < rowOf n) × (rowOf n ≤ rowOf 3)
 size-rows bytes n p =
@@ -84,10 +90,30 @@ size-rows bytes n p =
     (λ f. omega (arith, one-row 2 0 (Ragged bytes) n p f))
     (λ f. omega (arith, one-row 3 0 (TooMany bytes) n p f))
 
--- the conditions of checks 2 to 7 stand in the table's rows after that of 1, up to that of 7
+-- 2 and 3, then checks of each record in the row of 7
+module _ (bytes : List ℕ) (f : ℕ → Checked) (F : ℕ → Conditions) (last : ℕ) (within : (k : ℕ) → Within (rowOf 7) k 4 last (F k)) where
+  records-rows : InRow (rowOf 7) (Each (recordCount bytes) F)
+  records-rows = scan-rows F (rowOf 7) 4 last (recordCount bytes) within
+
+  all-rows : (n p : ℕ) → (SizeFails bytes or Each (recordCount bytes) F) n p → (rowOf 1 < rowOf n) × (rowOf n ≤ rowOf 7)
+  all-rows n p = ⊎-elim (λ f. omega (arith, size-rows bytes n p f)) (λ f. omega (arith, records-rows n p f))
+
+  all-first : ((k : ℕ) → First (F k) (f k)) →
+      First (SizeFails bytes or Each (recordCount bytes) F) (sizeChecks bytes andThen scan f 0 (recordCount bytes))
+  all-first each =
+      first-then
+      (rows-before (rowOf 3) (λ n p f. omega (arith, size-rows bytes n p f)) (λ n p f. omega (arith, records-rows n p f)))
+      (first-then (rows-before (rowOf 2) (λ n p f. omega (arith, one-row 2 0 (Ragged bytes) n p f)) (λ n p f. omega (arith, one-row 3 0 (TooMany bytes) n p f)))
+      (first-check 2 0 (unlike (length bytes % width) 0))
+      (first-check 3 0 (less sourceLimit (recordCount bytes))))
+      (first-scan f F (rowOf 7) 4 last within (recordCount bytes) (λ k l. each k))
+
+-- the conditions of checks 2 to 7, and of 2 to 6, stand in the table's rows after that of 1, up to that of 7
 pub source-rows : (bytes : List ℕ) (n p : ℕ) → SourceFails bytes n p → (rowOf 1 < rowOf n) × (rowOf n ≤ rowOf 7)
-source-rows bytes n p =
-    ⊎-elim (λ f. omega (arith, size-rows bytes n p f)) (λ f. omega (arith, records-rows bytes n p f))
+source-rows bytes = all-rows bytes (recordChecks (netlist bytes)) (RecordFails (netlist bytes)) 7 (record-within (netlist bytes))
+
+pub structure-rows : (bytes : List ℕ) (n p : ℕ) → StructuresFail bytes n p → (rowOf 1 < rowOf n) × (rowOf n ≤ rowOf 7)
+structure-rows bytes = all-rows bytes (structureAt (netlist bytes)) (StructureFails (netlist bytes)) 6 (structure-within (netlist bytes))
 
 -- and those of 1 to 7 in the rows up to that of 7
 pub input-rows : (bytes : List ℕ) (caps : Capacities) → UpTo (rowOf 7) (InputFails bytes caps)
@@ -104,23 +130,25 @@ input-numbered bytes caps n p =
 pub source-first : (bytes : List ℕ) → First (SourceFails bytes) (sourceChecks bytes)
 unfolding sourceChecks
 source-first bytes =
-    first-then
-    (rows-before (rowOf 3) (λ n p f. omega (arith, size-rows bytes n p f)) (λ n p f. omega (arith, records-rows bytes n p f)))
-    (first-then (rows-before (rowOf 2) (λ n p f. omega (arith, one-row 2 0 (Ragged bytes) n p f)) (λ n p f. omega (arith, one-row 3 0 (TooMany bytes) n p f)))
-    (first-check 2 0 (unlike (length bytes % width) 0))
-    (first-check 3 0 (less sourceLimit (recordCount bytes))))
-    (first-scan (recordChecks (netlist bytes)) (RecordFails (netlist bytes)) (rowOf 7) 4 7 (record-within (netlist bytes)) (recordCount bytes)
-    (λ k l. record-first (netlist bytes) k))
+    all-first bytes (recordChecks (netlist bytes)) (RecordFails (netlist bytes)) 7 (record-within (netlist bytes)) (record-first (netlist bytes))
+
+pub structures-first : (bytes : List ℕ) → First (StructuresFail bytes) (structureChecks bytes)
+unfolding structureChecks
+structures-first bytes =
+    all-first bytes (structureAt (netlist bytes)) (StructureFails (netlist bytes)) 6 (structure-within (netlist bytes)) (structure-first (netlist bytes))
 
 pub input-first : (bytes : List ℕ) (caps : Capacities) → First (InputFails bytes caps) (inputChecks bytes caps)
 input-first bytes caps =
     first-then
     (rows-before (rowOf 1) (λ n p f. omega (arith, one-row 1 0 (BadCapacity (caps .buffer)) n p f)) (λ n p f. source-rows bytes n p f .0))
-    (first-check 1 0 (capacity-is (caps .buffer)))
+    (capacity-first (caps .buffer))
     (source-first bytes)
 
 pub source-exact : SourceExact
 source-exact bytes = exact (source-first bytes)
+
+pub structure-exact : StructureExact
+structure-exact bytes = exact (structures-first bytes)
 
 pub input-exact : InputExact
 input-exact bytes caps = exact (input-first bytes caps)

@@ -18,12 +18,16 @@ use Rattle.netlist.specs.declared.Record.{Record}
 use Rattle.netlist.specs.Kinds.{slots, majority, output, buffer, arity, isDriver}
 use Rattle.netlist.specs.Records.{Netlist, netlist, recordCount, recordAt, isOutput, depth}
 use Rattle.netlist.specs.declared.Capacities.{Capacities}
-use Rattle.netlist.specs.Checks.{badCapacity, capacityChecks, sourceChecks, inputChecks}
-use Rattle.netlist.specs.Source.{IsSource, Source, OutputsAt}
+use Rattle.netlist.specs.Checks.{badCapacity, capacityChecks, sourceChecks, structureChecks, inputChecks}
+use Rattle.netlist.specs.Source.{IsSource, Source, StructuredBytes, OutputsAt}
 use Rattle.netlist.specs.Capacities.{Allowed}
 use Rattle.netlist.specs.PrivateInput.{Input}
 use Rattle.netlist.proofs.Checks.{arity-slots}
 use Rattle.netlist.proofs.Records.{record-past}
+
+-- a used slot is a slot
+used-slot : (bytes : List ℕ) (k : ℕ) {j : ℕ} → j < arity (recordAt bytes k .kind) → j < slots
+used-slot bytes k u = omega (arith, arity-slots (recordAt bytes k .kind))
 
 pub source-passed : (bytes : List ℕ) → (sourceChecks bytes ≡ Passed) ↔ Source bytes
 unfolding sourceChecks
@@ -38,10 +42,10 @@ source-passed bytes =
                   few = h .0 .1;
                   kinds = λ k l. each k l .0 .0;
                   inversions = λ k l. each k l .0 .1 .0;
-                  earlier = λ k j l u. each k l .0 .1 .1 j (below k u) .0 u .0;
-                  noOutput = λ k j l u. each k l .0 .1 .1 j (below k u) .0 u .1;
+                  earlier = λ k j l u. each k l .0 .1 .1 j (used-slot bytes k u) .0 u .0;
+                  noOutput = λ k j l u. each k l .0 .1 .1 j (used-slot bytes k u) .0 u .1;
                   empty = λ k j l u v. each k l .0 .1 .1 j v .1 u;
-                  lower = λ k j l u. each k l .1 .1 j (below k u) u;
+                  lower = λ k j l u. each k l .1 .1 j (used-slot bytes k u) u;
                   inputs = λ k l. each k l .1 .0 .1 .0;
                   levels = λ k l. each k l .1 .0 .0;
                   outputs = λ k l. each k l .1 .0 .1 .1;
@@ -56,9 +60,35 @@ source-passed bytes =
             ),
           ),
     )
-  where
-    below : (k : ℕ) {j : ℕ} → j < arity (recordAt bytes k .kind) → j < slots
-    below k u = omega (arith, arity-slots (recordAt bytes k .kind))
+
+-- passing 2 to 6
+pub structured-passed : (bytes : List ℕ) → (structureChecks bytes ≡ Passed) ↔ StructuredBytes bytes
+unfolding structureChecks
+structured-passed bytes =
+    simp reflect (
+      λ h.
+          let each = h .1 in
+          record {
+            whole = h .0 .0;
+            structured =
+                record {
+                  few = h .0 .1;
+                  kinds = λ k l. each k l .0;
+                  inversions = λ k l. each k l .1 .0;
+                  earlier = λ k j l u. each k l .1 .1 j (used-slot bytes k u) .0 u .0;
+                  noOutput = λ k j l u. each k l .1 .1 j (used-slot bytes k u) .0 u .1;
+                  empty = λ k j l u v. each k l .1 .1 j v .1 u;
+                };
+          },
+      λ s.
+          let m = s .structured in (
+            (s .whole, m .few),
+            λ k l. (
+              m .kinds k l,
+              (m .inversions k l, λ j v. (λ u. (m .earlier k j l u, m .noOutput k j l u), λ u. m .empty k j l u v)),
+            ),
+          ),
+    )
 
 -- what passing 1, and 1 to 7, means
 pub capacities-passed : (caps : Capacities) → capacityChecks caps ≡ Passed → Allowed caps

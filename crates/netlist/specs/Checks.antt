@@ -58,8 +58,11 @@ abbrev pub badLevel : Netlist → Record → Bool
 badLevel m r = misplaced (depth m) r || any (notBelow m r) slots
 
 -- 1
+abbrev pub capacityCheck : ℕ → Checked
+capacityCheck s = check 1 0 (badCapacity s)
+
 abbrev pub capacityChecks : Capacities → Checked
-capacityChecks caps = check 1 0 (badCapacity (caps .buffer))
+capacityChecks caps = capacityCheck (caps .buffer)
 
 -- 2 and 3
 abbrev pub sizeChecks : List ℕ → Checked
@@ -80,6 +83,14 @@ recordChecks m k = structureOf m k (m .at k) andThen levelOf m k (m .at k)
 -- 2 to 7: the source reader's answer
 unfoldable pub sourceChecks : List ℕ → Checked
 sourceChecks bytes = sizeChecks bytes andThen scan (recordChecks (netlist bytes)) 0 (recordCount bytes)
+
+-- 4 to 6 of record k as it stands
+abbrev pub structureAt : Netlist → ℕ → Checked
+structureAt m k = structureOf m k (m .at k)
+
+-- 2 to 6: the source reader's answer where levels are not looked at
+unfoldable pub structureChecks : List ℕ → Checked
+structureChecks bytes = sizeChecks bytes andThen scan (structureAt (netlist bytes)) 0 (recordCount bytes)
 
 -- 1 to 7: what every call with capacities checks first
 abbrev pub inputChecks : List ℕ → Capacities → Checked

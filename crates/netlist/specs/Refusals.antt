@@ -9,7 +9,7 @@ use Rattle.netlist.specs.declared.Capacities.{Capacities}
 use Rattle.netlist.specs.declared.Record.{Record}
 use Rattle.netlist.specs.Kinds.{width, slots, unused, topLevel, sourceLimit, input, output, arity, invertible}
 use Rattle.netlist.specs.Records.{Netlist, netlist, recordCount, slot, depth}
-use Rattle.netlist.specs.Checks.{sourceChecks, inputChecks}
+use Rattle.netlist.specs.Checks.{sourceChecks, structureChecks, inputChecks}
 
 -- 1: a buffer's capacity is not 2, 3 or 4
 abbrev pub BadCapacity : ℕ → Type 0
@@ -68,6 +68,10 @@ RecordFails m k = StructureFails m k or Fails 7 k (BadLevel m (m .at k))
 abbrev pub SourceFails : List ℕ → Conditions
 SourceFails bytes = SizeFails bytes or Each (recordCount bytes) (RecordFails (netlist bytes))
 
+-- 2 to 6
+abbrev pub StructuresFail : List ℕ → Conditions
+StructuresFail bytes = SizeFails bytes or Each (recordCount bytes) (StructureFails (netlist bytes))
+
 -- 1 to 7
 abbrev pub InputFails : List ℕ → Capacities → Conditions
 InputFails bytes caps = CapacityFails caps or SourceFails bytes
@@ -75,6 +79,10 @@ InputFails bytes caps = CapacityFails caps or SourceFails bytes
 -- each of 2 to 7 is answered exactly where its condition is the first that holds, and a source is accepted exactly if none does
 abbrev pub SourceExact : Type 0
 SourceExact = (bytes : List ℕ) → Exact (SourceFails bytes) (sourceChecks bytes)
+
+-- the same without 7
+abbrev pub StructureExact : Type 0
+StructureExact = (bytes : List ℕ) → Exact (StructuresFail bytes) (structureChecks bytes)
 
 -- the same with the capacities' check before it
 abbrev pub InputExact : Type 0

@@ -30,10 +30,24 @@ pub record IsSource (m : Netlist) : Type 0 where
   -- outputs share one level
   pub outputs : (k : ℕ) → k < m .size → m .at k .kind ≡ output → m .at k .level ≡ depth m
 
+-- a source but for its levels, of which nothing is said: what passing checks 2 to 6 means
+pub record Structured (m : Netlist) : Type 0 where
+  pub few : m .size ≤ sourceLimit
+  pub kinds : (k : ℕ) → k < m .size → m .at k .kind ≤ output
+  pub inversions : (k : ℕ) → k < m .size → m .at k .inversion < 2 ^ invertible (m .at k .kind)
+  pub earlier : (k j : ℕ) → k < m .size → j < arity (m .at k .kind) → fanin m k j < k
+  pub noOutput : (k j : ℕ) → k < m .size → j < arity (m .at k .kind) → m .at (fanin m k j) .kind ≢ output
+  pub empty : (k j : ℕ) → k < m .size → arity (m .at k .kind) ≤ j → j < slots → fanin m k j ≡ unused
+
 -- D as a fact: the level of the outputs, or 0 where there are none
 pub record OutputsAt (m : Netlist) (D : ℕ) : Type 0 where
   pub level : (k : ℕ) → k < m .size → m .at k .kind ≡ output → m .at k .level ≡ D
   pub none : ((k : ℕ) → k < m .size → m .at k .kind ≢ output) → D ≡ 0
+
+-- whole records with the structure of a source
+pub record StructuredBytes (bytes : List ℕ) : Type 0 where
+  pub whole : length bytes % width ≡ 0
+  pub structured : Structured (netlist bytes)
 
 -- the bytes of a source: whole records that are one
 pub record Source (bytes : List ℕ) : Type 0 where

@@ -6,7 +6,7 @@ ghost use Rattle.netlist.specs.Records.{recordAt, recordCount, netlist};
 ghost use Rattle.netlist.specs.Records;
 ghost use Rattle.netlist.specs.Counts.{countKind, countOf};
 ghost use Rattle.netlist.specs.Capacities.{capacityOf};
-ghost use Rattle.netlist.specs.Checks.{capacityChecks, sourceChecks, inputChecks};
+ghost use Rattle.netlist.specs.Checks.{capacityCheck, capacityChecks, sourceChecks, structureChecks, inputChecks};
 ghost use Rattle.netlist.specs.View.{viewOf};
 use facts::Checked;
 
@@ -17,6 +17,9 @@ mod source_reader;
 pub const WIDTH: usize = 10;
 
 pub const SLOTS: usize = 3;
+
+// Where a record's two bytes of level begin.
+pub const LEVEL_PLACE: usize = 2;
 
 pub const UNUSED: u16 = 65535;
 
@@ -210,14 +213,32 @@ pub fn check_source(bytes: &[u8]) -> Checked
     }
 }
 
+// The source reader where levels are not looked at: checks 2 to 6.
+pub fn check_structured(bytes: &[u8]) -> Checked
+    ensures { λ a. ⌜ a ≡ structureChecks (now (bytes .entry)) ⌝ }
+{
+    let size = source_reader::check_size(bytes);
+    match size {
+        Checked::Passed => source_reader::check_structures(bytes, record_count(bytes) as u32),
+        Checked::Refused(number, place) => Checked::Refused(number, place),
+    }
+}
+
+// Check 1 of a buffer's capacity.
+pub fn check_capacity(capacity: u32) -> Checked
+    ensures { λ a. ⌜ a ≡ capacityCheck capacity ⌝ }
+{
+    if source_reader::bad_capacity(capacity) {
+        return Checked::Refused(1, 0);
+    }
+    Checked::Passed
+}
+
 // Check 1.
 pub fn check_capacities(capacities: Capacities) -> Checked
     ensures { λ a. ⌜ a ≡ capacityChecks capacities ⌝ }
 {
-    if source_reader::bad_capacity(capacities.buffer) {
-        return Checked::Refused(1, 0);
-    }
-    Checked::Passed
+    check_capacity(capacities.buffer)
 }
 
 // What every call with capacities checks first: 1 to 7.

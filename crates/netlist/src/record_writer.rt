@@ -1,10 +1,11 @@
-// The record writer: a record into its ten bytes.
+// The record writer: a record into its ten bytes, and a level alone.
 ghost use mathlib.Core.Path.{_≡_};
 ghost use Prim.Native.Nat.{_+_, _*_, _/_, _%_, _≤_};
 ghost use lib.ListN.{length};
 ghost use Rattle.facts.specs.Areas.{put};
 ghost use Rattle.netlist.specs.Kinds.{width};
-ghost use Rattle.netlist.specs.Bytes.{encode};
+ghost use Rattle.netlist.specs.Bytes.{encode, withLevel};
+use crate::LEVEL_PLACE;
 use crate::Record;
 use crate::WIDTH;
 
@@ -48,4 +49,14 @@ pub fn write_record(area: &mut [u8], x: usize, r: Record)
 {
     let at = WIDTH * x;
     store(&mut area[at..at + WIDTH], r);
+}
+
+// The level of record x in the area.
+pub fn write_level(area: &mut [u8], x: usize, level: u16)
+    requires { ⌜ width * x + width ≤ length (now area) ⌝ }
+    ensures { λ _. ⌜ now (area .exit) ≡ withLevel (now (area .entry)) x level ⌝ }
+{
+    let at = WIDTH * x + LEVEL_PLACE;
+    area[at] = low_byte(level);
+    area[at + 1] = high_byte(level);
 }

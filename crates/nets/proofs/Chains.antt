@@ -15,6 +15,7 @@ use lib.Dec.{eqb}
 use borrow.Author.Tests.{lt-ltb, le-ltb, ltb-true, ltb-false, eq-eqb, ne-eqb}
 use Rattle.facts.specs.Sums.{count, seek}
 use Rattle.facts.proofs.Bools.{and-i, true-false}
+use Rattle.facts.proofs.Loops.{seek-within, seek-true}
 use Rattle.facts.proofs.Sums.{count-false, count-more, rank-lt}
 use Rattle.netlist.specs.declared.Record.{Record}
 use Rattle.netlist.specs.Kinds.{slots, unused, sourceLimit, input, arity, isGate}
@@ -36,27 +37,6 @@ seek-count p q y (suc m) h = go (p y) refl (seek-count p q (suc y) m h)
     go : (b : Bool) → p y ≡ b → count q (seek p (suc y) m) ≡ count q (suc y) → count q (cond b y (seek p (suc y) m)) ≡ count q y
     go true e r = refl
     go false e r = r ∙ count-false q y (no-q (q y) refl e)
-
--- the first p stands within the range, and p holds there
-seek-within : (p : ℕ → Bool) (y m : ℕ) → (y ≤ seek p y m) × (seek p y m ≤ y + m)
-unfolding seek
-seek-within p y zero = omega arith
-seek-within p y (suc m) = go (p y) (seek-within p (suc y) m)
-  where
-    go : (b : Bool) → (suc y ≤ seek p (suc y) m) × (seek p (suc y) m ≤ suc y + m) →
-        (y ≤ cond b y (seek p (suc y) m)) × (cond b y (seek p (suc y) m) ≤ y + suc m)
-    go true h = omega arith
-    go false h = omega arith
-
-seek-true : (p : ℕ → Bool) (y m : ℕ) → seek p y m < y + m → p (seek p y m) ≡ true
-unfolding seek
-seek-true p y zero l = absurd (omega arith)
-seek-true p y (suc m) l = go (p y) refl l (seek-true p (suc y) m)
-  where
-    go : (b : Bool) → p y ≡ b → cond b y (seek p (suc y) m) < y + suc m →
-        (seek p (suc y) m < suc y + m → p (seek p (suc y) m) ≡ true) → p (cond b y (seek p (suc y) m)) ≡ true
-    go true e l r = e
-    go false e l r = r (omega arith)
 
 module _ (n : Netlist) (d : ℕ) where
   pub next-end : nextSink n d (slotEnd n) ≡ slotEnd n

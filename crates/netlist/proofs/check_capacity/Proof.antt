@@ -1,8 +1,8 @@
--- `check_capacities` meets its contract: the answer follows from the test.
+-- `check_capacity` meets its contract: the answer follows from the test.
 use borrow.Author.Needs.{needs}
 use Rattle.facts.proofs.Reflect.{check-bad, check-good}
-use Rattle.netlist.proofs.check_capacities.Statement.{statement}
-use Rattle.netlist.proofs.check_capacities.Tie as tie
+use Rattle.netlist.proofs.check_capacity.Statement.{statement}
+use Rattle.netlist.proofs.check_capacity.Tie as tie
 
 bad-capacity-requires : tie.Need-bad-capacity-requires
 bad-capacity-requires c κs = search needs
@@ -13,5 +13,5 @@ returns c = search check-bad
 returns-2 : tie.Need-returns-2
 returns-2 c = search check-good
 
-pub check-capacities-spec : {M : Type 1} → statement M
-check-capacities-spec = tie.close (tie.spec bad-capacity-requires returns returns-2)
+pub check-capacity-spec : {M : Type 1} → statement M
+check-capacity-spec = tie.close (tie.spec bad-capacity-requires returns returns-2)
