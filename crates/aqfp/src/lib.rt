@@ -5,6 +5,7 @@ ghost use lib.ListN.{length};
 ghost use Rattle.facts.specs.Checks.{checkedNumbers};
 ghost use Rattle.netlist.specs.Capacities.{capacitiesOf};
 ghost use Rattle.fanout.specs.Answer.{countAnswer, countNumbers};
+ghost use Rattle.levels.specs.Levels.{levelsAnswer, levelsArea};
 ghost use Rattle.nets.specs.Counts.{countsAnswer, countsArea};
 ghost use Rattle.mapper.specs.Answer.{mapAnswer, mapArea, mappingNumbers};
 ghost use Rattle.verifier.specs.Checks.{verifyAnswer, verifiedNumbers};
@@ -182,4 +183,18 @@ pub extern "C" fn aqfp_run(
             outputs,
         ),
     )
+}
+
+// Least levels: number, place.
+#[no_mangle]
+pub extern "C" fn aqfp_levels(
+    source: &[u8],
+    capacity: u32,
+    levelled: &mut [u8],
+    answer: &mut [u8; 8],
+) -> u32
+    ensures answer { λ r. ⌜ Answered r (now (answer .exit)) (checkedNumbers (levelsAnswer (now (source .entry)) capacity (now (levelled .entry)))) ⌝ }
+    ensures area { λ _. ⌜ now (levelled .exit) ≡ levelsArea (now (source .entry)) capacity (now (levelled .entry)) ⌝ }
+{
+    answer_checked(answer, levels::assign_levels(source, capacity, levelled))
 }

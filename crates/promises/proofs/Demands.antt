@@ -5,6 +5,9 @@ use Rattle.fanout.proofs.Numbers.{numbers-exactly}
 use Rattle.verifier.proofs.Fewest.{on-net-exactly}
 use Rattle.verifier.proofs.Accepted.{accepted-exactly}
 use Rattle.verifier.proofs.Balance.{accepted-balanced}
+use Rattle.levels.proofs.Heights.{height-exact}
+use Rattle.levels.proofs.Lowest.{levels-least}
+use Rattle.levels.proofs.Promises.{levels-exact, high-exactly, levels-keep, levels-written}
 use Rattle.nets.proofs.Promises.{counts-exact, counts-keep, counts-listed}
 use Rattle.mapper.proofs.Promises.{map-exact, refused-leaves, block-none}
 use Rattle.simulator.specs.Evaluate.{evaluateArea}
@@ -15,6 +18,7 @@ use Rattle.simulator.proofs.Claims.{evaluator-is-plain, calls-are-plain, run-is
 use Rattle.promises.specs.Demands.{RefusedKeeps, Demand1, Demand2, Demand3}
 use Rattle.promises.proofs.Written.{written-legal, written-balanced, written-accepted, written-least, beyond-kept, buffers-one-number, maps-where-accepted}
 use Rattle.promises.proofs.Block.{block-exact, block-short}
+use Rattle.promises.proofs.Levelled.{levelled-maps}
 use Rattle.promises.proofs.Numbers.{numbers-exact}
 use Rattle.fanout.proofs.Call as net
 use Rattle.verifier.proofs.Refusals as verifier
@@ -43,6 +47,9 @@ demand-1 =
       evaluate = evaluate-exact;
       step = step-exact;
       run = run-exact;
+      levels = levels-exact;
+      levelsKeep = levels-keep;
+      tooHigh = high-exactly;
       keeps = refused-keeps;
       countNumbers = numbers-exactly;
       numbers = numbers-exact;
@@ -66,6 +73,8 @@ demand-2 =
       blocks = block-exact;
       noBlock = block-none;
       shortBlock = block-short;
+      levelled = levels-written;
+      levelledMaps = levelled-maps;
     }
 
 pub demand-3 : Demand3
@@ -77,4 +86,6 @@ demand-3 =
       run = run-is-plain;
       steps = run-is-steps;
       evaluator = evaluator-is-plain;
+      height = height-exact;
+      leastLevels = levels-least;
     }

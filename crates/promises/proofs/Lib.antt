@@ -1,6 +1,7 @@
 pub mod Ready
 pub mod Written
 pub mod Block
+pub mod Levelled
 pub mod Figures
 pub mod Numbers
 pub mod Demands

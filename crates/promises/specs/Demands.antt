@@ -9,6 +9,7 @@ use Rattle.netlist.specs.Refusals.{SourceExact, InputExact}
 use Rattle.verifier.specs.Accepted.{AcceptedExactly}
 use Rattle.verifier.specs.Balance.{AcceptedBalanced}
 use Rattle.verifier.specs.Fewest.{OnNetExactly}
+use Rattle.levels.specs.Promises.{HeightExact, LevelsLeast, LevelsExact, HighExactly, LevelsKeep, LevelsWritten}
 use Rattle.nets.specs.Promises.{CountsExact, CountsKeep, CountsListed}
 use Rattle.mapper.specs.Promises.{MapExact, RefusedLeaves, BlockNone}
 use Rattle.simulator.specs.Evaluate.{evaluateAnswer, evaluateArea}
@@ -18,6 +19,7 @@ use Rattle.simulator.specs.Refusals.{EvaluateExact, StepExact, RunExact}
 use Rattle.simulator.specs.Claims.{EvaluatorIsPlain, CallsArePlain, RunIsPlain, RunIsSteps}
 use Rattle.promises.specs.Written.{WrittenLegal, WrittenBalanced, WrittenAccepted, WrittenLeast, BeyondKept, BuffersOneNumber, MapsWhereAccepted}
 use Rattle.promises.specs.Block.{BlockExact, BlockShort}
+use Rattle.promises.specs.Levelled.{LevelledMaps}
 use Rattle.promises.specs.Numbers.{NumbersExact}
 use Rattle.fanout.specs.Promises as net
 use Rattle.verifier.specs.Refusals as verifier
@@ -47,6 +49,9 @@ pub record Demand1 : Type 0 where
   pub evaluate : EvaluateExact
   pub step : StepExact
   pub run : RunExact
+  pub levels : LevelsExact
+  pub levelsKeep : LevelsKeep
+  pub tooHigh : HighExactly
   pub keeps : RefusedKeeps
   pub countNumbers : net.NumbersExactly
   pub numbers : NumbersExact
@@ -54,7 +59,7 @@ pub record Demand1 : Type 0 where
 
 -- demand 2: what is written is legal, path-balanced, properly branched and accepted, with the number of buffers answered; 'no tree'
 -- exactly when no tree at all is legal, by the count of one net and in a list of counts, which is the single counts; the verifier
--- accepts exactly the legal mapped netlists
+-- accepts exactly the legal mapped netlists; a source with its least levels differs in level fields alone, and none of 1 to 8 refuses it
 pub record Demand2 : Type 0 where
   pub legal : WrittenLegal
   pub balanced : WrittenBalanced
@@ -70,10 +75,12 @@ pub record Demand2 : Type 0 where
   pub blocks : BlockExact
   pub noBlock : BlockNone
   pub shortBlock : BlockShort
+  pub levelled : LevelsWritten
+  pub levelledMaps : LevelledMaps
 
 -- demand 3: no accepted netlist has fewer buffers, in all, on a net or at a level of a net, where a buffer's net is where its
 -- slot, traced back, ends; every list of one-step calls and every
--- run give the rows of plain logic
+-- run give the rows of plain logic; no levels that keep the rules are lower at any record than the least levels, by heights that are true
 pub record Demand3 : Type 0 where
   pub least : WrittenLeast
   pub nets : OnNetExactly
@@ -81,3 +88,5 @@ pub record Demand3 : Type 0 where
   pub run : RunIsPlain
   pub steps : RunIsSteps
   pub evaluator : EvaluatorIsPlain
+  pub height : HeightExact
+  pub leastLevels : LevelsLeast

@@ -1,4 +1,5 @@
 pub mod Written
 pub mod Block
+pub mod Levelled
 pub mod Numbers
 pub mod Demands

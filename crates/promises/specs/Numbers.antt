@@ -13,6 +13,8 @@ use Rattle.netlist.specs.Kinds.{width}
 use Rattle.netlist.specs.Records.{netlist, recordCount}
 use Rattle.netlist.specs.Source.{OutputsAt}
 use Rattle.netlist.specs.Counts.{bufferCount, gates}
+use Rattle.levels.specs.Levels.{levelsAnswer}
+use Rattle.levels.specs.Promises.{LevelsFail}
 use Rattle.nets.specs.Counts.{countsAnswer}
 use Rattle.nets.specs.Promises.{CountsFail}
 use Rattle.mapper.specs.Answer.{mapAnswer, mapArea, mappingNumbers}
@@ -78,3 +80,5 @@ pub record NumbersExact : Type 0 where
       TwoNumbers (StepFails source caps mapped row area) (checkedNumbers (stepAnswer source caps mapped row area))
   pub run : (source : List ℕ) (caps : Capacities) (mapped : List ℕ) (r : ℕ) (rows area outs : List ℕ) →
       TwoNumbers (RunFails source caps mapped r rows area outs) (checkedNumbers (runAnswer source caps mapped r rows area outs))
+  pub levels : (source : List ℕ) (s : ℕ) (area : List ℕ) →
+      TwoNumbers (LevelsFail source s area) (checkedNumbers (levelsAnswer source s area))

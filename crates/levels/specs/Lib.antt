@@ -1,0 +1,4 @@
+pub mod Rules
+pub mod Levels
+pub mod PrivateLevels
+pub mod Promises
