@@ -9,6 +9,7 @@
  *   aqfp_evaluate    gives the plain logic of a source for one row of inputs
  *   aqfp_run         runs a mapped netlist phase by phase over many rows
  *   aqfp_step        runs a mapped netlist by one step
+ *   aqfp_levels      writes a source with the least levels that leave room for every tree
  *
  * C99 and C++. Link with the static library libaqfp.a.
  *
@@ -21,7 +22,7 @@
  *   byte  0     kind: 0 input, 1 AND, 2 OR, 3 MAJ (majority of three), 4 output,
  *               5 buffer (mapped netlists only; a splitter is a buffer with several branches)
  *   byte  1     inversion: bit j inverts slot j, bits 3 to 7 are 0
- *   bytes 2-3   level, at most 4,095
+ *   bytes 2-3   level, at most 4,095 (in a source for aqfp_levels, anything)
  *   bytes 4-9   slots 0, 1 and 2, two bytes each: the index of a fanin
  *
  * An input uses no slot, output and buffer use slot 0, AND and OR use slots 0 and 1, MAJ uses all.
@@ -38,9 +39,9 @@
  * AREAS
  *
  * An area is a pointer and, after it, its length in bytes. It must have that length. An area that
- * a call may write (mapped of aqfp_map, counts, values, state, outputs, answer) must share no byte
- * with any other area of that call; areas that are only read may overlap. No call can check
- * either. Alignment does not matter. An empty area may be a null pointer; see
+ * a call may write (mapped of aqfp_map, counts, values, state, outputs, levelled, answer) must
+ * share no byte with any other area of that call; areas that are only read may overlap. No call
+ * can check either. Alignment does not matter. An empty area may be a null pointer; see
  * docs/INTEGRATION.md.
  *
  * Any bytes and any numbers may be handed in: a call returns, and touches nothing but its areas.
@@ -70,13 +71,16 @@
  *        2  source length not a multiple of 10                                    0
  *        3  source of more than 4,096 records                                     0
  *
- *           each source record in turn, all four checks:
+ *           each source record in turn, all four checks (aqfp_levels: 4 to 6):
  *        4  kind above 4                                                          record
  *        5  an inversion bit of no used slot, or any on an input or output        record
  *        6  a used slot that names no earlier record or names an output, or an    record
  *           unused slot that is not 65,535
  *        7  an input not at level 0, a level above 4,095, a fanin's level not     record
  *           below the record's own, or an output not at the first output's level
+ *
+ *       22  a least level above 4,095, records in turn                            record
+ *       23  levelled not exactly as long as source                                0
  *
  *        8  a net that has no tree, drivers in turn                               driver
  *        9  a mapped netlist of more than 60,000 records                          0
@@ -241,6 +245,27 @@ uint32_t aqfp_step(const uint8_t *source, size_t source_len,
                    const uint8_t *row, size_t row_len,
                    uint8_t *state, size_t state_len,
                    uint8_t answer[8]);
+
+/* Writes a copy of a source in which each record has its least level.
+ *
+ * The height of n sinks is the least h for which capacity to the power h is at least n. Levels
+ * keep the rules if inputs are at 0, outputs share one level, and each sink of a driver with n
+ * sinks (slots, not records, are counted) stands at least 1 + height levels above it. Of all
+ * levels that keep the rules, those written are the lowest at every record at once.
+ *
+ * In:       source, whose own levels are not looked at and may be anything; capacity.
+ * Out:      levelled, exactly as long as source: the source's bytes but for the level fields.
+ *           None of 2 to 8 refuses it for the same capacity. It may need more buffers than 9
+ *           allows.
+ * Answer:   number, place.
+ * Checks:   1 to 6, 22 (place: the first record whose least level, worked out without a bound, is
+ *           above 4,095; it may be an output, since all outputs share one level), 23.
+ * Refused:  levelled stays as it was.
+ */
+uint32_t aqfp_levels(const uint8_t *source, size_t source_len,
+                     uint32_t capacity,
+                     uint8_t *levelled, size_t levelled_len,
+                     uint8_t answer[8]);
 
 #ifdef __cplusplus
 }
