@@ -155,3 +155,18 @@ pub unsafe extern "C" fn aqfp_step(
     let state = lent_mut(state, state_len);
     give(&calls::step(source, capacity, mapped, lent(row, row_len), state), answer)
 }
+
+/// # Safety
+/// As the header says.
+#[no_mangle]
+pub unsafe extern "C" fn aqfp_levels(
+    source: *const u8,
+    source_len: usize,
+    capacity: u32,
+    levelled: *mut u8,
+    levelled_len: usize,
+    answer: *mut u8,
+) -> u32 {
+    let levelled = lent_mut(levelled, levelled_len);
+    give(&calls::levels(lent(source, source_len), capacity, levelled), answer)
+}

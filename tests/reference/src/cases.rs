@@ -2,7 +2,7 @@
 
 use crate::damage::{self, ALL_DAMAGE, SOURCE_CHECKS};
 use crate::engine::{Call, Name, NAMES};
-use crate::generator::{self, ALL_LEVELS};
+use crate::generator::{self, steep, ALL_LEVELS};
 use crate::mapper::mapping;
 use crate::random::Random;
 use crate::record::*;
@@ -274,6 +274,42 @@ pub fn step_call(random: &mut Random, subject: &Subject) -> Call {
     }
 }
 
+/// Levels that may be anything: as they are, all alike, or any numbers.
+fn relevelled(random: &mut Random, source: &[u8]) -> Vec<u8> {
+    let mut bytes = source.to_vec();
+    let way = random.below(6);
+    for record in bytes.chunks_exact_mut(WIDTH) {
+        let any = random.draw() as u16;
+        let level = match way {
+            0 => return bytes,
+            1 => 0,
+            2 => 65_535,
+            3 => any % (MAX_LEVEL + 2),
+            _ => any,
+        };
+        record[2..4].copy_from_slice(&level.to_le_bytes());
+    }
+    bytes
+}
+
+/// Least levels, of the subject or once in 100 times of a steep source; the area now and then has
+/// another length than the source, also by one record.
+pub fn levels_call(random: &mut Random, subject: &Subject) -> Call {
+    let mut call = call(Name::Levels, subject);
+    if random.one_in(100) {
+        call.source = encode(&steep(random, subject.s));
+    }
+    call.source = relevelled(random, &call.source);
+    let right = call.source.len();
+    let len = match random.below(24) {
+        0 => right.saturating_sub(WIDTH),
+        1 => right + WIDTH,
+        2..=7 => length(random, right),
+        _ => right,
+    };
+    Call { areas: vec![random.bytes(len)], ..call }
+}
+
 /// A call of the name on the subject.
 pub fn any_call(random: &mut Random, subject: &Subject, name: Name) -> Call {
     match name {
@@ -284,6 +320,7 @@ pub fn any_call(random: &mut Random, subject: &Subject, name: Name) -> Call {
         Name::Evaluate => evaluate_call(random, subject),
         Name::Run => run_call(random, subject, 6),
         Name::Step => step_call(random, subject),
+        Name::Levels => levels_call(random, subject),
     }
 }
 
@@ -366,7 +403,7 @@ pub fn calls_by_seed(seed: u64, index: u64) -> Vec<Call> {
     let mut calls = Vec::new();
     for name in NAMES {
         calls.push(any_call(&mut random, &subject, name));
-        if matches!(name, Name::Count | Name::CountNets | Name::Verify) {
+        if matches!(name, Name::Count | Name::CountNets | Name::Verify | Name::Levels) {
             calls.push(any_call(&mut random, &subject, name));
         }
     }

@@ -12,6 +12,7 @@ pub struct Engine {
     pub evaluate: fn(&[u8], &[u8], &mut [u8]) -> [u32; 2],
     pub run: fn(&[u8], u32, &[u8], Run) -> [u32; 2],
     pub step: fn(&[u8], u32, &[u8], &[u8], &mut [u8]) -> [u32; 2],
+    pub levels: fn(&[u8], u32, &mut [u8]) -> [u32; 2],
 }
 
 pub const PLAIN: Engine = Engine {
@@ -22,6 +23,7 @@ pub const PLAIN: Engine = Engine {
     evaluate: calls::evaluate,
     run: calls::run,
     step: calls::step,
+    levels: calls::levels,
 };
 
 pub const FAST: Engine = Engine {
@@ -32,6 +34,7 @@ pub const FAST: Engine = Engine {
     evaluate: fast::evaluate,
     run: fast::run,
     step: fast::step,
+    levels: fast::levels,
 };
 
 #[derive(Clone, Copy, PartialEq, Eq, Debug)]
@@ -43,10 +46,19 @@ pub enum Name {
     Evaluate,
     Run,
     Step,
+    Levels,
 }
 
-pub const NAMES: [Name; 7] =
-    [Name::Map, Name::Count, Name::CountNets, Name::Verify, Name::Evaluate, Name::Run, Name::Step];
+pub const NAMES: [Name; 8] = [
+    Name::Map,
+    Name::Count,
+    Name::CountNets,
+    Name::Verify,
+    Name::Evaluate,
+    Name::Run,
+    Name::Step,
+    Name::Levels,
+];
 
 impl Name {
     /// The name in words.
@@ -59,6 +71,7 @@ impl Name {
             Name::Evaluate => "evaluate",
             Name::Run => "run",
             Name::Step => "step",
+            Name::Levels => "levels",
         }
     }
 }
@@ -109,6 +122,7 @@ pub fn perform(engine: &Engine, call: &Call) -> Outcome {
             (engine.run)(source, capacity, mapped, run).to_vec()
         }
         Name::Step => (engine.step)(source, capacity, mapped, &call.rows, &mut areas[0]).to_vec(),
+        Name::Levels => (engine.levels)(source, capacity, &mut areas[0]).to_vec(),
     };
     Outcome { answer, areas }
 }

@@ -729,3 +729,149 @@ fn copy_outputs(source: &[Bytes], values: &[u8], outputs: &mut [u8]) {
 pub fn run(source: &[u8], capacity: u32, mapped: &[u8], areas: Run) -> [u32; 2] {
     run_checked(source, capacity, mapped, areas).unwrap_or_else(refused)
 }
+
+/// What stands for the number of sinks of a record that no slot may name: an output, or a record
+/// that is still to come. More than any number of sinks.
+const CLOSED: u16 = 1 << 15;
+
+/// Check 6 of a record that uses U slots, each slot counted at the record it names.
+#[inline(always)]
+fn count_slots<const U: usize>(r: &Bytes, k: usize, sinks: &mut [u16]) -> Result<(), Refused> {
+    for j in 0..U {
+        match sinks.get_mut(slot(r, j)) {
+            Some(count) if *count < CLOSED => *count += 1,
+            _ => return Err((6, k as u32)),
+        }
+    }
+    if r[4 + 2 * U..] != [0xFF; WIDTH][4 + 2 * U..] {
+        return Err((6, k as u32));
+    }
+    Ok(())
+}
+
+/// Checks 4 to 6 of each record in turn, and the number of sinks of each. All are closed before.
+fn count_sinks(source: &[Bytes], sinks: &mut [u16]) -> Result<(), Refused> {
+    for (k, r) in source.iter().enumerate() {
+        let kind = usize::from(r[0]);
+        if kind > usize::from(OUTPUT) {
+            return Err((4, k as u32));
+        }
+        if r[1] & !BITS[kind] != 0 {
+            return Err((5, k as u32));
+        }
+        match r[0] {
+            INPUT => count_slots::<0>(r, k, sinks)?,
+            OUTPUT => count_slots::<1>(r, k, sinks)?,
+            MAJ => count_slots::<3>(r, k, sinks)?,
+            _ => count_slots::<2>(r, k, sinks)?,
+        }
+        sinks[k] = if r[0] == OUTPUT { CLOSED } else { 0 };
+    }
+    Ok(())
+}
+
+/// The least h for which s to the power h is at least n.
+const fn height(n: usize, s: usize) -> u16 {
+    let (mut h, mut reach) = (0, 1);
+    while reach < n {
+        reach *= s;
+        h += 1;
+    }
+    h
+}
+
+/// The heights of fewer sinks than this are looked up.
+const FEW: usize = 64;
+
+const fn heights(s: usize) -> [u16; FEW] {
+    let mut heights = [0; FEW];
+    let mut n = 0;
+    while n < FEW {
+        heights[n] = height(n, s);
+        n += 1;
+    }
+    heights
+}
+
+/// The highest least level of all records, and of the outputs.
+struct Highest {
+    all: u16,
+    outputs: u16,
+}
+
+/// The highest entry of those that the first slots of a record name.
+#[inline(always)]
+fn highest_named<const U: usize>(r: &Bytes, entries: &[u16]) -> u16 {
+    let mut highest = 0;
+    for j in 0..U {
+        highest = highest.max(entries[slot(r, j)]);
+    }
+    highest
+}
+
+/// The least level of each record, an output's without the others'. An entry of `sinks` becomes the
+/// least level that the record's sinks can have. No level is above 16,384, the number of all slots
+/// and records.
+fn set_levels<const S: usize>(source: &[Bytes], sinks: &mut [u16], levels: &mut [u16]) -> Highest {
+    let few = const { &heights(S) };
+    let mut highest = Highest { all: 0, outputs: 0 };
+    for (k, (r, own)) in source.iter().zip(levels).enumerate() {
+        let level = match r[0] {
+            INPUT => 0,
+            OUTPUT => {
+                let level = highest_named::<1>(r, sinks);
+                highest.outputs = highest.outputs.max(level);
+                level
+            }
+            MAJ => highest_named::<3>(r, sinks),
+            _ => highest_named::<2>(r, sinks),
+        };
+        let n = usize::from(sinks[k] & !CLOSED);
+        sinks[k] = level + 1 + few.get(n).copied().unwrap_or_else(|| height(n, S));
+        *own = level;
+        highest.all = highest.all.max(level);
+    }
+    highest
+}
+
+fn levels_checked<const S: usize>(source: &[u8], levelled: &mut [u8]) -> Result<[u32; 2], Refused> {
+    let (records, rest) = source.as_chunks::<WIDTH>();
+    if !rest.is_empty() {
+        return Err((2, 0));
+    }
+    let n = records.len();
+    if n > MAX_SOURCE {
+        return Err((3, 0));
+    }
+    let mut sinks = Local::<u16, MAX_SOURCE>::new();
+    let mut levels = Local::<u16, MAX_SOURCE>::new();
+    let (sinks, levels) = (sinks.first(n, CLOSED), levels.first(n, 0));
+    count_sinks(records, sinks)?;
+    let highest = set_levels::<S>(records, sinks, levels);
+    let levels = records.iter().zip(levels.iter());
+    let mut levels = levels.map(|(r, &own)| if r[0] == OUTPUT { highest.outputs } else { own });
+    if highest.all > MAX_LEVEL {
+        let place = levels.position(|level| level > MAX_LEVEL);
+        return Err((22, place.unwrap_or(n) as u32));
+    }
+    if levelled.len() != source.len() {
+        return Err((23, 0));
+    }
+    for ((new, r), level) in levelled.as_chunks_mut::<WIDTH>().0.iter_mut().zip(records).zip(levels)
+    {
+        let [low, high] = level.to_le_bytes();
+        *new = [r[0], r[1], low, high, r[4], r[5], r[6], r[7], r[8], r[9]];
+    }
+    Ok([0, 0])
+}
+
+#[inline(never)]
+pub fn levels(source: &[u8], capacity: u32, levelled: &mut [u8]) -> [u32; 2] {
+    let answer = match capacity {
+        2 => levels_checked::<2>(source, levelled),
+        3 => levels_checked::<3>(source, levelled),
+        4 => levels_checked::<4>(source, levelled),
+        _ => Err((1, 0)),
+    };
+    answer.unwrap_or_else(refused)
+}

@@ -1,5 +1,6 @@
 //! Random sources, and legal mapped netlists that the mapper would not write.
 
+use crate::levels::least_levels;
 use crate::net::{distances, fewest, sinks};
 use crate::random::Random;
 use crate::record::*;
@@ -132,6 +133,51 @@ pub fn source(random: &mut Random, size: usize, s: usize, levels: Levels) -> Vec
     }
     if levels == Levels::Lowered && size <= 40 {
         lower(random, &mut records, s);
+    }
+    records
+}
+
+/// The gate after record `before` of a chain: it names it once, twice or three times, and record 0
+/// where it has slots left.
+fn next_in_chain(random: &mut Random, times: usize, before: u16) -> Record {
+    let (kind, fanins) = match times {
+        1 if random.one_in(2) => (AND, vec![before, 0]),
+        1 => (MAJ, vec![0, before, 0]),
+        2 if random.one_in(8) => (MAJ, vec![before, 0, before]),
+        2 => (OR, vec![before, before]),
+        _ => (MAJ, vec![before; 3]),
+    };
+    Record::new(kind, random.byte() & inversion_bits(kind), 0, &fanins)
+}
+
+/// A chain of gates whose least levels for s end about the highest level, on either side of it. A
+/// gate may have more sinks: outputs, and gates beside the chain.
+pub fn steep(random: &mut Random, s: usize) -> Vec<Record> {
+    let mut records = vec![Record::new(INPUT, 0, 0, &[])];
+    let mut end = 0;
+    let times = random.pick(&[0, 0, 1, 2, 3, 3]);
+    let outputs = random.one_in(2);
+    let beside = random.pick(&[0, 0, 16, 256]);
+    while records.len() < MAX_SOURCE {
+        if beside > 0 && random.one_in(beside) {
+            for _ in 0..random.between(1, 20) {
+                let kind = if outputs && random.one_in(2) { OUTPUT } else { MAJ };
+                records.push(Record::new(kind, 0, 0, &vec![end; used_slots(kind)]));
+            }
+        }
+        let times = if times == 0 { random.between(1, 3) } else { times };
+        records.push(next_in_chain(random, times, end));
+        end = records.len() as u16 - 1;
+    }
+    records.truncate(MAX_SOURCE - 1);
+    let levels = least_levels(&records, s);
+    let high = |k: &usize| records[*k].is_driver() && levels[*k] > u32::from(MAX_LEVEL);
+    if let Some(above) = (0..records.len()).find(high) {
+        records.truncate(above - 2 + random.below(6));
+    }
+    if random.one_in(2) {
+        let last = (0..records.len()).rev().find(|&k| records[k].is_driver()).unwrap_or(0);
+        records.push(Record::new(OUTPUT, 0, 0, &[last as u16]));
     }
     records
 }

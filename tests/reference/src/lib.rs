@@ -10,6 +10,7 @@ pub mod damage;
 pub mod engine;
 pub mod fast;
 pub mod generator;
+pub mod levels;
 pub mod mapper;
 pub mod net;
 pub mod random;

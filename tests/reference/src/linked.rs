@@ -73,6 +73,14 @@ extern "C" {
         state_len: usize,
         answer: *mut u8,
     ) -> u32;
+    fn aqfp_levels(
+        source: *const u8,
+        source_len: usize,
+        capacity: u32,
+        levelled: *mut u8,
+        levelled_len: usize,
+        answer: *mut u8,
+    ) -> u32;
 }
 
 /// The numbers of an answer area; the call's return value must be the first of them.
@@ -200,4 +208,19 @@ fn step(source: &[u8], capacity: u32, mapped: &[u8], row: &[u8], state: &mut [u8
     numbers(&answer, returned)
 }
 
-pub const LINKED: Engine = Engine { map, count, count_nets, verify, evaluate, run, step };
+fn levels(source: &[u8], capacity: u32, levelled: &mut [u8]) -> [u32; 2] {
+    let mut answer = [0xA5; 8];
+    let returned = unsafe {
+        aqfp_levels(
+            source.as_ptr(),
+            source.len(),
+            capacity,
+            levelled.as_mut_ptr(),
+            levelled.len(),
+            answer.as_mut_ptr(),
+        )
+    };
+    numbers(&answer, returned)
+}
+
+pub const LINKED: Engine = Engine { map, count, count_nets, verify, evaluate, run, step, levels };

@@ -39,8 +39,8 @@ fn bad_level(records: &[Record], k: usize) -> bool {
         || record.kind == OUTPUT && record.level != depth(records)
 }
 
-/// Checks 4 to 7 of record k.
-fn check_record(records: &[Record], k: usize) -> Result<(), Refusal> {
+/// Checks 4 to 6 of record k.
+fn check_form(records: &[Record], k: usize) -> Result<(), Refusal> {
     if records[k].kind > OUTPUT {
         return refuse(4, k);
     }
@@ -50,14 +50,23 @@ fn check_record(records: &[Record], k: usize) -> Result<(), Refusal> {
     if bad_slot(records, k) {
         return refuse(6, k);
     }
+    Ok(())
+}
+
+/// Checks 4 to 7 of record k.
+fn check_record(records: &[Record], k: usize) -> Result<(), Refusal> {
+    check_form(records, k)?;
     if bad_level(records, k) {
         return refuse(7, k);
     }
     Ok(())
 }
 
-/// Checks 2 to 7: the source's records, or the first refusal.
-pub fn check_source(bytes: &[u8]) -> Result<Vec<Record>, Refusal> {
+/// Checks 2 and 3, then those of each record in turn: the source's records, or the first refusal.
+fn check_all(
+    bytes: &[u8],
+    check: fn(&[Record], usize) -> Result<(), Refusal>,
+) -> Result<Vec<Record>, Refusal> {
     if !bytes.len().is_multiple_of(WIDTH) {
         return refuse(2, 0);
     }
@@ -66,9 +75,19 @@ pub fn check_source(bytes: &[u8]) -> Result<Vec<Record>, Refusal> {
     }
     let records = decode(bytes);
     for k in 0..records.len() {
-        check_record(&records, k)?;
+        check(&records, k)?;
     }
     Ok(records)
+}
+
+/// Checks 2 to 7.
+pub fn check_source(bytes: &[u8]) -> Result<Vec<Record>, Refusal> {
+    check_all(bytes, check_record)
+}
+
+/// Checks 2 to 6: levels may be anything.
+pub fn check_unlevelled(bytes: &[u8]) -> Result<Vec<Record>, Refusal> {
+    check_all(bytes, check_form)
 }
 
 /// D: the level of the outputs, or 0 if there are none.

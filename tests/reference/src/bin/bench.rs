@@ -81,6 +81,7 @@ impl Subject {
             Name::Evaluate => vec![vec![0; self.n()]],
             Name::Run => vec![vec![0; 2 * self.m()], vec![0; rows * outputs]],
             Name::Step => vec![vec![0; 2 * self.m()]],
+            Name::Levels => vec![vec![0; self.source.len()]],
             _ => Vec::new(),
         };
         Call {
@@ -127,6 +128,9 @@ fn make(engine: &Engine, call: &mut Call) {
         }
         Name::Step => {
             black_box((engine.step)(source, capacity, mapped, rows, &mut areas[0]));
+        }
+        Name::Levels => {
+            black_box((engine.levels)(source, capacity, &mut areas[0]));
         }
     }
 }

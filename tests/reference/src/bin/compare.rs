@@ -2,8 +2,9 @@
 //!
 //!   compare COUNT SEED [FIRST]     COUNT netlists of the seed, from number FIRST on
 //!
-//! Every answer and every byte of every area is held to the plain implementation's. Prints one
-//! line; at the first difference prints the call, and exits with status 1.
+//! Every answer and every byte of every area is held to the plain implementation's, and every copy
+//! with least levels to checks 2 to 8. Prints one line; at the first difference prints the call, and
+//! exits with status 1.
 
 use std::collections::BTreeMap;
 use std::env;
@@ -12,6 +13,7 @@ use std::process::ExitCode;
 
 use reference::cases::calls_by_seed;
 use reference::engine::{perform, Call, Name, Outcome, NAMES, PLAIN};
+use reference::levels;
 use reference::linked::LINKED;
 
 /// Longer areas are shown by their first bytes.
@@ -73,12 +75,20 @@ impl Tally {
     }
 }
 
+/// Whether none of 2 to 8 refuses the copy of an accepted call for least levels.
+fn copy_passes(call: &Call, outcome: &Outcome) -> bool {
+    call.name != Name::Levels
+        || outcome.answer[0] != 0
+        || levels::passes(&outcome.areas[0], call.capacity as usize)
+}
+
 /// The calls on one netlist; false at the first difference.
 fn same(seed: u64, index: u64, tally: &mut Tally) -> bool {
     for call in calls_by_seed(seed, index) {
         let expected = perform(&PLAIN, &call);
         let found = catch_unwind(|| perform(&LINKED, &call));
-        if found.as_ref().is_ok_and(|found| *found == expected) {
+        let same = |found: &Outcome| *found == expected && copy_passes(&call, found);
+        if found.as_ref().is_ok_and(same) {
             tally.add(call.name, expected.answer[0]);
             continue;
         }

@@ -146,6 +146,7 @@ fn call_case(call: &Call) -> Case {
         Name::Evaluate => fields.push(call.rows.clone()),
         Name::Run => fields.extend([numbers, call.mapped.clone(), call.rows.clone()]),
         Name::Step => fields.extend([capacity, call.mapped.clone(), call.rows.clone()]),
+        Name::Levels => fields.push(capacity),
     }
     if call.name != Name::Map {
         fields.extend(call.areas.clone());
