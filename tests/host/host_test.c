@@ -79,7 +79,7 @@ struct area {
 };
 
 static struct area source_area, mapped_area, rows_area, state_area, outputs_area, answer_area;
-static struct area records_area, counts_area;
+static struct area records_area, counts_area, levelled_area;
 
 static void make_block(struct area *area)
 {
@@ -289,6 +289,17 @@ static void do_step(struct bytes source, uint32_t capacity, struct bytes mapped,
     settle("aqfp_step", returned, read, written);
 }
 
+static void do_levels(struct bytes source, uint32_t capacity, struct bytes levelled)
+{
+    static struct area *const read[] = { &source_area, NULL };
+    static struct area *const written[] = { &levelled_area, NULL };
+    const uint8_t *s = lend(&source_area, source.at, source.len);
+    uint8_t *l = lend(&levelled_area, levelled.at, levelled.len);
+    uint32_t returned =
+        aqfp_levels(s, source.len, capacity, l, levelled.len, lend_answer(8));
+    settle("aqfp_levels", returned, read, written);
+}
+
 static int answered(uint32_t number, uint32_t place)
 {
     return answer[0] == number && answer[1] == place;
@@ -434,6 +445,146 @@ static void hold_listed(struct bytes source, uint32_t capacity)
     for (k = 0; k < list_len / 2; k++) {
         do_count(source, capacity, field(list + 2 * k));
         check(accepted(listed(k)), "a count of a list is that of one net");
+    }
+}
+
+/* ---- least levels, worked out here as specification 2.7 and 3.3 say ---- */
+
+/* The least level of each record, whatever it comes to. */
+static uint32_t least[MAX_SOURCE];
+
+/* The least h for which s to the power h is at least n. */
+static uint32_t height(uint32_t n, uint32_t s)
+{
+    uint32_t h = 0, reach = 1;
+    while (reach < n) {
+        reach *= s;
+        h++;
+    }
+    return h;
+}
+
+static void find_least(struct bytes source, uint32_t s)
+{
+    static uint32_t sinks[MAX_SOURCE];
+    size_t n = source.len / RECORD, k, j;
+    uint32_t outputs = 0;
+    memset(sinks, 0, sizeof sinks);
+    for (k = 0; k < n; k++)
+        for (j = 0; j < used_slots(source.at[RECORD * k]); j++)
+            sinks[field(source.at + RECORD * k + 4 + 2 * j)]++;
+    for (k = 0; k < n; k++) {
+        const uint8_t *record = source.at + RECORD * k;
+        least[k] = 0;
+        for (j = 0; j < used_slots(record[0]); j++) {
+            unsigned driver = field(record + 4 + 2 * j);
+            uint32_t level = least[driver] + 1 + height(sinks[driver], s);
+            least[k] = level > least[k] ? level : least[k];
+        }
+        if (record[0] == OUTPUT && least[k] > outputs)
+            outputs = least[k];
+    }
+    for (k = 0; k < n; k++)
+        if (source.at[RECORD * k] == OUTPUT)
+            least[k] = outputs;
+}
+
+/* The number of checks 4 to 6 that record k fails first, or 0. */
+static uint32_t bad_record(struct bytes source, size_t k)
+{
+    const uint8_t *record = source.at + RECORD * k;
+    unsigned used = used_slots(record[0]), j;
+    if (record[0] > OUTPUT)
+        return 4;
+    if (record[1] >= 1 << (record[0] == INPUT || record[0] == OUTPUT ? 0 : used))
+        return 5;
+    for (j = 0; j < SLOTS; j++) {
+        unsigned slot = field(record + 4 + 2 * j);
+        if (j < used ? slot >= k || source.at[RECORD * slot] == OUTPUT : slot != UNUSED)
+            return 6;
+    }
+    return 0;
+}
+
+/* The number that the call must give; the place is at `place`. */
+static uint32_t levels_number(struct bytes source, uint32_t s, size_t levelled_len, uint32_t *place)
+{
+    uint32_t number;
+    *place = 0;
+    if (s < 2 || s > 4)
+        return 1;
+    if (source.len % RECORD != 0)
+        return 2;
+    if (source.len / RECORD > MAX_SOURCE)
+        return 3;
+    for (; *place < source.len / RECORD; ++*place)
+        if ((number = bad_record(source, *place)) != 0)
+            return number;
+    find_least(source, s);
+    for (*place = 0; *place < source.len / RECORD; ++*place)
+        if (least[*place] > MAX_LEVEL)
+            return 22;
+    *place = 0;
+    return levelled_len != source.len ? 23 : 0;
+}
+
+/* The copy in levelled_area is the source but for the levels, which are those of `least`. */
+static int is_levelled(struct bytes source)
+{
+    size_t k;
+    for (k = 0; k < source.len / RECORD; k++) {
+        const uint8_t *old = source.at + RECORD * k, *new = levelled_area.at + RECORD * k;
+        if (memcmp(old, new, 2) != 0 || memcmp(old + 4, new + 4, RECORD - 4) != 0)
+            return 0;
+        if (field(new + 2) != least[k])
+            return 0;
+    }
+    return 1;
+}
+
+/* The call gives the number, the place and the bytes worked out here. */
+static void hold_levels(struct bytes source, uint32_t s, size_t levelled_len)
+{
+    uint32_t place, number = levels_number(source, s, levelled_len, &place);
+    do_levels(source, s, fill(levelled_len));
+    check(answered(number, place), "aqfp_levels: number and place");
+    check(answer[0] != 0 || is_levelled(source), "aqfp_levels: every byte of the copy");
+}
+
+/* A source is accepted, and its copy too, which keeps its levels; 9 alone may refuse the copy when
+ * it is mapped, and what is mapped is legal. */
+static void hold_copy(struct bytes source, uint32_t s, size_t mapped_len)
+{
+    static uint8_t copy[RECORD * MAX_SOURCE], mapped[RECORD * MAX_MAPPED];
+    struct bytes levelled = part(copy, source.len);
+    uint32_t buffers;
+    hold_levels(source, s, source.len);
+    check(answered(0, 0), "a source is accepted");
+    if (answer[0] != 0)
+        return;
+    if (source.len > 0)
+        memcpy(copy, levelled_area.at, source.len);
+    do_levels(levelled, s, fill(source.len));
+    check(answered(0, 0) && (source.len == 0 || memcmp(levelled_area.at, copy, source.len) == 0),
+          "the copy's least levels are its levels");
+    do_map(levelled, s, fill(mapped_len));
+    check(answered(0, 0) || answered(9, 0), "the mapper refuses the copy by 9 only");
+    if (answer[0] != 0)
+        return;
+    buffers = answer[3];
+    memcpy(mapped, mapped_area.at, RECORD * answer[2]);
+    do_verify(levelled, s, part(mapped, RECORD * answer[2]));
+    check(accepted(buffers), "the verifier accepts the mapped copy");
+}
+
+/* Puts the same level, or any levels, into all records. */
+static void set_levels(uint8_t *records, size_t len, int any, unsigned level)
+{
+    size_t k;
+    for (k = 0; k < len; k += RECORD) {
+        unsigned own = any ? below(65536) : level;
+        records[k + 2] = (uint8_t)own;
+        records[k + 3] = (uint8_t)(own >> 8);
     }
 }
 
@@ -746,6 +897,260 @@ static void test_list_limits(void)
     end();
 }
 
+/* The worked case, whose levels are the least, with any levels brought. */
+static void test_levels_worked(void)
+{
+    static const unsigned brought[] = { 0, 1, 2, 3, 255, 256, 4095, 4096, 32768, 65535 };
+    uint8_t changed[sizeof worked_source];
+    struct bytes source = part(changed, sizeof changed);
+    uint32_t s;
+    size_t k, j, len;
+    begin("aqfp_levels, the worked case");
+    for (s = 2; s <= 4; s++) {
+        for (k = 0; k < sizeof brought / sizeof brought[0]; k++)
+            for (j = 0; j <= 5; j++) {
+                memcpy(changed, worked_source, sizeof changed);
+                if (j < 5)
+                    set_levels(changed + RECORD * j, RECORD, 0, brought[k]);
+                else
+                    set_levels(changed, sizeof changed, 0, brought[k]);
+                do_levels(source, s, fill(sizeof changed));
+                check(answered(0, 0), "levels brought are not looked at");
+                check(memcmp(levelled_area.at, worked_source, sizeof changed) == 0,
+                      "the worked case's levels");
+                hold_copy(source, s, 1000);
+            }
+        for (len = 0; len <= 110; len++) {
+            do_levels(worked, s, fill(len));
+            check(len == 50 ? answered(0, 0) : answered(23, 0), "an area of 50 bytes, no other");
+            do_levels(fill(0), s, fill(len));
+            check(len == 0 ? answered(0, 0) : answered(23, 0), "an empty source, an empty area");
+        }
+        for (k = 0; k < 200; k++) {
+            set_levels(changed, sizeof changed, 1, 0);
+            do_levels(source, s, fill(sizeof changed));
+            check(answered(0, 0) && memcmp(levelled_area.at, worked_source, sizeof changed) == 0,
+                  "any levels brought");
+        }
+    }
+    end();
+}
+
+/* An input and a net of so many sinks on it: outputs, or majorities and at most two outputs. */
+static void make_sinks(unsigned sinks, int outputs)
+{
+    clear();
+    add_input();
+    for (; !outputs && sinks >= 3; sinks -= 3)
+        add(MAJ, sinks % 8, sinks, 0, 0, 0);
+    for (; sinks > 0; sinks--)
+        add_one(OUTPUT, sinks, 0);
+}
+
+/* All records but the first, an input, are answered this level. */
+static int all_at(unsigned level)
+{
+    size_t k;
+    for (k = RECORD; k < levelled_area.len; k += RECORD)
+        if (field(levelled_area.at + k + 2) != level)
+            return 0;
+    return answered(0, 0) && field(levelled_area.at + 2) == 0;
+}
+
+static void test_levels_heights(void)
+{
+    static const unsigned most[3] = { 15, 10, 8 };
+    uint32_t s, h;
+    unsigned power, sinks, outputs;
+    begin("aqfp_levels, heights");
+    for (s = 2; s <= 4; s++) {
+        for (h = 0, power = 1; power <= 12284; h++, power *= s)
+            for (sinks = power; sinks <= power + 1; sinks++)
+                for (outputs = 0; outputs < 2; outputs++) {
+                    if (outputs && sinks >= MAX_SOURCE)
+                        continue;
+                    make_sinks(sinks, (int)outputs);
+                    do_levels(made(), s, fill(netlist_len));
+                    check(all_at(1 + h + (sinks > power)), "s to the power h sinks, and one more");
+                    hold_copy(made(), s, 600000);
+                }
+        make_sinks(12285, 0);
+        check(netlist_len == RECORD * MAX_SOURCE, "the largest net");
+        do_levels(made(), s, fill(netlist_len));
+        check(all_at(most[s - 2]), "12,285 sinks");
+        hold_copy(made(), s, 600000);
+        /* Slots are counted, not records. */
+        two_records(AND, 3, 9, 0, 0, UNUSED);
+        do_levels(made(), s, fill(20));
+        check(all_at(2), "a gate that names a driver twice");
+        two_records(MAJ, 7, 0, 0, 0, 0);
+        do_levels(made(), s, fill(20));
+        check(all_at(s == 2 ? 3 : 2), "a gate that names a driver three times");
+        clear();
+        add_input();
+        add_input();
+        add(MAJ, 0, 0, 1, 0, 1);
+        do_levels(made(), s, fill(30));
+        check(answered(0, 0) && field(levelled_area.at + 22) == 2,
+              "a gate that names a driver twice and another once");
+        two_records(OUTPUT, 0, 4096, 0, UNUSED, UNUSED);
+        do_levels(made(), s, fill(20));
+        check(all_at(1), "one sink");
+        clear();
+        for (sinks = 0; sinks < MAX_SOURCE; sinks++)
+            add(INPUT, 0, sinks, UNUSED, UNUSED, UNUSED);
+        do_levels(made(), s, fill(netlist_len));
+        check(all_at(0), "4,096 inputs, brought at many levels");
+        check(number_of(INPUT, part(levelled_area.at, netlist_len)) == MAX_SOURCE, "4,096 records");
+    }
+    end();
+}
+
+/* Gates one on the other from record `end` on, each naming the one before in so many slots. */
+static void add_chain(unsigned gates, unsigned slots, unsigned end)
+{
+    for (; gates > 0; gates--) {
+        add(slots == 3 ? MAJ : AND, 0, 65535, end, end, slots == 3 ? end : UNUSED);
+        end = (unsigned)(netlist_len / RECORD - 1);
+    }
+}
+
+/* What the source in netlist is answered, with an area that fits and with others. */
+static void levels_answered(uint32_t s, uint32_t number, uint32_t place, const char *what)
+{
+    do_levels(made(), s, fill(netlist_len));
+    check(answered(number, place), what);
+    hold_levels(made(), s, netlist_len);
+    if (number == 0) {
+        hold_copy(made(), s, 600000);
+        number = 23;
+    }
+    do_levels(made(), s, fill(netlist_len - 1));
+    check(answered(number, place), what);
+    do_levels(made(), s, fill(netlist_len + 1));
+    check(answered(number, place), what);
+    do_levels(made(), s, fill(netlist_len - RECORD));
+    check(answered(number, place), what);
+    do_levels(made(), s, fill(netlist_len + RECORD));
+    check(answered(number, place), what);
+    do_levels(made(), s, fill(0));
+    check(answered(number, place), what);
+}
+
+static void test_levels_limits(void)
+{
+    uint32_t s;
+    unsigned k;
+    begin("refusals 22 and 23");
+    /* Three sinks have height 2 with capacity 2, and two have height 1 with any. */
+    clear();
+    add_input();
+    add_chain(1365, 3, 0);
+    levels_answered(2, 0, 0, "a gate at 4,095");
+    check(least[1365] == MAX_LEVEL, "a gate at 4,095");
+    add_one(OUTPUT, 0, 1365);
+    levels_answered(2, 22, 1366, "an output at 4,096");
+    netlist_len -= RECORD;
+    add_chain(1, 3, 1365);
+    levels_answered(2, 22, 1366, "a gate at 4,098");
+    levels_answered(3, 0, 0, "capacity 3");
+    add_chain(4096 - 1367, 3, 1366);
+    levels_answered(2, 22, 1366, "4,096 records, a gate at 4,098 and higher ones");
+    for (s = 2; s <= 4; s++) {
+        clear();
+        add_input();
+        add_chain(2047, 2, 0);
+        levels_answered(s, 0, 0, "a gate at 4,094");
+        add_one(OUTPUT, 9, 2047);
+        levels_answered(s, 0, 0, "an output at 4,095");
+        add_one(OUTPUT, 9, 2047);
+        levels_answered(s, 22, 2048, "two outputs at 4,096");
+        put_record(netlist + RECORD * 2049, OUTPUT, 0, 0, 0, UNUSED, UNUSED);
+        /* The first input has three sinks now. */
+        levels_answered(s, s == 2 ? 22 : 0, s == 2 ? 2048 : 0, "two outputs, one on the input");
+        clear();
+        add_input();
+        add_chain(4095, 2, 0);
+        levels_answered(s, 22, 2048, "the highest least levels of 4,096 records");
+        put_record(netlist + RECORD * 4095, AND, 0, 0, 0, 4095, UNUSED);
+        levels_answered(s, 6, 4095, "6 of the last record before 22");
+        put_record(netlist + RECORD * 4095, AND, 4, 0, 0, 0, UNUSED);
+        levels_answered(s, 5, 4095, "5 of the last record before 22");
+        put_record(netlist + RECORD * 4095, BUFFER, 0, 0, 0, UNUSED, UNUSED);
+        levels_answered(s, 4, 4095, "4 of the last record before 22");
+        add_input();
+        levels_answered(s, 3, 0, "3 before 4 and 22");
+        netlist_len--;
+        levels_answered(s, 2, 0, "2 before 4 and 22");
+        levels_answered(s + 3, 1, 0, "1 before 2, 4 and 22");
+        /* An output before the chain, on an input of its own; later one on the chain's end. */
+        clear();
+        add_input();
+        add_input();
+        add_one(OUTPUT, 1, 0);
+        add_chain(2048, 2, 1);
+        levels_answered(s, 22, 2050, "an early output stands low: the gate is the place");
+        netlist_len -= RECORD;
+        levels_answered(s, 0, 0, "a gate at 4,094, an early output at 1");
+        check(least[2] == 1, "an early output at 1");
+        add_one(OUTPUT, 1, 2049);
+        levels_answered(s, 0, 0, "all outputs at 4,095");
+        check(least[2] == MAX_LEVEL && least[2050] == MAX_LEVEL, "all outputs at 4,095");
+        put_record(netlist + RECORD * 2050, AND, 0, 0, 2049, 2049, UNUSED);
+        add_one(OUTPUT, 1, 2050);
+        levels_answered(s, 22, 2, "an early output is the place");
+        put_record(netlist + RECORD * 2, AND, 0, 0, 0, 0, UNUSED);
+        levels_answered(s, 22, 2050, "without it the gate is");
+        /* Every gate names the input too, which has as many sinks as there are records; the heights
+         * of 4,084 and of 4,096 are 12, 8 and 6. Gate k stands k levels above the height. */
+        clear();
+        add_input();
+        add_and(0, 0, 0);
+        for (k = 2; k <= 4083; k++)
+            add_and(0, k - 1, 0);
+        levels_answered(s, 0, 0, "a chain on an input of 4,084 sinks");
+        check(least[4083] == (s == 2 ? 4095 : s == 3 ? 4091 : 4089), "4,083 above the height");
+        for (; k <= 4095; k++)
+            add_and(0, k - 1, 0);
+        levels_answered(s, 22, s == 2 ? 4084 : s == 3 ? 4088 : 4090,
+                        "a chain on an input of 4,096 sinks");
+    }
+    /* A gate at 4,083 with 2,048 outputs, which have height 11, and with one more. */
+    clear();
+    add_input();
+    add_chain(1361, 3, 0);
+    for (k = 0; k < 2048; k++)
+        add_one(OUTPUT, 0, 1361);
+    levels_answered(2, 0, 0, "2,048 outputs at 4,095");
+    check(least[1362] == MAX_LEVEL && least[3409] == MAX_LEVEL, "2,048 outputs at 4,095");
+    add_one(OUTPUT, 0, 1361);
+    levels_answered(2, 22, 1362, "2,049 outputs at 4,096");
+    /* Sinks that stand after the chain raise its last gate. */
+    clear();
+    add_input();
+    add_chain(1365, 3, 0);
+    add_and(0, 1364, 0);
+    levels_answered(2, 0, 0, "four sinks below the last gate, as high as three");
+    add_and(0, 1364, 0);
+    levels_answered(2, 22, 1365, "five sinks below the last gate");
+    /* 15 inputs with an output each, which a chain brings to 4,095. */
+    clear();
+    for (k = 0; k < 16; k++)
+        add_input();
+    for (k = 0; k < 15; k++)
+        add_one(OUTPUT, 0, k);
+    add_and(0, 15, 15);
+    add_chain(2046, 2, 31);
+    add_one(OUTPUT, 0, 2077);
+    levels_answered(2, 0, 0, "16 outputs at 4,095");
+    check(least[16] == MAX_LEVEL && least[2078] == MAX_LEVEL, "16 outputs at 4,095");
+    do_levels(made(), 2, fill(netlist_len));
+    memcpy(netlist, levelled_area.at, netlist_len);
+    do_map(made(), 2, fill(600000));
+    check(answered(9, 0), "a copy that needs more buffers than 9 allows");
+    end();
+}
+
 static void test_run_worked(void)
 {
     static const uint8_t rows[8] = { 1, 1, 0, 1, 1, 0, 1, 1 };
@@ -815,10 +1220,11 @@ static void test_run_limits(void)
 
 /* ---- refusals ---- */
 
-/* Calls everything on a source that fails one of 2 to 7. */
+/* Calls everything on a source that fails one of 2 to 7. Least levels do not go by 7. */
 static void refused_everywhere(struct bytes source, uint32_t number, uint32_t place,
                                const char *what)
 {
+    uint32_t s;
     do_map(source, 2, fill(100));
     check(answered(number, place), what);
     do_count(source, 3, 0);
@@ -837,6 +1243,12 @@ static void refused_everywhere(struct bytes source, uint32_t number, uint32_t pl
     check(answered(number, place), what);
     do_step(source, 2, source, fill(1), fill(2));
     check(answered(number, place), what);
+    for (s = 2; s <= 4; s++) {
+        hold_levels(source, s, source.len);
+        check(number == 7 ? answer[0] != 7 : answered(number, place), what);
+        hold_levels(source, s, source.len + 1); /* also fails 23, which comes later */
+        check(number == 7 ? answer[0] != 0 && answer[0] != 7 : answered(number, place), what);
+    }
 }
 
 static void test_capacities(void)
@@ -865,6 +1277,10 @@ static void test_capacities(void)
             check(answered(1, 0), "aqfp_run");
             do_step(source[j], bad[k], worked_out, fill(2), fill(16));
             check(answered(1, 0), "aqfp_step");
+            do_levels(source[j], bad[k], fill(source[j].len));
+            check(answered(1, 0), "aqfp_levels");
+            do_levels(source[j], bad[k], fill(source[j].len + 1));
+            check(answered(1, 0), "aqfp_levels, before 23");
         }
     end();
 }
@@ -1486,6 +1902,8 @@ static void test_random_bytes(void)
         check(within(0, 7) || within(11, 19), "aqfp_run gives 0 to 7 or 11 to 19");
         do_step(source, capacity, mapped, fill(rows), fill(state));
         check(within(0, 7) || within(11, 19), "aqfp_step gives 0 to 7 or 11 to 19");
+        hold_levels(source, capacity, below(4) ? source.len : below(70));
+        check(within(0, 6) || within(23, 23), "aqfp_levels gives 0 to 6 or 23");
     }
     end();
 }
@@ -1671,6 +2089,36 @@ static void test_random_sources(void)
     end();
 }
 
+/* Sound sources of any levels: least levels, then all that can be done with the copy. */
+static void test_random_levels(void)
+{
+    static uint8_t copy[sizeof source_bytes];
+    unsigned long k;
+    begin("least levels of random netlists");
+    for (k = 0; k < 4000; k++) {
+        struct bytes source = random_source(), levelled = part(copy, source.len);
+        uint32_t s = 2 + below(3);
+        hold_copy(source, s, RECORD * 4000);
+        do_levels(source, s, fill(source.len));
+        memcpy(copy, levelled_area.at, source.len);
+        set_levels(source_bytes, source.len, below(4) > 0, 65535 * below(2));
+        do_levels(source, s, fill(source.len));
+        check(answered(0, 0) && memcmp(levelled_area.at, copy, source.len) == 0,
+              "other levels brought, the same copy");
+        do_levels(source, s, fill(source.len + 1 + below(20)));
+        check(answered(23, 0), "a longer area");
+        do_levels(source, s, fill(source.len - 1 - below((uint32_t)source.len)));
+        check(answered(23, 0), "a shorter area");
+        if (k % 16 != 0)
+            continue;
+        do_map(levelled, s, fill(RECORD * 4000));
+        check(answered(0, 0), "the copy is mapped");
+        memcpy(mapped_bytes, mapped_area.at, RECORD * answer[2]);
+        hold_waves(levelled, s, part(mapped_bytes, RECORD * answer[2]));
+    }
+    end();
+}
+
 /* ---- regular netlists, of any size ---- */
 
 /* A source of n records that capacity s maps to m: up to two inputs without sinks; blocks of an
@@ -1829,6 +2277,7 @@ static void hold_blocks(uint32_t n, uint32_t m, uint32_t s)
     check(source.len == RECORD * n && mapped.len == RECORD * m, "the sizes of the test's netlists");
     hold_block_map(b, source, mapped);
     hold_block_counts(b, source);
+    hold_copy(source, s, RECORD * MAX_MAPPED);
     do_verify(source, s, mapped);
     check(accepted(m - n), "the verifier accepts what the mapper writes");
     hold_waves(source, s, mapped);
@@ -1868,11 +2317,12 @@ static void test_all(void)
 {
     static void (*const tests[])(void) = {
         test_map_worked, test_shares, test_count_worked, test_count_limits, test_lists_worked,
-        test_list_limits, test_run_worked, test_run_limits, test_capacities, test_source_lengths,
+        test_list_limits, test_levels_worked, test_levels_heights, test_levels_limits,
+        test_run_worked, test_run_limits, test_capacities, test_source_lengths,
         test_source_records, test_source_order, test_map_sizes, test_count_record,
         test_list_lengths, test_list_records, test_mapped_length, test_mapped_records,
         test_mapped_nets, test_mapped_accepted, test_rows, test_random_bytes, test_random_sources,
-        test_array_sizes
+        test_random_levels, test_array_sizes
     };
     size_t k;
     for (k = 0; k < sizeof tests / sizeof tests[0]; k++) {
@@ -1888,7 +2338,8 @@ int main(void)
         "null pointers for empty areas"
     };
     struct area *const areas[] = { &source_area, &mapped_area, &rows_area, &state_area,
-                                   &outputs_area, &answer_area, &records_area, &counts_area };
+                                   &outputs_area, &answer_area, &records_area, &counts_area,
+                                   &levelled_area };
     size_t k;
     setvbuf(stdout, NULL, _IOLBF, 0);
     for (k = 0; k < sizeof areas / sizeof areas[0]; k++)
