@@ -26,6 +26,8 @@ const BLOCK_VIEW: u8 = 8;
 
 const COUNT_NETS: u8 = 9;
 
+const LEVELS: u8 = 10;
+
 // An answer of two numbers, in bytes.
 const PAIR: usize = 8;
 
@@ -150,6 +152,23 @@ fn count_nets_agrees(file: &[u8], at: usize, area: &mut [u8]) -> bool {
         &mut area[0..n],
         &mut got,
     );
+    if is_two(got, cases::field(file, answer)) {
+        check::same(&area[0..n], cases::field(file, after))
+    } else {
+        false
+    }
+}
+
+// A case of the least levels: source, numbers (capacity), area before; answer, area after.
+fn levels_agrees(file: &[u8], at: usize, area: &mut [u8]) -> bool {
+    let numbers = cases::skip(file, at);
+    let before = cases::skip(file, numbers);
+    let answer = cases::skip(file, before);
+    let after = cases::skip(file, answer);
+    let mut got = [0u8; 8];
+    let n = cases::copy(cases::field(file, before), area);
+    let capacity = cases::number(cases::field(file, numbers), 0);
+    aqfp::aqfp_levels(cases::field(file, at), capacity, &mut area[0..n], &mut got);
     if is_two(got, cases::field(file, answer)) {
         check::same(&area[0..n], cases::field(file, after))
     } else {
@@ -299,6 +318,7 @@ fn agrees(family: u8, file: &[u8], at: usize) -> bool {
         VERIFIER => verifier_agrees(file, at),
         EVALUATE => evaluate_agrees(file, at, &mut area),
         COUNT_NETS => count_nets_agrees(file, at, &mut area),
+        LEVELS => levels_agrees(file, at, &mut area),
         STEP => step_agrees(file, at, &mut area),
         RUN => run_agrees(file, at, &mut area, &mut outputs),
         BLOCK_VIEW => block_view_agrees(file, at),
@@ -414,6 +434,7 @@ fn main() {
     test_family(b"record_view", RECORD_VIEW, 4);
     test_family(b"count", COUNT, 3);
     test_family(b"count_nets", COUNT_NETS, 6);
+    test_family(b"levels", LEVELS, 5);
     test_family(b"verifier", VERIFIER, 4);
     test_family(b"evaluate", EVALUATE, 5);
     test_family(b"step", STEP, 7);

@@ -80,6 +80,32 @@ pub fn wide_majorities(size: usize, s: usize) -> Vec<Record> {
     records
 }
 
+/// One input that so many slots name: of majorities, and of at most two outputs.
+pub fn sinks(number: usize) -> Vec<Record> {
+    let mut records = inputs(1);
+    records.resize(1 + number / 3, Record::new(MAJ, 0, 0, &[0; SLOTS]));
+    records.resize(1 + number / 3 + number % 3, Record::new(OUTPUT, 0, 0, &[0]));
+    records
+}
+
+/// A chain of majorities that name the one before in all slots, three levels apart with capacity 2
+/// and two with others. An output may stand before it, on an input of its own, and one after it.
+pub fn climb(gates: usize, before: bool, after: bool) -> Vec<Record> {
+    let mut records = inputs(1);
+    if before {
+        records.push(Record::new(OUTPUT, 0, 0, &[0]));
+        records.extend(inputs(1));
+    }
+    for _ in 0..gates {
+        let last = records.len() as u16 - 1;
+        records.push(Record::new(MAJ, last as u8 % 8, 0, &[last; SLOTS]));
+    }
+    if after {
+        records.push(Record::new(OUTPUT, 0, 0, &[records.len() as u16 - 1]));
+    }
+    records
+}
+
 /// Pairs of an input and an output at a level, each a chain of buffers.
 pub fn lines(pairs: usize, level: u16) -> Vec<Record> {
     let mut records = inputs(pairs);

@@ -43,7 +43,7 @@ struct Family {
     by_chance: fn(&mut Random) -> Case,
 }
 
-const FAMILIES: [Family; 10] = [
+const FAMILIES: [Family; 11] = [
     Family {
         name: "reader",
         numbers: &[0, 2, 4, 5, 6, 7],
@@ -99,6 +99,13 @@ const FAMILIES: [Family; 10] = [
         refused: 15,
         worked: worked_step,
         by_chance: |random| chance_case(random, Name::Step),
+    },
+    Family {
+        name: "levels",
+        numbers: &[0, 1, 2, 4, 5, 6, 22, 23],
+        refused: 10,
+        worked: worked_levels,
+        by_chance: |random| chance_case(random, Name::Levels),
     },
     Family {
         name: "record_view",
@@ -494,6 +501,44 @@ fn worked_step() -> Vec<Case> {
     let empty = Call { areas: vec![Vec::new()], ..bare(Name::Step, &[], 2) };
     cases.push(call_case(&empty));
     cases
+}
+
+/// The worked case, with levels brought that are not looked at; areas of other lengths; nets of s to
+/// the power h sinks, and of one more; outputs before and after a chain; chains to the highest level
+/// and beyond, which are long, so that their areas are short where the call is refused.
+fn worked_levels() -> Vec<Case> {
+    let on = |source: &[Record], s: u32, len: usize| Call {
+        areas: vec![vec![FILL; len]],
+        ..bare(Name::Levels, source, s)
+    };
+    let fitting = |source: &[Record], s: u32| on(source, s, WIDTH * source.len());
+    let worked = shapes::worked();
+    let mut calls: Vec<Call> = [0, 1, 2, 3, 4, 5, 258].map(|s| fitting(&worked, s)).into();
+    calls.extend([0, 1, 40, 49, 51, 60, 100].map(|len| on(&worked, 2, len)));
+    calls.extend([0, 1, 10].map(|len| on(&[], 3, len)));
+    for level in [0, 1, 4095, 4096, 65_535] {
+        let brought = |record: &Record| Record { level, ..*record };
+        calls.push(fitting(&worked.iter().map(brought).collect::<Vec<_>>(), 2));
+    }
+    for s in 2..=4 {
+        for power in [1, 2, 3, 4, 8, 9, 16, 27] {
+            calls.push(fitting(&shapes::sinks(power), s));
+            calls.push(fitting(&shapes::sinks(power + 1), s));
+        }
+        let twice = [Record::new(INPUT, 0, 7, &[]), Record::new(OR, 2, 7, &[0, 0])];
+        calls.push(fitting(&twice, s));
+        calls.push(fitting(&shapes::lines(3, 9), s));
+        calls.push(fitting(&shapes::climb(12, true, true), s));
+        calls.push(fitting(&shapes::climb(12, true, false), s));
+    }
+    // Levels of two bytes; the highest level, and above it: the last gate, the last output, and an
+    // output before the chain.
+    calls.push(fitting(&shapes::climb(100, true, true), 2));
+    calls.push(fitting(&shapes::climb(1365, false, false), 2));
+    calls.push(on(&shapes::climb(1366, false, false), 2, 0));
+    calls.push(on(&shapes::climb(1365, false, true), 2, WIDTH));
+    calls.push(on(&shapes::climb(1365, true, true), 2, 7));
+    calls.iter().map(call_case).collect()
 }
 
 fn size(case: &Case) -> usize {
