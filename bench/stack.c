@@ -19,7 +19,7 @@ enum { INPUT = 0, MAJORITY = 3, OUTPUT = 4, BUFFER = 5 };
 
 static uint8_t source[WIDTH * SOURCE_LIMIT], mapped[WIDTH * MAPPED_LIMIT];
 static uint8_t state[2 * MAPPED_LIMIT], rows[SOURCE_LIMIT], values[SOURCE_LIMIT], outputs[SOURCE_LIMIT];
-static uint8_t list[2 * LISTED], counts[4 * LISTED];
+static uint8_t list[2 * LISTED], counts[4 * LISTED], levelled[WIDTH * SOURCE_LIMIT];
 static uint8_t answer[28];
 static size_t records, mapped_records, inputs, output_count;
 
@@ -78,6 +78,9 @@ static uint32_t count_nets(void) {
     }
     return aqfp_count_nets(source, WIDTH * records, 2, list, sizeof list, counts, sizeof counts, answer);
 }
+static uint32_t levels(void) {
+    return aqfp_levels(source, WIDTH * records, 2, levelled, WIDTH * records, answer);
+}
 static uint32_t verify(void) {
     return aqfp_verify(source, WIDTH * records, 2, mapped, WIDTH * mapped_records, answer);
 }
@@ -133,6 +136,7 @@ int main(void) {
     row("aqfp_map", map, "12,285 sinks");
     row("aqfp_count", count, "12,285 sinks");
     row("aqfp_count_nets", count_nets, "12,285 sinks");
+    row("aqfp_levels", levels, "12,285 sinks");
     row("aqfp_evaluate", evaluate, "12,285 sinks");
     const size_t pairs[] = {1, 14};
     for (int i = 0; i < 2; i++) {

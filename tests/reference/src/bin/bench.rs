@@ -2,12 +2,12 @@
 //!
 //! Four tables: for each call, shape and size the median time of both and the median of the samples'
 //! ratios; then how our time grows from N = 512 to N = 4,096, the two sizes in turns as well, since
-//! the machine's own speed drifts; then the mapper's time on sources that it refuses, in turns with
-//! the accepted one on which it took longest; then the time of lists of counts in turns with the
-//! mapper's on the same sources. Both answers are compared before a row is timed. Areas that a call
-//! writes are touched once before and not cleared between calls. A row of layered netlists goes round
-//! as many of them as have 65,536 records together, so that no size is timed on inputs that the
-//! processor has learnt by heart.
+//! the machine's own speed drifts; then the time of the mapper and of least levels on sources that
+//! they refuse, in turns with the accepted one on which the call took longest; then the time of lists
+//! of counts in turns with the mapper's on the same sources. Both answers are compared before a row
+//! is timed. Areas that a call writes are touched once before and not cleared between calls. A row of
+//! layered netlists goes round as many of them as have 65,536 records together, so that no size is
+//! timed on inputs that the processor has learnt by heart.
 
 use std::hint::black_box;
 use std::time::{Duration, Instant};
@@ -245,9 +245,17 @@ fn print_growth(small: &[Subject], large: &[Subject], name: Name) {
     println!("| {} | {} | {second:.2} | {first:.2} | {ratio:.2} |", name.words(), small[0].shape);
 }
 
+/// Prints a row of the first table and keeps the subjects if it is the slowest so far.
+fn print_and_keep<'a>(slowest: &mut (f64, &'a [Subject]), subjects: &'a [Subject], name: Name) {
+    let time = print_row(subjects, name);
+    if time > slowest.0 {
+        *slowest = (time, subjects);
+    }
+}
+
 /// One row of the third table: our time on a source that is refused over that on an accepted one.
-fn print_refused(refused: &Subject, accepted: &[Subject]) {
-    let (mut few, mut others) = (vec![refused.call(Name::Map)], calls_of(accepted, Name::Map));
+fn print_refused(refused: &Subject, accepted: &[Subject], name: Name) {
+    let (mut few, mut others) = (vec![refused.call(name)], calls_of(accepted, name));
     let number = compare(&few[0], refused.shape)[0];
     let (rounds, more) =
         (rounds_in_a_sample(&LINKED, &mut few), rounds_in_a_sample(&LINKED, &mut others));
@@ -255,8 +263,8 @@ fn print_refused(refused: &Subject, accepted: &[Subject]) {
         Side::First => time_of(&LINKED, &mut few, rounds),
         Side::Second => time_of(&LINKED, &mut others, more),
     });
-    let (n, shape) = (refused.n(), refused.shape);
-    println!("| map | {shape} | {n} | {number} | {first:.2} | {second:.2} | {ratio:.2} |");
+    let (label, n, shape) = (name.words(), refused.n(), refused.shape);
+    println!("| {label} | {shape} | {n} | {number} | {first:.2} | {second:.2} | {ratio:.2} |");
 }
 
 /// The counts of the longest list, all of whose indices are the same.
@@ -294,6 +302,14 @@ fn refused_shapes() -> [Subject; 4] {
     ]
 }
 
+/// Chains whose least levels are above 4,095 from record 1,366 on: refused by 22.
+fn long_chains() -> [[Subject; 1]; 2] {
+    [MAX_SOURCE / 2, MAX_SOURCE].map(|size| {
+        let chain = shapes::climb(size - 1, false, false);
+        [Subject::new("long chain, refused by 22", &chain, 0)]
+    })
+}
+
 /// A layered netlist, whose widest net is counted.
 fn layered(seed: u64, size: usize) -> Subject {
     let records = shapes::layered(&mut Random::of(SEED, seed), size, S);
@@ -323,14 +339,11 @@ fn main() {
     println!("| call | shape | N | M | ours, us | reference, us | ratio |");
     println!("|---|---|---|---|---|---|---|");
     let all: Vec<[Vec<Subject>; 3]> = SIZES.iter().map(|&size| shapes_of(size)).collect();
-    // the accepted source on which the mapper takes longest
+    // the accepted sources on which the mapper and least levels take longest
     let mut slowest: (f64, &[Subject]) = (0.0, &[]);
-    let mut map = |subjects| {
-        let time = print_row(subjects, Name::Map);
-        if time > slowest.0 {
-            slowest = (time, subjects);
-        }
-    };
+    let mut slowest_levels = slowest;
+    let mut map = |subjects| print_and_keep(&mut slowest, subjects, Name::Map);
+    let mut levels = |subjects| print_and_keep(&mut slowest_levels, subjects, Name::Levels);
     for shape in 0..3 {
         for shapes in &all {
             map(&shapes[shape]);
@@ -341,6 +354,11 @@ fn main() {
             for shapes in &all {
                 print_row(&shapes[shape], name);
             }
+        }
+    }
+    for shape in 0..3 {
+        for shapes in &all {
+            levels(&shapes[shape]);
         }
     }
     for [_, _, layered] in &all {
@@ -359,6 +377,7 @@ fn main() {
     map(&majorities);
     print_row(&majorities, Name::Count);
     print_row(&majorities, Name::CountNets);
+    levels(&majorities);
     let wide = shapes::wide(MAX_SOURCE, S);
     let shared = shapes::raised(&wide, usize::from(MAX_LEVEL - depth(&wide)));
     let shared = [Subject::new("wide, one long chain below", &shared, 0)];
@@ -366,12 +385,16 @@ fn main() {
     print_row(&shared, Name::Verify);
     let refused = [Subject::new("refused by 9", &shapes::lines(2048, MAX_LEVEL), 0)];
     print_row(&refused, Name::Map);
+    let long_chains = long_chains();
+    for chain in &long_chains {
+        print_row(chain, Name::Levels);
+    }
 
     println!();
     println!("| call | shape | N = 512, us | N = 4096, us | growth |");
     println!("|---|---|---|---|---|");
     let (small, large) = (&all[0], &all[SIZES.len() - 1]);
-    for name in [Name::Map, Name::Verify, Name::Count, Name::CountNets] {
+    for name in [Name::Map, Name::Verify, Name::Count, Name::CountNets, Name::Levels] {
         for (small, large) in small.iter().zip(large) {
             print_growth(small, large, name);
         }
@@ -382,7 +405,10 @@ fn main() {
     println!("| call | refused | N | number | ours, us | slowest accepted, us | ratio |");
     println!("|---|---|---|---|---|---|---|");
     for refused in &refused_shapes() {
-        print_refused(refused, slowest.1);
+        print_refused(refused, slowest.1, Name::Map);
+    }
+    for [refused] in &long_chains {
+        print_refused(refused, slowest_levels.1, Name::Levels);
     }
 
     println!();
