@@ -11,6 +11,7 @@ use Rattle.facts.specs.declared.Checked.the-variants.{Passed, Refused}
 use Rattle.facts.specs.Checks.{_andThen_, scan}
 use Rattle.facts.specs.Sums.{any, seek}
 use Rattle.facts.proofs.Sums.{any-some}
+use Rattle.facts.proofs.Reflect.{then-assoc}
 
 -- a turn of a loop from k to n takes one number off the front of what is left
 turn : (n k : ℕ) → k < n → n - k ≡ suc (n - (k + 1))
@@ -148,11 +149,9 @@ module _ (f : ℕ → Checked) where
   scan-split : (i a b : ℕ) → scan f i (a + b) ≡ (scan f i a andThen scan f (i + a) b)
   unfolding scan
   scan-split i zero b = rw (add-zero i, zero-add b)
-  scan-split i (suc a) b = rw (suc-add a b, add-suc i a, ← suc-add i a, scan-split (suc i) a b) (go (f i))
-    where
-      go : (c : Checked) → (c andThen (scan f (suc i) a andThen scan f (suc i + a) b)) ≡ ((c andThen scan f (suc i) a) andThen scan f (suc i + a) b)
-      go Passed = refl
-      go (Refused number place) = refl
+  scan-split i (suc a) b =
+      rw (suc-add a b, add-suc i a, ← suc-add i a, scan-split (suc i) a b)
+      (sym (then-assoc (f i) (scan f (suc i) a) (scan f (suc i + a) b)))
 
   -- one place more
   pub scan-last : (k : ℕ) → scan f 0 (k + 1) ≡ (scan f 0 k andThen f k)

@@ -2,6 +2,7 @@
 use Prim.Native.Nat.{ℕ, zero, suc, _+_, _≤_, _<_}
 use mathlib.Core.Path.{_≡_, refl}
 use mathlib.Core.Bool.{Bool, true, false, cond, not, _&&_, _||_}
+use mathlib.Core.List.{List}
 use lib.Dec.{ltb, leb, eqb}
 use borrow.Author.Tests.{ltb-true, ltb-false, leb-true, leb-false, eqb-true, eqb-false, lt-ltb, le-ltb, le-leb, lt-leb, eq-eqb, ne-eqb, not-true, not-false}
 use native.Mathlib.Omega.{arith}
@@ -9,7 +10,7 @@ use native.Mathlib.Decide.{ℕ-discrete}
 use mathlib.Core.Logic.{_⊎_, inl, inr, ⊎-elim, _≢_, _↔_}
 use Rattle.facts.specs.declared.Checked.{Checked}
 use Rattle.facts.specs.declared.Checked.the-variants.{Passed, Refused}
-use Rattle.facts.specs.Checks.{check, _andThen_, scan}
+use Rattle.facts.specs.Checks.{check, _andThen_, unlessRefused, scan}
 use Rattle.facts.proofs.Sums.{any-none, any-some}
 use Rattle.facts.proofs.Bools.{true-false}
 
@@ -20,6 +21,11 @@ check-passed number place false = (λ e. refl, λ e. refl)
 pub then-passed : (a b : Checked) → ((a andThen b) ≡ Passed) ↔ ((a ≡ Passed) × (b ≡ Passed))
 then-passed Passed b = (λ e. (refl, e), λ e. e .1)
 then-passed (Refused number place) b = (λ e. (e, cc), λ e. e .0)
+
+-- checks in order, in either grouping
+pub then-assoc : (a b c : Checked) → ((a andThen b) andThen c) ≡ (a andThen (b andThen c))
+then-assoc Passed b c = refl
+then-assoc (Refused number place) b c = refl
 
 pub or-none : (a b : Bool) → ((a || b) ≡ false) ↔ ((a ≡ false) × (b ≡ false))
 or-none true b = (λ e. (e, cc), λ e. e .0)
@@ -160,6 +166,14 @@ module _ (a x y : Checked) (e : a ≡ x) where
 
   pub then-go : (b : Checked) → a ≡ Passed → b ≡ y → b ≡ (x andThen y)
   then-go b h q = rw (← e, h) q
+
+  -- and what it leaves in an area
+  module _ (new area : List ℕ) where
+    pub stop-kept : (number place : ℕ) → a ≡ Refused number place → area ≡ unlessRefused (x andThen y) new area
+    stop-kept number place h = rw (← e, h)
+
+    pub go-written : (after : List ℕ) → a ≡ Passed → after ≡ unlessRefused y new area → after ≡ unlessRefused (x andThen y) new area
+    go-written after h q = rw (← e, h) q
 
 module _ (b c : Bool) (e : b ≡ c) (number place : ℕ) (y : Checked) where
   pub check-stop : b ≡ true → Refused number place ≡ (check number place c andThen y)

@@ -11,7 +11,8 @@ use Rattle.facts.specs.Checks.{check, _andThen_, scan}
 use Rattle.facts.specs.Refusals.{rowOf, Earlier, Conditions, Fails, _or_, Each, Clear, FirstAt, First, Exact}
 use Rattle.facts.proofs.Bools.{true-false}
 
-passed-refused : (n p : ℕ) → Passed ≡ Refused n p → ⊥
+-- an answer is not both
+pub passed-refused : (n p : ℕ) → Passed ≡ Refused n p → ⊥
 passed-refused n p e = let z : _≡_ {A = ℕ} 0 1 = cc in omega arith
 
 abbrev Compared : ℕ → ℕ → Type 0

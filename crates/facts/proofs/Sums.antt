@@ -436,3 +436,13 @@ pub largest-cong : (f g : ℕ → ℕ) (n : ℕ) → ((i : ℕ) → i < n → f 
 unfolding largest
 largest-cong f g zero h = refl
 largest-cong f g (suc n) h = cc (largest-cong f g n (λ i l. h i (omega arith)), h n (omega arith))
+
+-- zeros at the end
+pub largest-used : (f : ℕ → ℕ) (a w : ℕ) → a ≤ w → ((i : ℕ) → a ≤ i → i < w → f i ≡ 0) → largest f w ≡ largest f a
+unfolding largest
+largest-used f a zero l h = let e : a ≡ 0 = omega arith in rw e refl
+largest-used f a (suc w) l h =
+    elim (decLt w a) [
+      | yes b ↦ (let e : a ≡ suc w = omega arith in rw e refl)
+      | no g ↦ omega (arith, largest-used f a w (omega arith) (λ i m n. h i m (omega arith)), h w (omega arith) (omega arith))
+    ]

@@ -3,7 +3,7 @@ use Prim.Native.Nat.{ℕ, zero, suc, _+_, _*_, _-_, _^_, _≤_, _<_}
 use native.Mathlib.Nat.{mul-assoc, mul-comm, mul-one, mul-suc, pow-zero, pow-suc}
 use native.Mathlib.Omega.{arith}
 use mathlib.Core.Path.{_≡_, refl, sym, ap, subst, _∙_}
-use mathlib.Core.Bool.{_&&_}
+use mathlib.Core.Bool.{true, _&&_}
 use mathlib.Core.List.{List, [], _∷_}
 use lib.ListN.{length, getD, drop}
 use lib.Dec.{eqb}
@@ -11,10 +11,11 @@ use borrow.Author.Tests.{le-leb, eqb-true}
 use Rattle.facts.specs.Sums.{sum, count}
 use Rattle.facts.proofs.Bools.{and-l, and-r}
 use Rattle.facts.proofs.Sums.{sum-cong, sum-first, values-le, count-none}
-use Rattle.fanout.specs.Nets.{up, nodes, nodesAt}
+use Rattle.fanout.specs.Nets.{up, nodes, hasTree}
 use Rattle.fanout.specs.Trees.{Net, RowOf, sinksAt}
 use Rattle.fanout.specs.Promises.{FarTree}
 use Rattle.fanout.proofs.Nets.{up-le}
+use Rattle.fanout.proofs.Promises.{tree-exactly}
 
 module _ (s : ℕ) (pos : 0 < s) where
   times : (n : ℕ) → n ≤ s * n
@@ -53,10 +54,13 @@ module _ (s : ℕ) (pos : 0 < s) where
           ∙ sym (mul-assoc b s (s ^ h))
           ∙ ap (λ (p : ℕ). p * s ^ h) (mul-comm b s)
 
-pub far-tree : FarTree
+-- so at most 1 is left at distance 1
+far-left :
+    (c s h : ℕ) (net : Net) (r : List ℕ) → 0 < c → 0 < s → RowOf net r → count (net .sink) (net .places) ≤ s ^ h →
+    ((x : ℕ) → x < net .places → net .sink x ≡ true → h < net .distance x) → hasTree c s r ≡ true
 unfolding sinksAt nodes
-far-tree c s h net [] some pos row few far = le-leb 0 c (omega arith)
-far-tree c s h net (here ∷ further) some pos row few far =
+far-left c s h net [] some pos row few far = le-leb 0 c (omega arith)
+far-left c s h net (here ∷ further) some pos row few far =
     le-leb (nodes s further) c
     (omega (arith, nodes-far s pos h 1 further (λ x l. none (suc x) (omega arith)) (omega (arith, total, times s pos (s ^ h)))))
   where
@@ -75,3 +79,6 @@ far-tree c s h net (here ∷ further) some pos row few far =
           sum-cong (λ x. getD (here ∷ further) x 0) (sinksAt net) (suc (length further)) (λ x l. row .entry x),
           sum-first (λ x. getD (here ∷ further) x 0) (length further),
         )
+
+pub far-tree : FarTree
+far-tree c s h net r some pos row few far = tree-exactly c s net r pos row .1 (far-left c s h net r some pos row few far)

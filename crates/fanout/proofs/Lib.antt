@@ -1,9 +1,9 @@
 pub mod Nets
 pub mod Rows
-pub mod Far
 pub mod Least
 pub mod Built
 pub mod Promises
+pub mod Far
 pub mod Worked
 pub mod Call
 pub mod Filling

@@ -29,13 +29,13 @@ TreeExactly =
     (c s : ℕ) (net : Net) (r : List ℕ) → 0 < s → RowOf net r →
     ((t : Tree) × Legal c s net t) ↔ (hasTree c s r ≡ true)
 
--- and at most 1 is left where the sinks, no more than s to the power h, all stand at distance 1 + h or more
+-- one exists where the sinks, at most s to the power h of them, all stand at distance 1 + h or more
 abbrev pub FarTree : Type 0
 FarTree =
     (c s h : ℕ) (net : Net) (r : List ℕ) → 0 < c → 0 < s → RowOf net r →
     count (net .sink) (net .places) ≤ s ^ h →
     ((x : ℕ) → x < net .places → net .sink x ≡ true → h < net .distance x) →
-    hasTree c s r ≡ true
+    (t : Tree) × Legal c s net t
 
 -- every legal tree has at least the counted buffers at each distance
 abbrev pub LeastAtEach : Type 0

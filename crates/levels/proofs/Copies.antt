@@ -15,22 +15,22 @@ use Rattle.facts.proofs.Loops.{seek-within, seek-true, seek-before}
 use Rattle.facts.proofs.Sums.{count₂-flat, count₂-cong}
 use Rattle.netlist.specs.declared.Record.{Record}
 use Rattle.netlist.specs.Kinds.{width, slots, topLevel, output, arity}
-use Rattle.netlist.specs.Records.{Netlist, netlist, recordCount, recordAt, used, fanin, names, feeds, isOutput, depth}
+use Rattle.netlist.specs.Records.{Netlist, netlist, recordCount, recordAt, slot, used, fanin, names, feeds, isOutput, depth}
 use Rattle.netlist.specs.Bytes.{withLevels}
-use Rattle.netlist.specs.Source.{IsSource, Source}
+use Rattle.netlist.specs.Source.{IsSource, Source, Unlevelled}
 use Rattle.netlist.proofs.Levels.{length-levels, levels-other, record-levelled}
-use Rattle.fanout.specs.Nets.{row, hasTree}
-use Rattle.fanout.specs.Trees.{netOf}
+use Rattle.fanout.specs.Nets.{row}
+use Rattle.fanout.specs.Trees.{Tree, Legal, netOf}
 use Rattle.fanout.proofs.Rows.{row-of-net}
 use Rattle.fanout.proofs.Far.{far-tree}
-use Rattle.levels.specs.Rules.{Unlevelled, KeepsRules}
+use Rattle.levels.specs.Rules.{KeepsRules}
 use Rattle.levels.specs.Levels.{height, leastLevel, levelled}
 use Rattle.levels.specs.Promises.{LeastOf, LevelledCopy}
 use Rattle.levels.proofs.Heights.{height-exact}
 use Rattle.levels.proofs.Lowest.{levels-least}
 
--- a source whose levels keep the rules has a tree for every net
-pub rules-tree : (c s d : ℕ) (m : Netlist) → 0 < c → 2 ≤ s → IsSource m → KeepsRules s m (λ k. m .at k .level) → hasTree c s (row m d) ≡ true
+-- a source whose levels keep the rules has a legal tree for every net
+rules-tree : (c s d : ℕ) (m : Netlist) → 0 < c → 2 ≤ s → IsSource m → KeepsRules s m (λ k. m .at k .level) → (t : Tree) × Legal c s (netOf m d) t
 unfolding feeds
 rules-tree c s d m some two source keeps =
     far-tree c s (height s (feeds m d)) (netOf m d) (row m d) some (omega arith) (row-of-net m d source)
@@ -50,7 +50,7 @@ module _ (source : List ℕ) (s : ℕ) (u : Unlevelled source s)
   level = leastLevel s (netlist source)
 
   abbrev copy : List ℕ
-  copy = levelled source s
+  copy = levelled level source
 
   room : width * recordCount source ≤ length source
   room = omega arith
@@ -73,7 +73,7 @@ module _ (source : List ℕ) (s : ℕ) (u : Unlevelled source s)
     level-is = ap (λ (r : Record). r .level) is
 
     fanin-is : (j : ℕ) → fanin (netlist copy) k j ≡ fanin (netlist source) k j
-    fanin-is j = ap (λ (r : Record). getD (r .slots) j 65535) is
+    fanin-is j = ap (λ (r : Record). slot r j) is
 
   -- so the records are named as before, and have as many sinks
   feeds-are : (d : ℕ) → feeds (netlist copy) d ≡ feeds (netlist source) d
@@ -94,7 +94,7 @@ module _ (source : List ℕ) (s : ℕ) (u : Unlevelled source s)
               inputs = λ k l e. level-is k l ∙ rules .inputs k l e;
               outputs = λ k i l h e f. level-is k l ∙ rules .outputs k i l h e f ∙ sym (level-is i h);
               sinks = λ k j h l v x.
-                  let f = u .bytes .structured .earlier k j l v in
+                  let f = u .source .structured .earlier k j l v in
                   omega (arith, level-is k l, level-is (fanin (netlist source) k j) (omega arith), rules .sinks k j h l v x);
             };
         least = λ other o k l. omega (arith, level-is k l, all .least other o k l);
@@ -138,9 +138,9 @@ module _ (source : List ℕ) (s : ℕ) (u : Unlevelled source s)
 
   copy-source : Source copy
   copy-source =
-      let m = u .bytes .structured in
+      let m = u .source .structured in
       record {
-        whole = ap (λ (n : ℕ). n % width) long ∙ u .bytes .whole;
+        whole = ap (λ (n : ℕ). n % width) long ∙ u .source .whole;
         isSource =
             record {
               few = omega (arith, size, m .few);

@@ -2,5 +2,7 @@ pub mod Heights
 pub mod Lowest
 pub mod Copies
 pub mod Promises
-pub mod Sinks
-pub mod Raising
+pub mod SinkCounts
+pub mod FaninLevels
+pub mod LevelBytes
+pub mod Answering

@@ -1,18 +1,17 @@
 -- The least levels keep the rules, and no assignment that keeps them is lower at any record.
-use Prim.Native.Nat.{ℕ, zero, suc, _+_, _*_, _≤_, _<_}
+use Prim.Native.Nat.{ℕ, zero, suc, _+_, _≤_, _<_}
 use native.Mathlib.Decide.{decLt}
-use native.Mathlib.Nat.{mul-le-mul-left, mul-suc}
 use native.Mathlib.Omega.{arith}
 use mathlib.Core.Path.{_≡_, refl, sym, ap, subst, _∙_}
 use mathlib.Core.Bool.{Bool, true, false, cond}
 use mathlib.Core.List.{List, [], _∷_, _++_}
 use lib.ListN.{length, getD, length-append, List·getD-append}
 use lib.Seq.{getD-at}
-use borrow.Author.Tests.{eq-eqb, ne-eqb, eqb-true}
-use Rattle.facts.specs.Sums.{largest}
-use Rattle.facts.proofs.Sums.{count₂-le, le-largest, largest-le, largest-cong}
-use Rattle.netlist.specs.Kinds.{slots, input, output, arity}
-use Rattle.netlist.specs.Records.{Netlist, netlist, fanin, names, feeds, isOutput}
+use borrow.Author.Tests.{ltb-true, eq-eqb, ne-eqb, eqb-true}
+use Rattle.facts.specs.Sums.{sum, largest}
+use Rattle.facts.proofs.Sums.{sum-add, sum-const, sum-more, count₂-le, fibres, le-largest, largest-le, largest-cong}
+use Rattle.netlist.specs.Kinds.{slots, sourceLimit, input, output, arity}
+use Rattle.netlist.specs.Records.{Netlist, netlist, used, fanin, names, feeds, isOutput}
 use Rattle.netlist.specs.Source.{Structured}
 use Rattle.fanout.specs.Nets.{sinkLimit}
 use Rattle.levels.specs.Rules.{Height, KeepsRules}
@@ -21,26 +20,33 @@ use Rattle.levels.specs.Promises.{LeastOf, LevelsLeast}
 use Rattle.levels.proofs.Heights.{height-small, height-exact}
 
 module _ (s : ℕ) (m : Netlist) where
+  abbrev own : ℕ → ℕ
+  own k = overFanins s m (λ d. getD (lowestBelow s m k) d 0) k
+
   length-lowest : (n : ℕ) → length (lowestBelow s m n) ≡ n
-  unfolding lowestBelow lowest
+  unfolding lowestBelow
   length-lowest zero = refl
-  length-lowest (suc n) = omega (arith, length-append (lowestBelow s m n) (lowest s m n ∷ []), length-lowest n)
+  length-lowest (suc n) = omega (arith, length-append (lowestBelow s m n) (own n ∷ []), length-lowest n)
+
+  lowest-own : (k : ℕ) → lowest s m k ≡ own k
+  unfolding lowestBelow lowest
+  lowest-own k = getD-at (lowestBelow s m k) (own k) [] 0 k (length-lowest k)
 
   lowest-at : (n d : ℕ) → d < n → getD (lowestBelow s m n) d 0 ≡ lowest s m d
-  unfolding lowestBelow lowest
+  unfolding lowestBelow
   lowest-at zero d l = absurd (omega arith)
   lowest-at (suc n) d l =
       elim (decLt d n) [
-        | yes b ↦ List·getD-append (lowestBelow s m n) _ 0 d (omega (arith, length-lowest n)) ∙ lowest-at n d b
-        | no g ↦ (let e : d ≡ n = omega arith in rw e (getD-at (lowestBelow s m n) _ [] 0 n (length-lowest n)))
+        | yes b ↦ List·getD-append (lowestBelow s m n) (own n ∷ []) 0 d (omega (arith, length-lowest n)) ∙ lowest-at n d b
+        | no g ↦ (let e : d ≡ n = omega arith in rw e (getD-at (lowestBelow s m n) (own n) [] 0 n (length-lowest n) ∙ sym (lowest-own n)))
       ]
 
   module _ (structured : Structured m) where
     -- how low a record may stand, by how low its fanins do
     pub lowest-over : (k : ℕ) → k < m .size → lowest s m k ≡ overFanins s m (lowest s m) k
-    unfolding lowest
     lowest-over k l =
-        largest-cong _ _ (arity (m .at k .kind))
+        lowest-own k
+        ∙ largest-cong _ _ (arity (m .at k .kind))
         (λ j u. ap (λ (x : ℕ). x + suc (height s (feeds m (fanin m k j)))) (lowest-at k (fanin m k j) (structured .earlier k j l u)))
 
     -- a driver's sinks are few
@@ -48,23 +54,45 @@ module _ (s : ℕ) (m : Netlist) where
     unfolding feeds
     sinks-few d = omega (arith, count₂-le (names m d) slots (m .size), structured .few)
 
-    -- each record adds at most so much
-    lowest-below : (n k : ℕ) → k < n → k < m .size → lowest s m k ≤ suc sinkLimit * k
+    -- every slot is a sink of one driver
+    sinks-total : sum (feeds m) (m .size) ≤ sinkLimit
+    unfolding feeds
+    sinks-total =
+        omega (
+          arith,
+          fibres (used m) (fanin m) slots (m .size) (m .size)
+              (λ i j l h e. omega (arith, structured .earlier i j l (ltb-true j (arity (m .at i .kind)) e))),
+          count₂-le (used m) slots (m .size),
+          structured .few,
+        )
+
+    -- a driver and its sinks
+    abbrev weight : ℕ → ℕ
+    weight d = 1 + feeds m d
+
+    weights : sum weight (m .size) ≤ sourceLimit + sinkLimit
+    weights = omega (arith, sum-add (λ d. 1) (feeds m) (m .size), sum-const 1 (m .size), sinks-total, structured .few)
+
+    -- what stands below a record is at most the drivers before it and their sinks
+    lowest-below : (n k : ℕ) → k < n → k < m .size → lowest s m k ≤ sum weight k
+    unfolding sum
     lowest-below zero k b l = absurd (omega arith)
     lowest-below (suc n) k b l =
-        subst (λ (x : ℕ). x ≤ suc sinkLimit * k) (sym (lowest-over k l))
-        (largest-le _ (arity (m .at k .kind)) (suc sinkLimit * k)
+        subst (λ (x : ℕ). x ≤ sum weight k) (sym (lowest-over k l))
+        (largest-le _ (arity (m .at k .kind)) (sum weight k)
         (λ j u.
         let f = structured .earlier k j l u in
         omega (
           arith,
           lowest-below n (fanin m k j) (omega arith) (omega arith),
           height-small s (feeds m (fanin m k j)),
-          sinks-few (fanin m k j),
+          sum-more weight (suc (fanin m k j)) k f,
         )))
 
-    pub lowest-small : (k : ℕ) → k < m .size → lowest s m k ≤ suc sinkLimit * k
-    lowest-small k l = lowest-below (suc k) k (omega arith) l
+    pub sink-small : (k : ℕ) → k < m .size → sinkLevel s m (lowest s m) k ≤ sourceLimit + sinkLimit
+    unfolding sum
+    sink-small k l =
+        omega (arith, lowest-below (suc k) k (omega arith) l, height-small s (feeds m k), sum-more weight (suc k) (m .size) l, weights)
 
     -- a sink's least level over its driver's
     over : (k j : ℕ) → k < m .size → j < arity (m .at k .kind) → sinkLevel s m (lowest s m) (fanin m k j) ≤ lowest s m k
@@ -132,6 +160,6 @@ module _ (s : ℕ) (m : Netlist) where
 pub levels-least : LevelsLeast
 levels-least source s u =
     record {
-      keeps = least-keeps s (netlist source) (u .bytes .structured) (u .low);
-      least = least-least s (netlist source) (u .bytes .structured) (u .low);
+      keeps = least-keeps s (netlist source) (u .source .structured) (u .low);
+      least = least-least s (netlist source) (u .source .structured) (u .low);
     }

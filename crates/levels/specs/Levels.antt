@@ -33,9 +33,9 @@ unfoldable pub lowestBelow : ℕ → Netlist → ℕ → List ℕ
 lowestBelow s m zero = []
 lowestBelow s m (suc k) = lowestBelow s m k ++ (overFanins s m (λ d. getD (lowestBelow s m k) d 0) k ∷ [])
 
--- how low record k may stand over its fanins
+-- how low record k may stand
 unfoldable pub lowest : ℕ → Netlist → ℕ → ℕ
-lowest s m k = overFanins s m (λ d. getD (lowestBelow s m k) d 0) k
+lowest s m k = getD (lowestBelow s m (suc k)) k 0
 
 -- that of an output, 0 of another record
 abbrev pub outputLowest : ℕ → Netlist → ℕ → ℕ
@@ -49,26 +49,27 @@ outputLevel s m = largest (outputLowest s m) (m .size)
 abbrev pub leastLevel : ℕ → Netlist → ℕ → ℕ
 leastLevel s m k = cond (isOutput m k) (outputLevel s m) (lowest s m k)
 
--- 22 of record k: its least level is too large
-abbrev pub levelCheck : ℕ → Netlist → ℕ → Checked
-levelCheck s m k = check 22 k (ltb topLevel (leastLevel s m k))
+-- 22 of record k, which is to have a level: it is too large
+abbrev pub highCheck : (ℕ → ℕ) → ℕ → Checked
+highCheck level k = check 22 k (ltb topLevel (level k))
 
 -- 23: the area is not as long as the source
 abbrev pub lengthCheck : List ℕ → List ℕ → Checked
 lengthCheck source area = check 23 0 (not (eqb (length area) (length source)))
 
--- 22, then 23
-abbrev pub copyChecks : List ℕ → ℕ → List ℕ → Checked
-copyChecks source s area = scan (levelCheck s (netlist source)) 0 (recordCount source) andThen lengthCheck source area
+-- 22, then 23, of a source that is to have these levels
+abbrev pub copyChecks : (ℕ → ℕ) → List ℕ → List ℕ → Checked
+copyChecks level source area = scan (highCheck level) 0 (recordCount source) andThen lengthCheck source area
+
+-- the source with these levels
+abbrev pub levelled : (ℕ → ℕ) → List ℕ → List ℕ
+levelled level source = withLevels level source (recordCount source)
 
 -- 1 to 6, 22, 23
 unfoldable pub levelsAnswer : List ℕ → ℕ → List ℕ → Checked
-levelsAnswer source s area = capacityCheck s andThen (structureChecks source andThen copyChecks source s area)
-
--- the source with its least levels
-abbrev pub levelled : List ℕ → ℕ → List ℕ
-levelled source s = withLevels (leastLevel s (netlist source)) source (recordCount source)
+levelsAnswer source s area =
+    (capacityCheck s andThen structureChecks source) andThen copyChecks (leastLevel s (netlist source)) source area
 
 -- the area: the source with its least levels; a refusal leaves it
 unfoldable pub levelsArea : List ℕ → ℕ → List ℕ → List ℕ
-levelsArea source s area = unlessRefused (levelsAnswer source s area) (levelled source s) area
+levelsArea source s area = unlessRefused (levelsAnswer source s area) (levelled (leastLevel s (netlist source)) source) area

@@ -1,4 +1,5 @@
 pub mod Rules
 pub mod Levels
+pub mod PrivateSinks
 pub mod PrivateLevels
 pub mod Promises

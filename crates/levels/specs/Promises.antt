@@ -2,7 +2,6 @@
 use Prim.Native.Nat.{ℕ, suc, _%_, _≤_, _<_}
 use mathlib.Core.Path.{_≡_}
 use mathlib.Core.Logic.{_↔_, _≢_}
-use mathlib.Core.Bool.{true}
 use mathlib.Core.List.{List}
 use lib.ListN.{length, getD}
 use Rattle.facts.specs.declared.Checked.the-variants.{Passed, Refused}
@@ -10,10 +9,10 @@ use Rattle.facts.specs.Refusals.{Conditions, Fails, _or_, Each, Exact}
 use Rattle.netlist.specs.Kinds.{width, topLevel}
 use Rattle.netlist.specs.Records.{Netlist, netlist, recordCount, recordAt}
 use Rattle.netlist.specs.Bytes.{levelPlace}
-use Rattle.netlist.specs.Source.{Source}
+use Rattle.netlist.specs.Source.{Source, Unlevelled}
 use Rattle.netlist.specs.Refusals.{BadCapacity, StructuresFail}
-use Rattle.fanout.specs.Nets.{row, hasTree}
-use Rattle.levels.specs.Rules.{Unlevelled, Height, KeepsRules}
+use Rattle.fanout.specs.Trees.{Tree, Legal, netOf}
+use Rattle.levels.specs.Rules.{Height, KeepsRules}
 use Rattle.levels.specs.Levels.{height, leastLevel, levelsAnswer, levelsArea}
 
 -- the number worked out is the height, and no other is
@@ -35,15 +34,14 @@ abbrev pub TooHigh : ℕ → Netlist → ℕ → Type 0
 TooHigh s m k = (level : ℕ → ℕ) → KeepsRules s m level → topLevel < level k
 
 -- 22 of record k
-abbrev pub LevelFails : ℕ → Netlist → ℕ → Conditions
-LevelFails s m k = Fails 22 k (TooHigh s m k)
+abbrev pub HighFails : ℕ → Netlist → ℕ → Conditions
+HighFails s m k = Fails 22 k (TooHigh s m k)
 
 -- 1 to 6, 22, 23
 abbrev pub LevelsFail : List ℕ → ℕ → List ℕ → Conditions
 LevelsFail source s area =
-    Fails 1 0 (BadCapacity s)
-    or StructuresFail source
-    or Each (recordCount source) (LevelFails s (netlist source))
+    (Fails 1 0 (BadCapacity s) or StructuresFail source)
+    or Each (recordCount source) (HighFails s (netlist source))
     or Fails 23 0 (length area ≢ length source)
 
 -- each number is answered exactly where its condition is the first that holds, and a call is accepted exactly if none does
@@ -75,8 +73,8 @@ pub record LevelledCopy (source : List ℕ) (s : ℕ) (copy : List ℕ) : Type 0
   pub least : LeastOf s (netlist source) (λ k. recordAt copy k .level)
   -- none of 2 to 7 refuses it
   pub isSource : Source copy
-  -- every net of it has a tree, for every driver capacity from 1 on
-  pub trees : (c d : ℕ) → 0 < c → hasTree c s (row (netlist copy) d) ≡ true
+  -- every net of it has a legal tree, for every driver capacity from 1 on
+  pub trees : (c d : ℕ) → 0 < c → (t : Tree) × Legal c s (netOf (netlist copy) d) t
 
 -- what an accepted call leaves in the area
 abbrev pub LevelsWritten : Type 0

@@ -1,16 +1,8 @@
 -- Specification 2.7: the height of a number of sinks, and the rules that levels keep. Nothing of how levels are worked out is in it.
 use Prim.Native.Nat.{ℕ, suc, _+_, _^_, _≤_, _<_}
 use mathlib.Core.Path.{_≡_}
-use mathlib.Core.List.{List}
 use Rattle.netlist.specs.Kinds.{input, output, arity}
 use Rattle.netlist.specs.Records.{Netlist, fanin, feeds}
-use Rattle.netlist.specs.Source.{StructuredBytes}
-
--- the structure of a source, whatever its levels hold, and a capacity: what passing 1 to 6 means
-pub record Unlevelled (source : List ℕ) (s : ℕ) : Type 0 where
-  pub low : 2 ≤ s
-  pub high : s ≤ 4
-  pub bytes : StructuredBytes source
 
 -- h is the height of n sinks: the least whole number for which s to the power h is at least n
 pub record Height (s n h : ℕ) : Type 0 where

@@ -25,7 +25,7 @@ use Rattle.facts.proofs.Loops.{Seeking, seek-start, seek-more, seek-here, seek-
 use Rattle.netlist.specs.declared.Record.{Record}
 use Rattle.netlist.specs.Kinds.{width, slots, unused, topLevel, sourceLimit, input, and, majority, output, arities, arity, isGate, invertible}
 use Rattle.netlist.specs.Records.{Netlist, netlist, recordCount, recordBytes, recordAt, slot, isOutput, depth}
-use Rattle.netlist.specs.Checks.{ragged, tooMany, badLevel, sizeChecks, badKind, badInversion, badSlot, badSlots, notBelow, misplaced, structureOf, levelOf, structureAt, recordChecks, sourceChecks, structureChecks}
+use Rattle.netlist.specs.Checks.{ragged, tooMany, badLevel, sizeChecks, badKind, badInversion, badSlot, badSlots, notBelow, misplaced, structureOf, levelOf, recordChecks, sourceChecks}
 use Rattle.netlist.specs.View.{viewOf}
 use Rattle.netlist.proofs.Records.{record-past}
 
@@ -202,9 +202,6 @@ module _ (bytes : List ℕ) where
           go true o = ap (λ (y : ℕ). misplaced y (recordAt bytes k)) (met-more (seen || eqb (r .kind) output) refl .level-met ∙ rw (add-one k, o, or-r (met k) true refl))
           go false o = rw o
 
-    pub structure-checked : (a : Checked) → a ≡ structureOf (netlist bytes) k r → a ≡ structureAt (netlist bytes) k
-    structure-checked a f = f ∙ ap (structureOf (netlist bytes) k) e
-
     pub record-checked : (a : Checked) → a ≡ (structureOf (netlist bytes) k r andThen levelOf (netlist bytes) k r) → a ≡ recordChecks (netlist bytes) k
     record-checked a f = f ∙ ap (λ (x : Record). structureOf (netlist bytes) k x andThen levelOf (netlist bytes) k x) e
 
@@ -247,14 +244,9 @@ module _ (bytes : List ℕ) where
         let few = check-passed 3 0 (tooMany bytes) .0 (then-passed (check 2 0 (ragged bytes)) _ .0 (sym e ∙ p) .1) in
         omega (arith, ltb-false sourceLimit (recordCount bytes) few)
 
-    module _ (b : Checked) (n : ℕ) (p : a ≡ Passed) (f : n ≡ recordCount bytes) where
-      pub records-checked : b ≡ scan (recordChecks (netlist bytes)) 0 n → b ≡ sourceChecks bytes
-      unfolding sourceChecks
-      records-checked g = g ∙ rw (← e, p, f)
-
-      pub structures-checked : b ≡ scan (structureAt (netlist bytes)) 0 n → b ≡ structureChecks bytes
-      unfolding structureChecks
-      structures-checked g = g ∙ rw (← e, p, f)
+    pub records-checked : (b : Checked) (n : ℕ) → a ≡ Passed → n ≡ recordCount bytes → b ≡ scan (recordChecks (netlist bytes)) 0 n → b ≡ sourceChecks bytes
+    unfolding sourceChecks
+    records-checked b n p f g = g ∙ rw (← e, p, f)
 
 module _ (source mapped : List ℕ) (k m : ℕ) (e : m ≡ recordCount mapped) where
   pub view-past : m ≤ k → [] ≡ viewOf source mapped k

@@ -1,12 +1,14 @@
 -- A source passes checks 2 to 7 exactly if it is one: whole records with the facts of `IsSource`; what its kinds are, and where its outputs stand.
-use Prim.Native.Nat.{ℕ, _<_}
+use Prim.Native.Nat.{ℕ, _%_, _≤_, _<_}
 use native.Mathlib.Decide.{decLt}
 use native.Mathlib.Omega.{arith}
 use mathlib.Core.Path.{_≡_, refl, sym, ap, _∙_}
 use mathlib.Core.Logic.{_↔_, _≢_}
 use mathlib.Core.Bool.{Bool, true, false}
 use mathlib.Core.List.{List}
+use lib.ListN.{length}
 use Rattle.facts.specs.declared.Checked.the-variants.{Passed}
+use Rattle.facts.specs.Checks.{_andThen_}
 use lib.Dec.{ltb}
 use borrow.Author.Tests.{ltb-false, leb-false, eqb-true, eq-eqb, ne-eqb}
 use Rattle.facts.specs.Sums.{any, seek}
@@ -15,11 +17,11 @@ use Rattle.facts.proofs.Loops.{seek-none}
 use Rattle.facts.proofs.Sums.{any-some, any-none}
 use Rattle.facts.proofs.Reflect.{reflect, check-passed, then-passed, or-none}
 use Rattle.netlist.specs.declared.Record.{Record}
-use Rattle.netlist.specs.Kinds.{slots, majority, output, buffer, arity, isDriver}
+use Rattle.netlist.specs.Kinds.{width, slots, sourceLimit, majority, output, buffer, arity, isDriver}
 use Rattle.netlist.specs.Records.{Netlist, netlist, recordCount, recordAt, isOutput, depth}
 use Rattle.netlist.specs.declared.Capacities.{Capacities}
-use Rattle.netlist.specs.Checks.{badCapacity, capacityChecks, sourceChecks, structureChecks, inputChecks}
-use Rattle.netlist.specs.Source.{IsSource, Source, StructuredBytes, OutputsAt}
+use Rattle.netlist.specs.Checks.{capacityCheck, capacityChecks, sizeChecks, sourceChecks, structureChecks, inputChecks}
+use Rattle.netlist.specs.Source.{IsSource, Source, StructuredBytes, Unlevelled, OutputsAt}
 use Rattle.netlist.specs.Capacities.{Allowed}
 use Rattle.netlist.specs.PrivateInput.{Input}
 use Rattle.netlist.proofs.Checks.{arity-slots}
@@ -90,11 +92,26 @@ structured-passed bytes =
           ),
     )
 
--- what passing 1, and 1 to 7, means
+-- passing 2 and 3, 1, 1 to 6, and 1 to 7
+pub size-passed : (bytes : List ℕ) → (sizeChecks bytes ≡ Passed) ↔ ((length bytes % width ≡ 0) × (recordCount bytes ≤ sourceLimit))
+size-passed bytes = simp reflect (λ h. h, λ h. h)
+
+pub capacity-passed : (s : ℕ) → (capacityCheck s ≡ Passed) ↔ ((2 ≤ s) × (s ≤ 4))
+capacity-passed s = simp reflect (λ h. h, λ h. h)
+
 pub capacities-passed : (caps : Capacities) → capacityChecks caps ≡ Passed → Allowed caps
-capacities-passed caps e =
-    let h = or-none (ltb (caps .buffer) 2) (ltb 4 (caps .buffer)) .0 (check-passed 1 0 (badCapacity (caps .buffer)) .0 e) in
-    record { low = ltb-false (caps .buffer) 2 (h .0); high = ltb-false 4 (caps .buffer) (h .1) }
+capacities-passed caps e = let h = capacity-passed (caps .buffer) .0 e in record { low = h .0; high = h .1 }
+
+pub unlevelled-passed : (bytes : List ℕ) (s : ℕ) → ((capacityCheck s andThen structureChecks bytes) ≡ Passed) ↔ Unlevelled bytes s
+unlevelled-passed bytes s = (
+  λ e.
+      let h = then-passed (capacityCheck s) (structureChecks bytes) .0 e in
+      let c = capacity-passed s .0 (h .0) in
+      record { low = c .0; high = c .1; source = structured-passed bytes .0 (h .1) },
+  λ u.
+      then-passed (capacityCheck s) (structureChecks bytes) .1
+      (capacity-passed s .1 (u .low, u .high), structured-passed bytes .1 (u .source)),
+)
 
 pub input-passed : (source : List ℕ) (caps : Capacities) → inputChecks source caps ≡ Passed → Input source caps
 input-passed source caps e =

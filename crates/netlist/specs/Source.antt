@@ -30,7 +30,7 @@ pub record IsSource (m : Netlist) : Type 0 where
   -- outputs share one level
   pub outputs : (k : ℕ) → k < m .size → m .at k .kind ≡ output → m .at k .level ≡ depth m
 
--- a source but for its levels, of which nothing is said: what passing checks 2 to 6 means
+-- a source but for its levels, of which nothing is said: the first six facts above
 pub record Structured (m : Netlist) : Type 0 where
   pub few : m .size ≤ sourceLimit
   pub kinds : (k : ℕ) → k < m .size → m .at k .kind ≤ output
@@ -44,7 +44,7 @@ pub record OutputsAt (m : Netlist) (D : ℕ) : Type 0 where
   pub level : (k : ℕ) → k < m .size → m .at k .kind ≡ output → m .at k .level ≡ D
   pub none : ((k : ℕ) → k < m .size → m .at k .kind ≢ output) → D ≡ 0
 
--- whole records with the structure of a source
+-- whole records with the structure of a source: what passing checks 2 to 6 means
 pub record StructuredBytes (bytes : List ℕ) : Type 0 where
   pub whole : length bytes % width ≡ 0
   pub structured : Structured (netlist bytes)
@@ -53,3 +53,9 @@ pub record StructuredBytes (bytes : List ℕ) : Type 0 where
 pub record Source (bytes : List ℕ) : Type 0 where
   pub whole : length bytes % width ≡ 0
   pub isSource : IsSource (netlist bytes)
+
+-- a buffer's capacity, and bytes with the structure of a source, whatever their levels: what passing checks 1 to 6 means
+pub record Unlevelled (bytes : List ℕ) (s : ℕ) : Type 0 where
+  pub low : 2 ≤ s
+  pub high : s ≤ 4
+  pub source : StructuredBytes bytes

@@ -6,13 +6,13 @@ ghost use Rattle.netlist.specs.Records.{recordAt, recordCount, netlist};
 ghost use Rattle.netlist.specs.Records;
 ghost use Rattle.netlist.specs.Counts.{countKind, countOf};
 ghost use Rattle.netlist.specs.Capacities.{capacityOf};
-ghost use Rattle.netlist.specs.Checks.{capacityCheck, capacityChecks, sourceChecks, structureChecks, inputChecks};
+ghost use Rattle.netlist.specs.Checks.{capacityCheck, capacityChecks, sourceChecks, inputChecks};
 ghost use Rattle.netlist.specs.View.{viewOf};
 use facts::Checked;
 
 pub mod record_reader;
 pub mod record_writer;
-mod source_reader;
+pub mod source_reader;
 
 pub const WIDTH: usize = 10;
 
@@ -209,17 +209,6 @@ pub fn check_source(bytes: &[u8]) -> Checked
     let size = source_reader::check_size(bytes);
     match size {
         Checked::Passed => source_reader::check_records(bytes, record_count(bytes) as u32),
-        Checked::Refused(number, place) => Checked::Refused(number, place),
-    }
-}
-
-// The source reader where levels are not looked at: checks 2 to 6.
-pub fn check_structured(bytes: &[u8]) -> Checked
-    ensures { λ a. ⌜ a ≡ structureChecks (now (bytes .entry)) ⌝ }
-{
-    let size = source_reader::check_size(bytes);
-    match size {
-        Checked::Passed => source_reader::check_structures(bytes, record_count(bytes) as u32),
         Checked::Refused(number, place) => Checked::Refused(number, place),
     }
 }

@@ -9,7 +9,7 @@ ghost use Rattle.netlist.specs.Kinds.{slots, output, invertible};
 ghost use Rattle.netlist.specs.Kinds;
 ghost use Rattle.netlist.specs.Records.{recordCount, netlist};
 ghost use Rattle.netlist.specs.Records;
-ghost use Rattle.netlist.specs.Checks.{badCapacity, badSlot, badSlots, notBelow, misplaced, badLevel, sizeChecks, structureOf, levelOf, structureAt, recordChecks};
+ghost use Rattle.netlist.specs.Checks.{badCapacity, badSlot, badSlots, notBelow, misplaced, badLevel, sizeChecks, structureOf, levelOf, recordChecks};
 use crate::AND;
 use crate::INPUT;
 use crate::LEAST_CAPACITY;
@@ -120,7 +120,7 @@ fn is_misplaced(deep: u16, r: Record) -> bool
 }
 
 // Checks 4 to 6 of record k.
-fn check_structure(bytes: &[u8], k: u32, r: Record, used: usize) -> Checked
+pub fn check_structure(bytes: &[u8], k: u32, r: Record, used: usize) -> Checked
     requires { ⌜ k < recordCount (now bytes) ⌝ }
     requires { ⌜ used ≡ Kinds.arity (r .kind) ⌝ }
     ensures { λ a. ⌜ a ≡ structureOf (netlist (now (bytes .entry))) k r ⌝ }
@@ -244,28 +244,8 @@ pub(crate) fn check_records(bytes: &[u8], n: u32) -> Checked
     Checked::Passed
 }
 
-// Checks 4 to 6 of every record, rising; levels are not looked at.
-pub(crate) fn check_structures(bytes: &[u8], n: u32) -> Checked
-    requires { ⌜ n ≡ recordCount (now bytes) ⌝ }
-    ensures { λ a. ⌜ a ≡ scan (structureAt (netlist (now (bytes .entry)))) 0 n ⌝ }
-{
-    let mut k: u32 = 0;
-    while k < n {
-        let r = record_reader::read_at(bytes, k as usize);
-        let checked = check_structure(bytes, k, r, arity(r.kind));
-        match checked {
-            Checked::Passed => {}
-            Checked::Refused(number, place) => {
-                return Checked::Refused(number, place);
-            }
-        }
-        k += 1;
-    }
-    Checked::Passed
-}
-
 // Checks 2 and 3.
-pub(crate) fn check_size(bytes: &[u8]) -> Checked
+pub fn check_size(bytes: &[u8]) -> Checked
     ensures { λ a. ⌜ a ≡ sizeChecks (now (bytes .entry)) ⌝ }
 {
     if bytes.len() % WIDTH != 0 {

@@ -14,7 +14,7 @@ use Rattle.netlist.specs.Kinds.{width}
 use Rattle.netlist.specs.Records.{netlist}
 use Rattle.netlist.specs.Refusals.{SourceFails}
 use Rattle.netlist.specs.Counts.{bufferCount}
-use Rattle.netlist.proofs.Refusals.{source-rows, structure-rows, input-numbered}
+use Rattle.netlist.proofs.Refusals.{source-rows, input-numbered}
 use Rattle.verifier.specs.Refusals.{VerifyFails}
 use Rattle.verifier.specs.Checks.{verifyChecks, verifyAnswer, verifiedNumbers}
 use Rattle.verifier.proofs.Accepted.{checks-passed}
@@ -27,7 +27,7 @@ use Rattle.mapper.proofs.Promises.{map-exact}
 use Rattle.simulator.specs.Refusals.{AreaFails, EvaluateFails, StepFails, RunFails}
 use Rattle.simulator.proofs.Refusals.{evaluate-exact, step-exact, run-exact}
 use Rattle.levels.specs.Promises.{LevelsFail}
-use Rattle.levels.proofs.Promises.{levels-exact}
+use Rattle.levels.proofs.Promises.{levels-exact, levels-numbered}
 use Rattle.nets.specs.Promises.{CountsFail}
 use Rattle.nets.proofs.Promises.{counts-exact}
 use Rattle.promises.specs.Written.{Maps}
@@ -164,10 +164,5 @@ numbers-exact =
       run = λ source caps mapped r rows area outs.
           two-numbers (RunFails source caps mapped r rows area outs) _ (run-exact source caps mapped r rows area outs)
           (λ number place. ⊎-elim (verify-numbered source caps mapped number place) (area-numbered _ rows number place));
-      levels = λ source s area.
-          two-numbers (LevelsFail source s area) _ (levels-exact source s area)
-          (λ number place.
-          ⊎-elim (λ f. omega (arith, f .0))
-          (⊎-elim (λ f. row-positive number (rowOf 1) (structure-rows source number place f .0))
-          (⊎-elim (λ z. omega (arith, z .2 .0)) (λ f. omega (arith, f .0)))));
+      levels = λ source s area. two-numbers (LevelsFail source s area) _ (levels-exact source s area) (levels-numbered source s area);
     }

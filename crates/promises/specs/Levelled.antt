@@ -9,7 +9,7 @@ use Rattle.netlist.specs.Checks.{inputChecks}
 use Rattle.nets.specs.Checks.{treeChecks}
 use Rattle.levels.specs.Levels.{levelsAnswer, levelsArea}
 
--- with the same s none of 1 to 7 refuses it, and 8 does not: the mapper refuses it by nothing but 9 and 10
+-- with the same s none of 1 to 7 refuses it, nor does 8
 abbrev pub LevelledMaps : Type 0
 LevelledMaps =
     (source : List ℕ) (s : ℕ) (area : List ℕ) → levelsAnswer source s area ≡ Passed →
