@@ -1,6 +1,6 @@
 -- Laws of levels worked out in arrays: how low a record may stand is the largest entry of its slots.
-use Prim.Native.Nat.{ℕ, suc, _+_, min, max, _≤_, _<_}
-use native.Mathlib.Decide.{ℕ-discrete}
+use Prim.Native.Nat.{ℕ, suc, _+_, _*_, max, _≤_, _<_}
+use native.Mathlib.Decide.{decLt, ℕ-discrete}
 use native.Mathlib.Numerals.{add-one}
 use native.Mathlib.Omega.{arith}
 use mathlib.Core.Path.{_≡_, refl, sym, ap, ap₂, subst, _∙_}
@@ -9,19 +9,21 @@ use mathlib.Core.List.{List}
 use lib.ListN.{length, getD, set, length-set}
 use lib.Seq.{getD-set-same, getD-set-other}
 use lib.Dec.{eqb}
-use borrow.Author.Tests.{ltb-true, eqb-true}
+use borrow.Author.Tests.{ltb-true, eqb-true, eq-eqb, ne-eqb}
+use mir.Val.{Fits}
+use mir.Syntax.{w64}
 use Rattle.facts.specs.Sums.{largest}
 use Rattle.facts.proofs.Bools.{and-l, and-r}
 use Rattle.facts.proofs.Sums.{count₂-none, largest-cong, largest-used}
 use Rattle.netlist.specs.declared.Record.{Record}
-use Rattle.netlist.specs.Kinds.{slots, sourceLimit, output, arity}
+use Rattle.netlist.specs.Kinds.{slots, unused, output, arity}
 use Rattle.netlist.specs.Records.{Netlist, netlist, recordCount, recordAt, slot, used, fanin, names, feeds, isOutput}
 use Rattle.netlist.specs.Source.{Structured, Unlevelled}
 use Rattle.netlist.proofs.Checks.{arity-slots}
 use Rattle.fanout.specs.Nets.{sinkLimit}
 use Rattle.levels.specs.Levels.{height, sinkLevel, lowest, outputLowest, leastLevel}
 use Rattle.levels.specs.PrivateSinks.{SinksSoFar}
-use Rattle.levels.specs.PrivateLevels.{entries, faninEntry, Raised, Unraised, WorkedOut, WithOutputs}
+use Rattle.levels.specs.PrivateLevels.{entries, entryPlace, faninEntry, EntriesInside, Raised, Unraised, WorkedOut, WithOutputs}
 use Rattle.levels.proofs.Lowest.{lowest-over, sinks-few, sink-small}
 
 -- the largest entry, slot by slot
@@ -35,16 +37,19 @@ module _ (reach : List ℕ) (n : ℕ) (r : Record) where
   largest-start = record { within = omega arith; so-far = refl }
 
   module _ (level j : ℕ) (c : LargestBelow reach n r level j) where
-    pub largest-more : (x y next : ℕ) → j < slots → x ≡ slot r j → y ≡ min x n → next ≡ max level (getD reach y 0) → LargestBelow reach n r next (j + 1)
+    pub largest-more : (x y next : ℕ) → j < slots → x ≡ slot r j → y ≡ entryPlace n x → next ≡ max level (getD reach y 0) → LargestBelow reach n r next (j + 1)
     unfolding largest
     largest-more x y next h p q e = record { within = omega arith; so-far = e ∙ rw (add-one j, q, p, c .so-far) refl }
 
+    module _ (x y : ℕ) (i : EntriesInside reach n r) (h : j < slots) (p : x ≡ slot r j) (q : y ≡ entryPlace n x) where
+      pub entry-inside : y < length reach
+      entry-inside = rw (q, p) (i .inside j h)
+
+      pub entry-near : Fits w64 (y * 2)
+      entry-near = let near = i .near j h in omega (arith, near, q ∙ ap (entryPlace n) p)
+
     pub largest-end : slots ≤ j → level ≡ largest (faninEntry reach n r) slots
     largest-end h = let e : j ≡ slots = omega (arith, c .within) in c .so-far ∙ ap (largest (faninEntry reach n r)) e
-
--- an unused slot has an entry within
-pub entry-inside : (reach : List ℕ) (x n y : ℕ) → n < length reach → y ≡ min x n → y < length reach
-entry-inside reach x n y l e = omega arith
 
 -- no slot names what stands past the end
 past-none : (m : Netlist) → Structured m → feeds m (m .size) ≡ 0
@@ -58,24 +63,36 @@ past-none m structured =
       eqb-true (fanin m i j) (m .size) (and-r (used m i j) _ e),
     ))
 
-module _ (s : ℕ) (m : Netlist) (structured : Structured m) (i : ℕ) (reach : List ℕ) (c : Raised s m i reach) (inside : i ≤ m .size) where
-  -- how low record k may stand is the largest entry of its slots
-  lowest-read : (k : ℕ) → k ≤ i → k < m .size → largest (faninEntry reach (m .size) (m .at k)) slots ≡ lowest s m k
-  lowest-read k a l =
-      largest-used (faninEntry reach (m .size) (m .at k)) (arity (m .at k .kind)) slots (arity-slots (m .at k .kind)) unused-zero
-      ∙ largest-cong _ _ (arity (m .at k .kind)) used-level
-      ∙ sym (lowest-over s m structured k l)
-    where
-      unused-zero : (j : ℕ) → arity (m .at k .kind) ≤ j → j < slots → faninEntry reach (m .size) (m .at k) j ≡ 0
-      unused-zero j u v =
-          let e : min (slot (m .at k) j) (m .size) ≡ m .size = omega (arith, structured .empty k j l u v, structured .few) in
-          ap (entries reach) e ∙ c .rest (m .size) inside (c .room) ∙ past-none m structured
+module _ (s : ℕ) (m : Netlist) (structured : Structured m) (i : ℕ) (reach : List ℕ) (c : Raised s m i reach) (within : i ≤ m .size)
+    (k : ℕ) (a : k ≤ i) (l : k < m .size) where
+  unused-place : (j : ℕ) → arity (m .at k .kind) ≤ j → j < slots → entryPlace (m .size) (slot (m .at k) j) ≡ m .size
+  unused-place j u v = rw (eq-eqb (slot (m .at k) j) unused (structured .empty k j l u v))
 
-      used-level : (j : ℕ) → j < arity (m .at k .kind) → faninEntry reach (m .size) (m .at k) j ≡ sinkLevel s m (lowest s m) (fanin m k j)
-      used-level j u =
-          let f = structured .earlier k j l u in
-          let e : min (slot (m .at k) j) (m .size) ≡ fanin m k j = omega arith in
-          ap (entries reach) e ∙ c .below (fanin m k j) (omega arith)
+  used-place : (j : ℕ) → j < arity (m .at k .kind) → entryPlace (m .size) (slot (m .at k) j) ≡ fanin m k j
+  used-place j u = rw (ne-eqb (slot (m .at k) j) unused (λ e. omega (arith, structured .earlier k j l u, structured .few)))
+
+  -- every slot of record k has an entry, an unused one a 0
+  entries-inside : EntriesInside reach (m .size) (m .at k)
+  entries-inside =
+      record {
+        inside = λ j v. elim (decLt j (arity (m .at k .kind))) [
+          | yes u ↦ rw (used-place j u) (omega (arith, structured .earlier k j l u, c .room))
+          | no u ↦ rw (unused-place j (omega arith) v) (c .room)
+        ];
+        near = λ j v. elim (decLt j (arity (m .at k .kind))) [
+          | yes u ↦ rw (used-place j u) (omega (arith, structured .earlier k j l u, structured .few))
+          | no u ↦ rw (unused-place j (omega arith) v) (structured .few)
+        ];
+        zero = λ j u v. ap (entries reach) (unused-place j u v) ∙ c .rest (m .size) within (c .room) ∙ past-none m structured;
+      }
+
+  -- how low it may stand is the largest of them
+  lowest-read : largest (faninEntry reach (m .size) (m .at k)) slots ≡ lowest s m k
+  lowest-read =
+      largest-used (faninEntry reach (m .size) (m .at k)) (arity (m .at k .kind)) slots (arity-slots (m .at k .kind)) (entries-inside .zero)
+      ∙ largest-cong _ _ (arity (m .at k .kind))
+      (λ j u. ap (entries reach) (used-place j u) ∙ c .below (fanin m k j) (omega (arith, structured .earlier k j l u)))
+      ∙ sym (lowest-over s m structured k l)
 
 -- all sinks are counted
 pub sinks-unraised : (source : List ℕ) (s n : ℕ) (sinks levels : List ℕ) → Unlevelled source s → n ≡ recordCount source →
@@ -142,8 +159,9 @@ module _ (source : List ℕ) (s n : ℕ) (reach₀ levels₀ : List ℕ) where
       present : k < recordCount source
       present = omega (arith, c .all)
 
-      pub spare-inside : n < length reach
-      spare-inside = omega (arith, c .all, c .raised .room)
+      pub slots-inside : (r : Record) → r ≡ recordAt source k → EntriesInside reach n r
+      slots-inside r e =
+          rw (c .all, e) (entries-inside s (netlist source) structured k reach (c .raised) (omega (arith, present)) k (omega arith) present)
 
       pub reach-inside : k < length reach
       reach-inside = omega (arith, present, c .raised .room)

@@ -1,16 +1,15 @@
 -- Laws of heights: what is looked for is the height, and a power that grows with each turn finds it.
 use Prim.Native.Nat.{ℕ, zero, suc, _+_, _-_, _*_, _^_, _≤_, _<_}
 use native.Mathlib.Decide.{decLt}
-use native.Mathlib.Nat.{one-mul, mul-one, mul-le-mul-left, pow-zero, pow-suc, pow-le-pow-right}
+use native.Mathlib.Nat.{one-mul, mul-le-mul-left, pow-zero, pow-suc, pow-le-pow-right}
 use native.Mathlib.Numerals.{add-one}
 use native.Mathlib.Omega.{arith}
 use mathlib.Core.Path.{_≡_, sym, ap, subst, _∙_}
-use mathlib.Core.Bool.{Bool}
-use lib.Dec.{ltb}
-use borrow.Author.Tests.{leb-true, leb-false, le-leb, lt-leb, lt-ltb, le-ltb}
-use Rattle.facts.specs.Sums.{bit, seek}
+use mathlib.Core.Bool.{cond}
+use lib.Dec.{leb}
+use borrow.Author.Tests.{leb-true, leb-false, le-leb, lt-leb}
+use Rattle.facts.specs.Sums.{seek}
 use Rattle.facts.proofs.Loops.{Seeking, seek-start, seek-more, seek-here, seek-end, seek-within, seek-true, seek-before}
-use Rattle.facts.proofs.Sums.{bit-le}
 use Rattle.fanout.specs.Nets.{sinkLimit}
 use Rattle.levels.specs.Rules.{Height}
 use Rattle.levels.specs.Levels.{carries, height}
@@ -64,51 +63,46 @@ height-between s n i two l h =
 height-of-one : (s n : ℕ) → n ≤ 1 → height s n ≡ 0
 height-of-one s n l = omega (arith, height-least s n 0 (omega (arith, pow-zero s)))
 
--- the first powers are small
-pub square-fits : (s : ℕ) → (2 ≤ s) × (s ≤ 4) → s * s < 2 ^ 64
-square-fits s cap = omega (arith, mul-le-mul-left {m = s} {n = 4} s (cap .1), cap .1)
+-- one more than the height of few sinks, by comparisons with the first powers
+module _ (s n : ℕ) (cap : (2 ≤ s) × (s ≤ 4)) where
+  pub rise-fits : (h : ℕ) → h ≡ height s n → n ≤ sinkLimit → h + 1 < 2 ^ 64
+  rise-fits h e l = omega (arith, height-small s n)
 
-pub cube-fits : (s square : ℕ) → (2 ≤ s) × (s ≤ 4) → square ≡ s * s → square * s < 2 ^ 64
-cube-fits s square cap e = omega (arith, mul-le-mul-left {m = s} {n = 4} s (cap .1), mul-le-mul-left {m = s} {n = 4} square (cap .1), cap .1)
+  pub square-fits : s * s < 2 ^ 64
+  square-fits = omega (arith, mul-le-mul-left {m = s} {n = 4} s (cap .1), cap .1)
 
--- and so are sums of bits
-pub two-fit : (x y : ℕ) (a b : Bool) → x ≡ bit a → y ≡ bit b → x + y < 2 ^ 64
-two-fit x y a b p q = omega (arith, bit-le a, bit-le b)
+  module _ (square : ℕ) (e : square ≡ s * s) where
+    pub cube-fits : square * s < 2 ^ 64
+    cube-fits = omega (arith, mul-le-mul-left {m = s} {n = 4} s (cap .1), mul-le-mul-left {m = s} {n = 4} square (cap .1), cap .1)
 
-pub three-fit : (x y z : ℕ) (a b c : Bool) → x ≡ bit a → y ≡ bit b → z ≡ bit c → x + y + z < 2 ^ 64
-three-fit x y z a b c p q r = omega (arith, bit-le a, bit-le b, bit-le c)
+    first-power : s ^ 1 ≡ s
+    first-power = pow-suc s 0 ∙ ap (λ (x : ℕ). x * s) (pow-zero s) ∙ one-mul s
 
--- the height of few sinks, by comparisons with the first powers
-module _ (s n : ℕ) (cap : (2 ≤ s) × (s ≤ 4)) (square : ℕ) (e : square ≡ s * s) where
-  first-power : s ^ 1 ≡ s
-  first-power = pow-suc s 0 ∙ ap (λ (x : ℕ). x * s) (pow-zero s) ∙ one-mul s
+    second-power : s ^ 2 ≡ square
+    second-power = pow-suc s 1 ∙ ap (λ (x : ℕ). x * s) first-power ∙ sym e
 
-  second-power : s ^ 2 ≡ square
-  second-power = pow-suc s 1 ∙ ap (λ (x : ℕ). x * s) first-power ∙ sym e
-
-  larger-square : s ≤ square
-  larger-square = omega (arith, mul-one s, mul-le-mul-left {m = 1} {n = s} s (omega (arith, cap .0)), e)
-
-  few-sinks : (cube : ℕ) → cube ≡ square * s → n ≤ cube → bit (ltb 1 n) + bit (ltb s n) + bit (ltb square n) ≡ height s n
-  few-sinks cube f l =
-      elim (decLt square n) [
-        | yes b ↦
-            rw (lt-ltb square n b, lt-ltb s n (omega (arith, larger-square)), lt-ltb 1 n (omega (arith, larger-square, cap .0)))
-            (sym (height-between s n 2 (cap .0) (omega (arith, second-power)) (omega (arith, pow-suc s 2, ap (λ (x : ℕ). x * s) second-power, f))))
-        | no b ↦ rw (le-ltb square n (omega arith)) (elim (decLt s n) [
-          | yes c ↦
-              rw (lt-ltb s n c, lt-ltb 1 n (omega (arith, cap .0)))
-              (sym (height-between s n 1 (cap .0) (omega (arith, first-power)) (omega (arith, second-power))))
-          | no c ↦ rw (le-ltb s n (omega arith)) (elim (decLt 1 n) [
-            | yes d ↦ rw (lt-ltb 1 n d) (sym (height-between s n 0 (cap .0) (omega (arith, pow-zero s)) (omega (arith, first-power))))
-            | no d ↦ rw (le-ltb 1 n (omega arith)) (sym (height-of-one s n (omega arith)))
+    few-sinks : n ≤ square * s → cond (leb n 1) 1 (cond (leb n s) 2 (cond (leb n square) 3 4)) ≡ suc (height s n)
+    few-sinks l =
+        elim (decLt 1 n) [
+          | yes b ↦ rw (lt-leb n 1 b) (elim (decLt s n) [
+            | yes c ↦ rw (lt-leb n s c) (elim (decLt square n) [
+              | yes d ↦
+                  rw (lt-leb n square d)
+                  (sym (ap suc (height-between s n 2 (cap .0) (omega (arith, second-power)) (omega (arith, pow-suc s 2, ap (λ (x : ℕ). x * s) second-power)))))
+              | no d ↦
+                  rw (le-leb n square (omega arith))
+                  (sym (ap suc (height-between s n 1 (cap .0) (omega (arith, first-power)) (omega (arith, second-power)))))
+            ])
+            | no c ↦
+                rw (le-leb n s (omega arith))
+                (sym (ap suc (height-between s n 0 (cap .0) (omega (arith, pow-zero s)) (omega (arith, first-power)))))
           ])
-        ])
-      ]
+          | no b ↦ rw (le-leb n 1 (omega arith)) (sym (ap suc (height-of-one s n (omega arith))))
+        ]
 
-  pub height-few : (cube x y z : ℕ) → cube ≡ square * s → n ≤ cube → x ≡ bit (ltb 1 n) → y ≡ bit (ltb s n) → z ≡ bit (ltb square n) →
-      x + y + z ≡ height s n
-  height-few cube x y z f l p q r = rw (p, q, r) (few-sinks cube f l)
+    pub rise-of-few : (x y z : ℕ) → n ≤ square * s → z ≡ cond (leb n square) 3 4 → y ≡ cond (leb n s) 2 z → x ≡ cond (leb n 1) 1 y →
+        x ≡ suc (height s n)
+    rise-of-few x y z l p q r = r ∙ rw (q, p) (few-sinks l)
 
 -- as the loop finds it: the power of the exponent so far, and the search from there on
 pub record Powers (s n power h : ℕ) : Type 0 where

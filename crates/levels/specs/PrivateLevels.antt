@@ -1,13 +1,15 @@
 -- For functions inside the engine alone: what the local arrays hold while levels are worked out.
-use Prim.Native.Nat.{ℕ, min, _≤_, _<_}
+use Prim.Native.Nat.{ℕ, _≤_, _<_}
 use mathlib.Core.Path.{_≡_}
 use mathlib.Core.Bool.{cond}
 use mathlib.Core.List.{List}
 use lib.ListN.{length, getD}
+use lib.Dec.{eqb}
 use Rattle.facts.specs.declared.Checked.{Checked}
 use Rattle.facts.specs.declared.Checked.the-variants.{Passed}
 use Rattle.facts.specs.Checks.{_andThen_, scan}
 use Rattle.netlist.specs.declared.Record.{Record}
+use Rattle.netlist.specs.Kinds.{slots, unused, sourceLimit, arity}
 use Rattle.netlist.specs.Records.{Netlist, netlist, recordCount, slot, feeds, isOutput}
 use Rattle.netlist.specs.Checks.{sizeChecks, structureAt}
 use Rattle.netlist.specs.Source.{Unlevelled}
@@ -17,9 +19,19 @@ use Rattle.levels.specs.Levels.{sinkLevel, lowest, outputLevel, leastLev
 abbrev pub entries : List ℕ → ℕ → ℕ
 entries array k = getD array k 0
 
--- the entry of the fanin in slot j; an unused slot has entry n
+-- where a slot's fanin has its entry: an unused slot has entry n
+abbrev pub entryPlace : ℕ → ℕ → ℕ
+entryPlace n x = cond (eqb x unused) n x
+
+-- the entry of the fanin in slot j
 abbrev pub faninEntry : List ℕ → ℕ → Record → ℕ → ℕ
-faninEntry reach n r j = getD reach (min (slot r j) n) 0
+faninEntry reach n r j = getD reach (entryPlace n (slot r j)) 0
+
+-- every slot of a record has an entry, and those that its kind does not use a 0
+pub record EntriesInside (reach : List ℕ) (n : ℕ) (r : Record) : Type 0 where
+  pub inside : (j : ℕ) → j < slots → entryPlace n (slot r j) < length reach
+  pub near : (j : ℕ) → j < slots → entryPlace n (slot r j) ≤ sourceLimit
+  pub zero : (j : ℕ) → arity (r .kind) ≤ j → j < slots → faninEntry reach n r j ≡ 0
 
 -- records below k have how low their sinks may stand, the other entries their number of sinks
 pub record Raised (s : ℕ) (m : Netlist) (k : ℕ) (reach : List ℕ) : Type 0 where

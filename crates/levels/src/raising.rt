@@ -1,18 +1,19 @@
 // Levels worked out (specification 2.7): the heights of nets, and how low each record may stand over its fanins.
 ghost use mathlib.Core.Path.{_≡_};
 ghost use mathlib.Core.Bool.{cond};
-ghost use Prim.Native.Nat.{suc, _+_, min, max, _≤_, _<_};
+ghost use Prim.Native.Nat.{suc, _+_, max, _≤_, _<_};
 ghost use lib.Dec.{eqb};
 ghost use lib.ListN.{length};
 ghost use Rattle.facts.specs.Sums.{largest};
 ghost use Rattle.netlist.specs.Kinds.{slots, output};
 ghost use Rattle.netlist.specs.Records.{netlist, recordCount};
 ghost use Rattle.fanout.specs.Nets.{sinkLimit};
-ghost use Rattle.levels.specs.Levels;
-ghost use Rattle.levels.specs.PrivateLevels.{faninEntry, Unraised, WorkedOut, WithOutputs};
+ghost use Rattle.levels.specs.Levels.{height};
+ghost use Rattle.levels.specs.PrivateLevels.{entryPlace, faninEntry, EntriesInside, Unraised, WorkedOut, WithOutputs};
 use netlist::OUTPUT;
 use netlist::Record;
 use netlist::SLOTS;
+use netlist::UNUSED;
 
 // The larger of two levels.
 pub(crate) fn larger(a: u16, b: u16) -> u16
@@ -25,7 +26,7 @@ pub(crate) fn larger(a: u16, b: u16) -> u16
 fn height_of_many(capacity: usize, sinks: usize) -> usize
     requires { ⌜ (2 ≤ capacity) × (capacity ≤ 4) ⌝ }
     requires { ⌜ sinks ≤ sinkLimit ⌝ }
-    ensures { λ h. ⌜ h ≡ Levels.height capacity sinks ⌝ }
+    ensures { λ h. ⌜ h ≡ height capacity sinks ⌝ }
 {
     let mut power: usize = 1;
     let mut h: usize = 0;
@@ -36,41 +37,50 @@ fn height_of_many(capacity: usize, sinks: usize) -> usize
     h
 }
 
-// The height of a number of sinks. Most nets are small: theirs is found by three comparisons.
-fn height(capacity: usize, sinks: usize) -> usize
+// One of two numbers.
+fn pick(first: bool, a: usize, b: usize) -> usize
+    ensures { λ r. ⌜ r ≡ cond first a b ⌝ }
+{
+    if first { a } else { b }
+}
+
+// One more than the height of a number of sinks. Most nets are small: theirs is picked by comparisons, without a branch.
+fn rise(capacity: usize, sinks: usize) -> usize
     requires { ⌜ (2 ≤ capacity) × (capacity ≤ 4) ⌝ }
     requires { ⌜ sinks ≤ sinkLimit ⌝ }
-    ensures { λ h. ⌜ h ≡ Levels.height capacity sinks ⌝ }
+    ensures { λ h. ⌜ h ≡ suc (height capacity sinks) ⌝ }
 {
     let square = capacity * capacity;
-    let cube = square * capacity;
-    if cube < sinks {
-        return height_of_many(capacity, sinks);
+    if square * capacity < sinks {
+        return height_of_many(capacity, sinks) + 1;
     }
-    facts::one_if(1 < sinks) + facts::one_if(capacity < sinks) + facts::one_if(square < sinks)
+    pick(
+        sinks <= 1,
+        1,
+        pick(sinks <= capacity, 2, pick(sinks <= square, 3, 4)),
+    )
 }
 
 // How low the sinks of a record may stand, by its own level and their number.
 fn sink_level(capacity: usize, level: u16, sinks: u16) -> u16
     requires { ⌜ (2 ≤ capacity) × (capacity ≤ 4) ⌝ }
     requires { ⌜ sinks ≤ sinkLimit ⌝ }
-    requires { ⌜ level + suc (Levels.height capacity sinks) < 65536 ⌝ }
-    ensures { λ r. ⌜ r ≡ level + suc (Levels.height capacity sinks) ⌝ }
+    requires { ⌜ level + suc (height capacity sinks) < 65536 ⌝ }
+    ensures { λ r. ⌜ r ≡ level + suc (height capacity sinks) ⌝ }
 {
-    (level as usize + 1 + height(capacity, sinks as usize)) as u16
+    (level as usize + rise(capacity, sinks as usize)) as u16
 }
 
 // Where a slot's fanin has its entry: an unused slot has entry n.
 fn entry_of(slot: u16, n: usize) -> usize
-    ensures { λ e. ⌜ e ≡ min slot n ⌝ }
+    ensures { λ e. ⌜ e ≡ entryPlace n slot ⌝ }
 {
-    let d = slot as usize;
-    if d < n { d } else { n }
+    if slot == UNUSED { n } else { slot as usize }
 }
 
 // The largest entry of a record's slots.
 fn over_fanins(reach: &[u16], n: usize, r: Record) -> u16
-    requires { ⌜ n < length (now reach) ⌝ }
+    requires { ⌜ EntriesInside (now reach) n r ⌝ }
     ensures { λ l. ⌜ l ≡ largest (faninEntry (now (reach .entry)) n r) slots ⌝ }
 {
     let mut level: u16 = 0;

@@ -2,7 +2,7 @@
 use Prim.Native.Nat.{_-_}
 use borrow.Author.Needs.{needs}
 use Rattle.netlist.specs.Kinds.{slots}
-use Rattle.levels.proofs.FaninLevels.{LargestBelow, largest-start, entry-inside, largest-more, largest-end}
+use Rattle.levels.proofs.FaninLevels.{LargestBelow, largest-start, entry-inside, entry-near, largest-more, largest-end}
 use Rattle.levels.proofs.raising.over_fanins.Statement.{statement}
 use Rattle.levels.proofs.raising.over_fanins.Tie as tie
 
@@ -22,7 +22,7 @@ entry-of-requires : tie.Need-entry-of-requires Inv-loop μ-loop
 entry-of-requires c κs = search needs
 
 mul-larger : tie.Need-mul-larger Inv-loop μ-loop
-mul-larger c = search needs
+mul-larger c = search entry-near
 
 shared-slice-read-larger : tie.Need-shared-slice-read-larger Inv-loop μ-loop
 shared-slice-read-larger c = search (needs, entry-inside)

@@ -1,7 +1,7 @@
 -- `raise` meets its contract: levels are worked out below k.
 use Prim.Native.Nat.{_-_}
 use borrow.Author.Needs.{needs}
-use Rattle.levels.proofs.FaninLevels.{Levelling, levelling-start, spare-inside, reach-inside, levels-inside, capacity-allowed, sinks-within, entry-fits, levelling-more, reach-same, levels-same, levelling-end}
+use Rattle.levels.proofs.FaninLevels.{Levelling, levelling-start, slots-inside, reach-inside, levels-inside, capacity-allowed, sinks-within, entry-fits, levelling-more, reach-same, levels-same, levelling-end}
 use Rattle.levels.proofs.raising.raise.Statement.{statement}
 use Rattle.levels.proofs.raising.raise.Tie as tie
 
@@ -18,7 +18,7 @@ read-at-requires : tie.Need-read-at-requires Inv-loop μ-loop
 read-at-requires c κs = search needs
 
 over-fanins-requires : tie.Need-over-fanins-requires Inv-loop μ-loop
-over-fanins-requires c κs = search (needs, spare-inside)
+over-fanins-requires c κs = search (needs, slots-inside)
 
 by-kind-requires : tie.Need-by-kind-requires Inv-loop μ-loop
 by-kind-requires c κs = search needs
