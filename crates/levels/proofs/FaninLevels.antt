@@ -41,15 +41,25 @@ module _ (reach : List ℕ) (n : ℕ) (r : Record) where
     unfolding largest
     largest-more x y next h p q e = record { within = omega arith; so-far = e ∙ rw (add-one j, q, p, c .so-far) refl }
 
-    module _ (x y : ℕ) (i : EntriesInside reach n r) (h : j < slots) (p : x ≡ slot r j) (q : y ≡ entryPlace n x) where
-      pub entry-inside : y < length reach
-      entry-inside = rw (q, p) (i .inside j h)
-
-      pub entry-near : Fits w64 (y * 2)
-      entry-near = let near = i .near j h in omega (arith, near, q ∙ ap (entryPlace n) p)
-
     pub largest-end : slots ≤ j → level ≡ largest (faninEntry reach n r) slots
     largest-end h = let e : j ≡ slots = omega (arith, c .within) in c .so-far ∙ ap (largest (faninEntry reach n r)) e
+
+-- the entry of a slot stands within
+module _ (reach : List ℕ) (n : ℕ) (r : Record) (i : EntriesInside reach n r) (j x y : ℕ) (h : j < slots) (p : x ≡ slot r j) (q : y ≡ entryPlace n x) where
+  pub entry-inside : y < length reach
+  entry-inside = rw (q, p) (i .inside j h)
+
+  pub entry-near : Fits w64 (y * 2)
+  entry-near = let near = i .near j h in omega (arith, near, q ∙ ap (entryPlace n) p)
+
+-- an output has one used slot
+pub output-level : (reach : List ℕ) (n : ℕ) (r : Record) (x y : ℕ) → EntriesInside reach n r → r .kind ≡ output → x ≡ slot r 0 → y ≡ entryPlace n x →
+    getD reach y 0 ≡ largest (faninEntry reach n r) slots
+unfolding largest
+output-level reach n r x y i o p q =
+    let one : arity (r .kind) ≡ 1 = ap arity o in
+    sym (largest-used (faninEntry reach n r) 1 slots (omega arith) (λ j a b. i .zero j (omega arith) b)
+    ∙ omega (arith, ap (entries reach) (q ∙ ap (entryPlace n) p)))
 
 -- no slot names what stands past the end
 past-none : (m : Netlist) → Structured m → feeds m (m .size) ≡ 0

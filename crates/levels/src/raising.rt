@@ -92,6 +92,17 @@ fn over_fanins(reach: &[u16], n: usize, r: Record) -> u16
     level
 }
 
+// The same, of an output by its one used slot.
+fn level_of(reach: &[u16], n: usize, r: Record) -> u16
+    requires { ⌜ EntriesInside (now reach) n r ⌝ }
+    ensures { λ l. ⌜ l ≡ largest (faninEntry (now (reach .entry)) n r) slots ⌝ }
+{
+    if r.kind == OUTPUT {
+        return reach[entry_of(netlist::slot(r, 0), n)];
+    }
+    over_fanins(reach, n, r)
+}
+
 // One of two levels: the first for an output.
 fn by_kind(kind: u8, common: u16, own: u16) -> u16
     ensures { λ l. ⌜ l ≡ cond (eqb kind output) common own ⌝ }
@@ -114,7 +125,7 @@ pub(crate) fn raise(
     let mut k: usize = 0;
     while k < n {
         let r = netlist::record_reader::read_at(source, k);
-        let level = over_fanins(reach, n, r);
+        let level = level_of(reach, n, r);
         top = larger(top, by_kind(r.kind, level, 0));
         reach[k] = sink_level(capacity, level, reach[k]);
         levels[k] = level;

@@ -17,8 +17,8 @@ loop-holds c = search levelling-start
 read-at-requires : tie.Need-read-at-requires Inv-loop μ-loop
 read-at-requires c κs = search needs
 
-over-fanins-requires : tie.Need-over-fanins-requires Inv-loop μ-loop
-over-fanins-requires c κs = search (needs, slots-inside)
+level-of-requires : tie.Need-level-of-requires Inv-loop μ-loop
+level-of-requires c κs = search (needs, slots-inside)
 
 by-kind-requires : tie.Need-by-kind-requires Inv-loop μ-loop
 by-kind-requires c κs = search needs
@@ -73,7 +73,7 @@ raise-spec =
     μ-loop
     loop-holds
     read-at-requires
-    over-fanins-requires
+    level-of-requires
     by-kind-requires
     larger-requires
     mul-sink-level
