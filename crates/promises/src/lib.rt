@@ -1,1 +1,1 @@
-// No code: the theorems that join the mapper, the verifier and the simulator.
+// No code: the theorems that join least levels, the mapper, the verifier and the simulator.
