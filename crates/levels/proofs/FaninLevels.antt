@@ -22,7 +22,6 @@ use Rattle.netlist.specs.Source.{Structured, Unlevelled}
 use Rattle.netlist.proofs.Checks.{arity-slots}
 use Rattle.fanout.specs.Nets.{sinkLimit}
 use Rattle.levels.specs.Levels.{height, sinkLevel, lowest, outputLowest, leastLevel}
-use Rattle.levels.specs.PrivateSinks.{SinksSoFar}
 use Rattle.levels.specs.PrivateLevels.{entries, entryPlace, faninEntry, EntriesInside, Raised, Unraised, WorkedOut, WithOutputs}
 use Rattle.levels.proofs.Lowest.{lowest-over, sinks-few, sink-small}
 
@@ -104,19 +103,6 @@ module _ (s : ℕ) (m : Netlist) (structured : Structured m) (i : ℕ) (reach : 
       (λ j u. ap (entries reach) (used-place j u) ∙ c .below (fanin m k j) (omega (arith, structured .earlier k j l u)))
       ∙ sym (lowest-over s m structured k l)
 
--- all sinks are counted
-pub sinks-unraised : (source : List ℕ) (s n : ℕ) (sinks levels : List ℕ) → Unlevelled source s → n ≡ recordCount source →
-    SinksSoFar (netlist source) (recordCount source) sinks → recordCount source < length sinks → recordCount source ≤ length levels →
-    Unraised source s n sinks levels
-unfolding feeds
-sinks-unraised source s n sinks levels u e c l h =
-    record {
-      unlevelled = u;
-      all = e;
-      raised = record { room = l; below = λ d b. absurd (omega arith); rest = λ d a b. c .at d b };
-      enough = h;
-    }
-
 -- levels are worked out below k
 pub record Levelling (source : List ℕ) (s n : ℕ) (reach₀ levels₀ reach levels : List ℕ) (top k : ℕ) : Type 0 where
   pub unlevelled : Unlevelled source s
@@ -130,12 +116,12 @@ pub record Levelling (source : List ℕ) (s n : ℕ) (reach₀ levels₀ reach l
   pub levels-long : length levels ≡ length levels₀
 
 module _ (source : List ℕ) (s n : ℕ) (reach₀ levels₀ : List ℕ) where
-  pub levelling-start : Unraised source s n reach₀ levels₀ → Levelling source s n reach₀ levels₀ reach₀ levels₀ 0 0
+  pub levelling-start : Unraised source s reach₀ levels₀ → n ≡ recordCount source → Levelling source s n reach₀ levels₀ reach₀ levels₀ 0 0
   unfolding largest
-  levelling-start u =
+  levelling-start u e =
       record {
         unlevelled = u .unlevelled;
-        all = u .all;
+        all = e;
         within = omega arith;
         raised = u .raised;
         enough = u .enough;

@@ -1,5 +1,5 @@
 -- Laws of the sinks counted slot by slot and record by record, while checks 4 to 6 pass.
-use Prim.Native.Nat.{ℕ, suc, _+_, _≤_, _<_}
+use Prim.Native.Nat.{ℕ, suc, _+_, _^_, _≤_, _<_}
 use native.Mathlib.Decide.{decLt}
 use native.Mathlib.Numerals.{add-one}
 use native.Mathlib.Omega.{arith}
@@ -13,15 +13,17 @@ use Rattle.facts.specs.declared.Checked.the-variants.{Passed, Refused}
 use Rattle.facts.specs.Checks.{scan}
 use Rattle.facts.specs.Sums.{bit, sum, count, count₂}
 use Rattle.facts.proofs.Loops.{Scanning, scan-start, scan-more, scan-stop, scan-end}
+use Rattle.facts.proofs.Reflect.{then-go, then-stop}
 use Rattle.facts.proofs.Refusals.{passed-refused}
 use Rattle.facts.proofs.Sums.{count-suc, count-le, count-used, count₂-le}
 use Rattle.netlist.specs.declared.Record.{Record}
 use Rattle.netlist.specs.Kinds.{slots, sourceLimit, arity}
 use Rattle.netlist.specs.Records.{Netlist, netlist, recordCount, recordAt, slot, names}
-use Rattle.netlist.specs.Checks.{badSlots, structureOf, structureAt}
+use Rattle.netlist.specs.Checks.{sizeChecks, structureOf, structureAt, structureChecks}
 use Rattle.netlist.proofs.Checks.{arity-slots, slots-good, fanin-inside}
+use Rattle.netlist.proofs.Source.{size-passed}
 use Rattle.fanout.proofs.Rows.{added-at}
-use Rattle.levels.specs.PrivateSinks.{SlotsFit, SinksAdded, SinksSoFar, Counting, CountedIfPassed, Uncounted, AllCountedIfPassed}
+use Rattle.levels.specs.PrivateSinks.{SlotsFit, SinksAdded, SinksSoFar, Counting, CountedIfPassed, Uncounted, AllCountedIfPassed, Zeros, StructuredIfPassed}
 
 -- the first j slots are counted, of those that fit
 pub record Adding (r : Record) (used j : ℕ) (before sinks : List ℕ) : Type 0 where
@@ -171,3 +173,25 @@ module _ (source : List ℕ) (n : ℕ) (before : List ℕ) where
           long = c .long;
           counted = λ q. subst (λ (i : ℕ). SinksSoFar (netlist source) i sinks) e (c .so-far);
         }
+
+-- 2 and 3, then the records
+module _ (source sinks : List ℕ) (z : Zeros sinks) (a : Checked) (e : a ≡ sizeChecks source) where
+  module _ (p : a ≡ Passed) (n : ℕ) (f : n ≡ recordCount source) where
+    few : recordCount source ≤ sourceLimit
+    few = size-passed source .0 (sym e ∙ p) .1
+
+    pub count-fits : n < 2 ^ 32
+    count-fits = omega (arith, few)
+
+    pub uncounted : Uncounted source n sinks
+    uncounted = record { all = f; few = few; long = omega (arith, few, z .long); zeros = z .zeros }
+
+  pub structure-passed : (b : Checked) (after : List ℕ) → a ≡ Passed → AllCountedIfPassed source b sinks after → StructuredIfPassed source b sinks after
+  unfolding structureChecks
+  structure-passed b after p c =
+      record { answer = then-go a (sizeChecks source) _ e b p (c .answer); long = c .long; counted = c .counted }
+
+  pub structure-refused : (number place : ℕ) → a ≡ Refused number place → StructuredIfPassed source (Refused number place) sinks sinks
+  unfolding structureChecks
+  structure-refused number place p =
+      record { answer = then-stop a (sizeChecks source) _ e number place p; long = refl; counted = λ h. absurd (passed-refused number place (sym h)) }

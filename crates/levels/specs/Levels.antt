@@ -65,11 +65,17 @@ copyChecks level source area = scan (highCheck level) 0 (recordCount source) and
 abbrev pub levelled : (ℕ → ℕ) → List ℕ → List ℕ
 levelled level source = withLevels level source (recordCount source)
 
+-- the same of the least levels
+abbrev pub leastChecks : List ℕ → ℕ → List ℕ → Checked
+leastChecks source s area = copyChecks (leastLevel s (netlist source)) source area
+
+abbrev pub leastCopy : List ℕ → ℕ → List ℕ
+leastCopy source s = levelled (leastLevel s (netlist source)) source
+
 -- 1 to 6, 22, 23
 unfoldable pub levelsAnswer : List ℕ → ℕ → List ℕ → Checked
-levelsAnswer source s area =
-    (capacityCheck s andThen structureChecks source) andThen copyChecks (leastLevel s (netlist source)) source area
+levelsAnswer source s area = (capacityCheck s andThen structureChecks source) andThen leastChecks source s area
 
 -- the area: the source with its least levels; a refusal leaves it
 unfoldable pub levelsArea : List ℕ → ℕ → List ℕ → List ℕ
-levelsArea source s area = unlessRefused (levelsAnswer source s area) (levelled (leastLevel s (netlist source)) source) area
+levelsArea source s area = unlessRefused (levelsAnswer source s area) (leastCopy source s) area

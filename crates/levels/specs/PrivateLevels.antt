@@ -5,15 +5,11 @@ use mathlib.Core.Bool.{cond}
 use mathlib.Core.List.{List}
 use lib.ListN.{length, getD}
 use lib.Dec.{eqb}
-use Rattle.facts.specs.declared.Checked.{Checked}
-use Rattle.facts.specs.declared.Checked.the-variants.{Passed}
-use Rattle.facts.specs.Checks.{_andThen_, scan}
 use Rattle.netlist.specs.declared.Record.{Record}
 use Rattle.netlist.specs.Kinds.{slots, unused, sourceLimit, arity}
 use Rattle.netlist.specs.Records.{Netlist, netlist, recordCount, slot, feeds, isOutput}
-use Rattle.netlist.specs.Checks.{sizeChecks, structureAt}
 use Rattle.netlist.specs.Source.{Unlevelled}
-use Rattle.levels.specs.Levels.{sinkLevel, lowest, outputLevel, leastLevel, copyChecks}
+use Rattle.levels.specs.Levels.{sinkLevel, lowest, outputLevel}
 
 -- an array's entries, by index
 abbrev pub entries : List ℕ → ℕ → ℕ
@@ -40,9 +36,8 @@ pub record Raised (s : ℕ) (m : Netlist) (k : ℕ) (reach : List ℕ) : Type 0 
   pub rest : (d : ℕ) → k ≤ d → d < length reach → getD reach d 0 ≡ feeds m d
 
 -- sinks are counted, and there is a level for every record
-pub record Unraised (source : List ℕ) (s n : ℕ) (reach levels : List ℕ) : Type 0 where
+pub record Unraised (source : List ℕ) (s : ℕ) (reach levels : List ℕ) : Type 0 where
   pub unlevelled : Unlevelled source s
-  pub all : n ≡ recordCount source
   pub raised : Raised s (netlist source) 0 reach
   pub enough : recordCount source ≤ length levels
 
@@ -56,16 +51,3 @@ pub record WorkedOut (source : List ℕ) (s : ℕ) (before levels : List ℕ) (t
 pub record WithOutputs (m : Netlist) (top : ℕ) (before levels : List ℕ) : Type 0 where
   pub long : length levels ≡ length before
   pub at : (k : ℕ) → k < m .size → getD levels k 0 ≡ cond (isOutput m k) top (getD before k 0)
-
--- 4 to 6 of every record, then 22 and 23
-abbrev pub recordsAnswer : List ℕ → ℕ → List ℕ → Checked
-recordsAnswer source s area =
-    scan (structureAt (netlist source)) 0 (recordCount source) andThen copyChecks (leastLevel s (netlist source)) source area
-
--- 1 to 3 have passed, one array is all zeros, and both are long enough
-pub record Unchecked (source : List ℕ) (s : ℕ) (reach levels : List ℕ) : Type 0 where
-  pub allowed : (2 ≤ s) × (s ≤ 4)
-  pub sized : sizeChecks source ≡ Passed
-  pub room : recordCount source < length reach
-  pub zeros : (d : ℕ) → getD reach d 0 ≡ 0
-  pub enough : recordCount source ≤ length levels

@@ -11,7 +11,7 @@ use Rattle.facts.specs.Sums.{count, count₂}
 use Rattle.netlist.specs.declared.Record.{Record}
 use Rattle.netlist.specs.Kinds.{slots, sourceLimit}
 use Rattle.netlist.specs.Records.{Netlist, netlist, recordCount, slot, names}
-use Rattle.netlist.specs.Checks.{structureAt}
+use Rattle.netlist.specs.Checks.{structureAt, structureChecks}
 
 -- the first slots of a record name entries of an array, and its numbers have room for one more of each
 pub record SlotsFit (r : Record) (used : ℕ) (sinks : List ℕ) : Type 0 where
@@ -50,5 +50,16 @@ pub record Uncounted (source : List ℕ) (n : ℕ) (sinks : List ℕ) : Type 0 w
 -- the answer of checks 4 to 6 of all records; where they pass, every slot is counted
 pub record AllCountedIfPassed (source : List ℕ) (a : Checked) (before after : List ℕ) : Type 0 where
   pub answer : a ≡ scan (structureAt (netlist source)) 0 (recordCount source)
+  pub long : length after ≡ length before
+  pub counted : a ≡ Passed → SinksSoFar (netlist source) (recordCount source) after
+
+-- zeros, an entry for every record of the largest source and one more
+pub record Zeros (sinks : List ℕ) : Type 0 where
+  pub long : length sinks ≡ suc sourceLimit
+  pub zeros : (d : ℕ) → getD sinks d 0 ≡ 0
+
+-- the answer of checks 2 to 6; where they pass, every slot is counted
+pub record StructuredIfPassed (source : List ℕ) (a : Checked) (before after : List ℕ) : Type 0 where
+  pub answer : a ≡ structureChecks source
   pub long : length after ≡ length before
   pub counted : a ≡ Passed → SinksSoFar (netlist source) (recordCount source) after

@@ -1,8 +1,8 @@
-// Checks 4 to 6 of a source's records, and each record's number of sinks, in one pass.
+// Checks 2 to 6, and each record's number of sinks, in one pass over the records.
 ghost use mathlib.Core.Path.{_≡_};
 ghost use Rattle.netlist.specs.Kinds;
 ghost use Rattle.netlist.specs.Records.{recordAt};
-ghost use Rattle.levels.specs.PrivateSinks.{SlotsFit, SinksAdded, Counting, CountedIfPassed, Uncounted, AllCountedIfPassed};
+ghost use Rattle.levels.specs.PrivateSinks.{SlotsFit, SinksAdded, Counting, CountedIfPassed, Uncounted, AllCountedIfPassed, Zeros, StructuredIfPassed};
 use facts::Checked;
 use netlist::AND;
 use netlist::INPUT;
@@ -59,7 +59,7 @@ fn check_record(source: &[u8], k: u32, r: Record, sinks: &mut [u16]) -> Checked
 }
 
 // Checks 4 to 6 of every record, rising; where they pass, every slot is counted.
-pub(crate) fn check_records(source: &[u8], n: u32, sinks: &mut [u16]) -> Checked
+fn check_records(source: &[u8], n: u32, sinks: &mut [u16]) -> Checked
     requires { ⌜ Uncounted (now source) n (now sinks) ⌝ }
     ensures { λ a. ⌜ AllCountedIfPassed (now (source .entry)) a (now (sinks .entry)) (now (sinks .exit)) ⌝ }
 {
@@ -76,4 +76,16 @@ pub(crate) fn check_records(source: &[u8], n: u32, sinks: &mut [u16]) -> Checked
         k += 1;
     }
     Checked::Passed
+}
+
+// Checks 2 to 6; where they pass, every slot is counted.
+pub(crate) fn check_structured(source: &[u8], sinks: &mut [u16]) -> Checked
+    requires { ⌜ Zeros (now sinks) ⌝ }
+    ensures { λ a. ⌜ StructuredIfPassed (now (source .entry)) a (now (sinks .entry)) (now (sinks .exit)) ⌝ }
+{
+    let size = netlist::source_reader::check_size(source);
+    match size {
+        Checked::Passed => check_records(source, netlist::record_count(source) as u32, sinks),
+        Checked::Refused(number, place) => Checked::Refused(number, place),
+    }
 }

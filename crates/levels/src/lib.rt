@@ -2,10 +2,9 @@
 ghost use mathlib.Core.Path.{_≡_};
 ghost use Prim.Native.Nat.{_≤_};
 ghost use Rattle.facts.specs.Checks.{_andThen_, unlessRefused};
-ghost use Rattle.netlist.specs.Records.{netlist};
 ghost use Rattle.netlist.specs.Checks.{structureChecks};
-ghost use Rattle.levels.specs.Levels.{leastLevel, copyChecks, levelled, levelsAnswer, levelsArea};
-ghost use Rattle.levels.specs.PrivateLevels.{Unraised, Unchecked, recordsAnswer};
+ghost use Rattle.levels.specs.Levels.{leastChecks, leastCopy, levelsAnswer, levelsArea};
+ghost use Rattle.levels.specs.PrivateLevels.{Unraised};
 use facts::Checked;
 use netlist::SOURCE_LIMIT;
 
@@ -20,52 +19,32 @@ const ENTRIES: usize = SOURCE_LIMIT + 1;
 fn level_counted(
     source: &[u8],
     capacity: u32,
-    n: u32,
     reach: &mut [u16],
     levels: &mut [u16],
     area: &mut [u8],
 ) -> Checked
-    requires { ⌜ Unraised (now source) capacity n (now reach) (now levels) ⌝ }
-    ensures { λ a. ⌜ a ≡ copyChecks (leastLevel capacity (netlist (now (source .entry)))) (now (source .entry)) (now (area .entry)) ⌝ }
-    ensures { λ _. ⌜ now (area .exit) ≡ unlessRefused (copyChecks (leastLevel capacity (netlist (now (source .entry)))) (now (source .entry)) (now (area .entry))) (levelled (leastLevel capacity (netlist (now (source .entry)))) (now (source .entry))) (now (area .entry)) ⌝ }
+    requires { ⌜ Unraised (now source) capacity (now reach) (now levels) ⌝ }
+    ensures { λ a. ⌜ a ≡ leastChecks (now (source .entry)) capacity (now (area .entry)) ⌝ }
+    ensures { λ _. ⌜ now (area .exit) ≡ unlessRefused (leastChecks (now (source .entry)) capacity (now (area .entry))) (leastCopy (now (source .entry)) capacity) (now (area .entry)) ⌝ }
 {
+    let n = netlist::record_count(source) as u32;
     let top = raising::raise(source, capacity as usize, n as usize, reach, levels);
     raising::set_outputs(source, n as usize, top, levels);
     writing::check_and_write(source, n, levels, area)
 }
 
-// Checks 4 to 6, 22 and 23, in arrays that are long enough; accepted, the source with its least levels.
-fn level_sized(
-    source: &[u8],
-    capacity: u32,
-    reach: &mut [u16],
-    levels: &mut [u16],
-    area: &mut [u8],
-) -> Checked
-    requires { ⌜ Unchecked (now source) capacity (now reach) (now levels) ⌝ }
-    ensures { λ a. ⌜ a ≡ recordsAnswer (now (source .entry)) capacity (now (area .entry)) ⌝ }
-    ensures { λ _. ⌜ now (area .exit) ≡ unlessRefused (recordsAnswer (now (source .entry)) capacity (now (area .entry))) (levelled (leastLevel capacity (netlist (now (source .entry)))) (now (source .entry))) (now (area .entry)) ⌝ }
-{
-    let n = netlist::record_count(source) as u32;
-    let checked = counting::check_records(source, n, reach);
-    match checked {
-        Checked::Passed => level_counted(source, capacity, n, reach, levels, area),
-        Checked::Refused(number, place) => Checked::Refused(number, place),
-    }
-}
-
 // Checks 2 to 6, 22 and 23; accepted, the source with its least levels.
 fn level_source(source: &[u8], capacity: u32, area: &mut [u8]) -> Checked
     requires { ⌜ (2 ≤ capacity) × (capacity ≤ 4) ⌝ }
-    ensures { λ a. ⌜ a ≡ (structureChecks (now (source .entry)) andThen copyChecks (leastLevel capacity (netlist (now (source .entry)))) (now (source .entry)) (now (area .entry))) ⌝ }
-    ensures { λ _. ⌜ now (area .exit) ≡ unlessRefused (structureChecks (now (source .entry)) andThen copyChecks (leastLevel capacity (netlist (now (source .entry)))) (now (source .entry)) (now (area .entry))) (levelled (leastLevel capacity (netlist (now (source .entry)))) (now (source .entry))) (now (area .entry)) ⌝ }
+    ensures { λ a. ⌜ a ≡ (structureChecks (now (source .entry)) andThen leastChecks (now (source .entry)) capacity (now (area .entry))) ⌝ }
+    ensures { λ _. ⌜ now (area .exit) ≡ unlessRefused (structureChecks (now (source .entry)) andThen leastChecks (now (source .entry)) capacity (now (area .entry))) (leastCopy (now (source .entry)) capacity) (now (area .entry)) ⌝ }
 {
-    let size = netlist::source_reader::check_size(source);
-    match size {
+    let mut reach = [0u16; ENTRIES];
+    let checked = counting::check_structured(source, &mut reach);
+    match checked {
         Checked::Passed => {
-            let mut reach = [0u16; ENTRIES];
             let mut levels = [0u16; SOURCE_LIMIT];
-            level_sized(source, capacity, &mut reach, &mut levels, area)
+            level_counted(source, capacity, &mut reach, &mut levels, area)
         }
         Checked::Refused(number, place) => Checked::Refused(number, place),
     }

@@ -118,7 +118,8 @@ pub(crate) fn raise(
     reach: &mut [u16],
     levels: &mut [u16],
 ) -> u16
-    requires { ⌜ Unraised (now source) capacity n (now reach) (now levels) ⌝ }
+    requires { ⌜ Unraised (now source) capacity (now reach) (now levels) ⌝ }
+    requires { ⌜ n ≡ recordCount (now source) ⌝ }
     ensures { λ top. ⌜ WorkedOut (now (source .entry)) capacity (now (levels .entry)) (now (levels .exit)) top ⌝ }
 {
     let mut top: u16 = 0;

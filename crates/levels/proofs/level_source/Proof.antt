@@ -1,46 +1,51 @@
--- `level_source` meets its contract: the arrays are long enough for every source that passes 2 and 3.
+-- `level_source` meets its contract: 2 to 6 first, then the least levels.
 use borrow.Author.Needs.{needs}
-use Rattle.levels.proofs.Answering.{unchecked, sized-answered, sized-written, size-refused, size-kept}
+use Rattle.facts.proofs.Reflect.{then-stop, then-go, stop-kept, go-written}
+use Rattle.levels.proofs.Answering.{zeros-start, unraised}
 use Rattle.levels.proofs.level_source.Statement.{statement}
 use Rattle.levels.proofs.level_source.Tie as tie
 
-check-size-requires : tie.Need-check-size-requires
-check-size-requires c κs = search needs
+slice-aggregate-check-structured : tie.Need-slice-aggregate-check-structured
+slice-aggregate-check-structured c = search needs
+
+check-structured-requires : tie.Need-check-structured-requires
+check-structured-requires c κs = search zeros-start
 
 enum-told : tie.Need-enum-told
 enum-told c = search needs
 
-slice-aggregate-level-sized : tie.Need-slice-aggregate-level-sized
-slice-aggregate-level-sized c = search needs
+slice-aggregate-level-counted : tie.Need-slice-aggregate-level-counted
+slice-aggregate-level-counted c = search needs
 
-slice-aggregate-level-sized-2 : tie.Need-slice-aggregate-level-sized-2
-slice-aggregate-level-sized-2 c = search needs
+slice-aggregate-level-counted-2 : tie.Need-slice-aggregate-level-counted-2
+slice-aggregate-level-counted-2 c = search needs
 
-level-sized-requires : tie.Need-level-sized-requires
-level-sized-requires c κs = search unchecked
+level-counted-requires : tie.Need-level-counted-requires
+level-counted-requires c κs = search (unraised, zeros-start)
 
-enum-known-size : tie.Need-enum-known-size
-enum-known-size c = search needs
+enum-known-checked : tie.Need-enum-known-checked
+enum-known-checked c = search needs
 
 same-length : tie.Need-same-length
 same-length c = search needs
 
 returns : tie.Need-returns
-returns c = (search sized-answered, search sized-written)
+returns c = (search then-go, search go-written)
 
 returns-2 : tie.Need-returns-2
-returns-2 c = (search size-refused, search size-kept)
+returns-2 c = (search then-stop, search stop-kept)
 
 pub level-source-spec : {M : Type 1} → statement M
 level-source-spec =
     tie.close
     (tie.spec
-    check-size-requires
+    slice-aggregate-check-structured
+    check-structured-requires
     enum-told
-    slice-aggregate-level-sized
-    slice-aggregate-level-sized-2
-    level-sized-requires
-    enum-known-size
+    slice-aggregate-level-counted
+    slice-aggregate-level-counted-2
+    level-counted-requires
+    enum-known-checked
     same-length
     returns
     returns-2)
