@@ -1,5 +1,5 @@
--- Laws for loops that search a range: the answer from here on is the answer (`seek`, `scan`), or nothing was found so far (`any`).
-use Prim.Native.Nat.{ℕ, zero, suc, _+_, _-_, _<_, _≤_}
+-- Laws for loops over a range: the answer from here on is the answer (`seek`, `scan`), nothing was found so far (`any`), or the largest so far (`largest`).
+use Prim.Native.Nat.{ℕ, zero, suc, _+_, _-_, max, _<_, _≤_}
 use native.Mathlib.Numerals.{add-one}
 use native.Mathlib.Nat.{add-sub-of-le, add-zero, zero-add, suc-add, add-suc}
 use native.Mathlib.Decide.{ℕ-discrete}
@@ -9,7 +9,7 @@ use mathlib.Core.Bool.{Bool, true, false, cond}
 use Rattle.facts.specs.declared.Checked.{Checked}
 use Rattle.facts.specs.declared.Checked.the-variants.{Passed, Refused}
 use Rattle.facts.specs.Checks.{_andThen_, scan}
-use Rattle.facts.specs.Sums.{any, seek}
+use Rattle.facts.specs.Sums.{any, seek, largest}
 use Rattle.facts.proofs.Sums.{any-some}
 use Rattle.facts.proofs.Reflect.{then-assoc}
 
@@ -107,6 +107,24 @@ seek-before p y (suc m) k a b = go (p y) refl b (seek-before p (suc y) m k)
           | yes s ↦ subst (λ (i : ℕ). p i ≡ false) s e
           | no n ↦ r (omega arith) l
         ]
+
+-- the largest of the values so far
+pub record LargestSoFar (f : ℕ → ℕ) (n v k : ℕ) : Type 0 where
+  pub within : k ≤ n
+  pub so-far : v ≡ largest f k
+
+module _ (f : ℕ → ℕ) (n : ℕ) where
+  pub largest-start : LargestSoFar f n 0 0
+  unfolding largest
+  largest-start = record { within = omega arith; so-far = refl }
+
+  module _ (v k : ℕ) (c : LargestSoFar f n v k) where
+    pub largest-more : (x next : ℕ) → k < n → x ≡ f k → next ≡ max v x → LargestSoFar f n next (k + 1)
+    unfolding largest
+    largest-more x next h p e = record { within = omega arith; so-far = e ∙ rw (add-one k, p, c .so-far) refl }
+
+    pub largest-end : n ≤ k → v ≡ largest f n
+    largest-end h = let e : k ≡ n = omega (arith, c .within) in c .so-far ∙ ap (largest f) e
 
 -- the answer from k on is the answer
 pub record Scanning (f : ℕ → Checked) (n k : ℕ) : Type 0 where

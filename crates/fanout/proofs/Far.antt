@@ -1,17 +1,16 @@
 -- A net whose sinks all stand far enough has a tree: each distance on the way to them divides what is left by s.
-use Prim.Native.Nat.{ℕ, zero, suc, _+_, _*_, _-_, _^_, _≤_, _<_}
+use Prim.Native.Nat.{ℕ, zero, suc, _*_, _^_, _≤_, _<_}
 use native.Mathlib.Nat.{mul-assoc, mul-comm, mul-one, mul-suc, pow-zero, pow-suc}
 use native.Mathlib.Omega.{arith}
-use mathlib.Core.Path.{_≡_, refl, sym, ap, subst, _∙_}
-use mathlib.Core.Bool.{true, _&&_}
+use mathlib.Core.Path.{_≡_, sym, ap, _∙_}
+use mathlib.Core.Bool.{true}
 use mathlib.Core.List.{List, [], _∷_}
-use lib.ListN.{length, getD, drop}
-use lib.Dec.{eqb}
+use lib.ListN.{length, getD}
 use borrow.Author.Tests.{le-leb, eqb-true}
 use Rattle.facts.specs.Sums.{sum, count}
 use Rattle.facts.proofs.Bools.{and-l, and-r}
 use Rattle.facts.proofs.Sums.{sum-cong, sum-first, values-le, count-none}
-use Rattle.fanout.specs.Nets.{up, nodes, hasTree}
+use Rattle.fanout.specs.Nets.{nodes, hasTree}
 use Rattle.fanout.specs.Trees.{Net, RowOf, sinksAt}
 use Rattle.fanout.specs.Promises.{FarTree}
 use Rattle.fanout.proofs.Nets.{up-le}

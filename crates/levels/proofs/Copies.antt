@@ -1,22 +1,20 @@
 -- A source with its least levels: it is a source, it differs in level fields alone, and each of its nets has a tree.
-use Prim.Native.Nat.{ℕ, suc, _+_, _*_, _-_, _/_, _%_, _≤_, _<_}
+use Prim.Native.Nat.{ℕ, suc, _+_, _*_, _/_, _%_, _≤_, _<_}
 use native.Mathlib.Decide.{decLt}
 use native.Mathlib.Omega.{arith}
-use mathlib.Core.Path.{_≡_, refl, sym, ap, ap₂, subst, _∙_}
-use mathlib.Core.Logic.{_≢_}
-use mathlib.Core.Bool.{true, _&&_}
+use mathlib.Core.Path.{_≡_, sym, ap, ap₂, _∙_}
+use mathlib.Core.Bool.{_&&_}
 use mathlib.Core.List.{List}
-use lib.ListN.{length, getD}
+use lib.ListN.{length}
 use lib.Dec.{ltb, eqb}
 use borrow.Author.Tests.{ltb-true, eqb-true, eq-eqb}
 use Rattle.facts.specs.Sums.{count₂, seek}
 use Rattle.facts.proofs.Bools.{and-l, and-r, true-false}
-use Rattle.facts.proofs.Loops.{seek-within, seek-true, seek-before}
+use Rattle.facts.proofs.Loops.{seek-true, seek-before}
 use Rattle.facts.proofs.Sums.{count₂-flat, count₂-cong}
 use Rattle.netlist.specs.declared.Record.{Record}
 use Rattle.netlist.specs.Kinds.{width, slots, topLevel, output, arity}
 use Rattle.netlist.specs.Records.{Netlist, netlist, recordCount, recordAt, slot, used, fanin, names, feeds, isOutput, depth}
-use Rattle.netlist.specs.Bytes.{withLevels}
 use Rattle.netlist.specs.Source.{IsSource, Source, Unlevelled}
 use Rattle.netlist.proofs.Levels.{length-levels, levels-other, record-levelled}
 use Rattle.fanout.specs.Nets.{row}

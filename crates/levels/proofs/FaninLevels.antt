@@ -3,8 +3,8 @@ use Prim.Native.Nat.{ℕ, suc, _+_, _*_, max, _≤_, _<_}
 use native.Mathlib.Decide.{decLt, ℕ-discrete}
 use native.Mathlib.Numerals.{add-one}
 use native.Mathlib.Omega.{arith}
-use mathlib.Core.Path.{_≡_, refl, sym, ap, ap₂, subst, _∙_}
-use mathlib.Core.Bool.{true, cond}
+use mathlib.Core.Path.{_≡_, refl, sym, ap, ap₂, _∙_}
+use mathlib.Core.Bool.{cond}
 use mathlib.Core.List.{List}
 use lib.ListN.{length, getD, set, length-set}
 use lib.Seq.{getD-set-same, getD-set-other}
@@ -25,24 +25,6 @@ use Rattle.levels.specs.Levels.{height, sinkLevel, lowest, outputLowest,
 use Rattle.levels.specs.PrivateLevels.{entries, entryPlace, faninEntry, EntriesInside, Raised, Unraised, WorkedOut, WithOutputs}
 use Rattle.levels.proofs.Lowest.{lowest-over, sinks-few, sink-small}
 
--- the largest entry, slot by slot
-pub record LargestBelow (reach : List ℕ) (n : ℕ) (r : Record) (level j : ℕ) : Type 0 where
-  pub within : j ≤ slots
-  pub so-far : level ≡ largest (faninEntry reach n r) j
-
-module _ (reach : List ℕ) (n : ℕ) (r : Record) where
-  pub largest-start : LargestBelow reach n r 0 0
-  unfolding largest
-  largest-start = record { within = omega arith; so-far = refl }
-
-  module _ (level j : ℕ) (c : LargestBelow reach n r level j) where
-    pub largest-more : (x y next : ℕ) → j < slots → x ≡ slot r j → y ≡ entryPlace n x → next ≡ max level (getD reach y 0) → LargestBelow reach n r next (j + 1)
-    unfolding largest
-    largest-more x y next h p q e = record { within = omega arith; so-far = e ∙ rw (add-one j, q, p, c .so-far) refl }
-
-    pub largest-end : slots ≤ j → level ≡ largest (faninEntry reach n r) slots
-    largest-end h = let e : j ≡ slots = omega (arith, c .within) in c .so-far ∙ ap (largest (faninEntry reach n r)) e
-
 -- the entry of a slot stands within
 module _ (reach : List ℕ) (n : ℕ) (r : Record) (i : EntriesInside reach n r) (j x y : ℕ) (h : j < slots) (p : x ≡ slot r j) (q : y ≡ entryPlace n x) where
   pub entry-inside : y < length reach
@@ -50,6 +32,9 @@ module _ (reach : List ℕ) (n : ℕ) (r : Record) (i : EntriesInside reach n r)
 
   pub entry-near : Fits w64 (y * 2)
   entry-near = let near = i .near j h in omega (arith, near, q ∙ ap (entryPlace n) p)
+
+  pub entry-is : getD reach y 0 ≡ faninEntry reach n r j
+  entry-is = ap (entries reach) (q ∙ ap (entryPlace n) p)
 
 -- an output has one used slot
 pub output-level : (reach : List ℕ) (n : ℕ) (r : Record) (x y : ℕ) → EntriesInside reach n r → r .kind ≡ output → x ≡ slot r 0 → y ≡ entryPlace n x →

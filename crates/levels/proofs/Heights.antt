@@ -11,7 +11,6 @@ use borrow.Author.Tests.{leb-true, leb-false, le-leb, lt-leb}
 use Rattle.facts.specs.Sums.{seek}
 use Rattle.facts.proofs.Loops.{Seeking, seek-start, seek-more, seek-here, seek-end, seek-within, seek-true, seek-before}
 use Rattle.fanout.specs.Nets.{sinkLimit}
-use Rattle.levels.specs.Rules.{Height}
 use Rattle.levels.specs.Levels.{carries, height}
 use Rattle.levels.specs.Promises.{HeightExact}
 

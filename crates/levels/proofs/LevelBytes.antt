@@ -1,5 +1,5 @@
 -- Laws of checks 22 and 23 and of the copy, by levels in an array.
-use Prim.Native.Nat.{ℕ, _+_, _*_, max, _≤_, _<_}
+use Prim.Native.Nat.{ℕ, _+_, _*_, _≤_, _<_}
 use native.Mathlib.Numerals.{add-one}
 use native.Mathlib.Omega.{arith}
 use mathlib.Core.Path.{_≡_, refl, sym, ap, _∙_}
@@ -29,29 +29,11 @@ module _ (levels : List ℕ) (n k : ℕ) (c : Scanning (highCheck (entries level
   pub low-here : getD levels k 0 ≤ topLevel → Scanning (highCheck (entries levels)) n (k + 1)
   low-here g = scan-more (highCheck (entries levels)) n k Passed c h (rw (le-ltb topLevel (getD levels k 0) g)) refl
 
--- the largest of the levels below k
-pub record HighestBelow (levels : List ℕ) (n high k : ℕ) : Type 0 where
-  pub within : k ≤ n
-  pub so-far : high ≡ largest (entries levels) k
-
-module _ (levels : List ℕ) (n : ℕ) where
-  pub highest-start : HighestBelow levels n 0 0
-  unfolding largest
-  highest-start = record { within = omega arith; so-far = refl }
-
-  module _ (high k : ℕ) (c : HighestBelow levels n high k) where
-    pub highest-more : (next : ℕ) → k < n → next ≡ max high (getD levels k 0) → HighestBelow levels n next (k + 1)
-    unfolding largest
-    highest-more next h e = record { within = omega arith; so-far = e ∙ rw (add-one k, c .so-far) refl }
-
-    pub highest-end : n ≤ k → high ≡ largest (entries levels) n
-    highest-end h = let e : k ≡ n = omega (arith, c .within) in c .so-far ∙ ap (largest (entries levels)) e
-
-  -- where it is not too high, none is
-  pub all-low : (high : ℕ) → high ≡ largest (entries levels) n → high ≤ topLevel → Passed ≡ scan (highCheck (entries levels)) 0 n
-  all-low high e h =
-      sym (scan-passed (highCheck (entries levels)) n .1
-      (λ k l. check-passed 22 k _ .1 (le-ltb topLevel (getD levels k 0) (omega (arith, le-largest (entries levels) k n l)))))
+-- where the largest level is not too high, none is
+pub all-low : (levels : List ℕ) (n high : ℕ) → high ≡ largest (entries levels) n → high ≤ topLevel → Passed ≡ scan (highCheck (entries levels)) 0 n
+all-low levels n high e h =
+    sym (scan-passed (highCheck (entries levels)) n .1
+    (λ k l. check-passed 22 k _ .1 (le-ltb topLevel (getD levels k 0) (omega (arith, le-largest (entries levels) k n l)))))
 
 -- the levels of the records below k are written
 pub record LevelsWrittenBelow (level : ℕ → ℕ) (source : List ℕ) (n k : ℕ) (area : List ℕ) : Type 0 where

@@ -4,19 +4,19 @@ use native.Mathlib.Decide.{decLt}
 use native.Mathlib.Omega.{arith}
 use mathlib.Core.Path.{_≡_, refl, sym, ap, subst, _∙_}
 use mathlib.Core.Bool.{Bool, true, false, cond}
-use mathlib.Core.List.{List, [], _∷_, _++_}
+use mathlib.Core.List.{[], _∷_}
 use lib.ListN.{length, getD, length-append, List·getD-append}
 use lib.Seq.{getD-at}
 use borrow.Author.Tests.{ltb-true, eq-eqb, ne-eqb, eqb-true}
 use Rattle.facts.specs.Sums.{sum, largest}
 use Rattle.facts.proofs.Sums.{sum-add, sum-const, sum-more, count₂-le, fibres, le-largest, largest-le, largest-cong}
-use Rattle.netlist.specs.Kinds.{slots, sourceLimit, input, output, arity}
+use Rattle.netlist.specs.Kinds.{slots, sourceLimit, output, arity}
 use Rattle.netlist.specs.Records.{Netlist, netlist, used, fanin, names, feeds, isOutput}
 use Rattle.netlist.specs.Source.{Structured}
 use Rattle.fanout.specs.Nets.{sinkLimit}
-use Rattle.levels.specs.Rules.{Height, KeepsRules}
+use Rattle.levels.specs.Rules.{KeepsRules}
 use Rattle.levels.specs.Levels.{height, sinkLevel, overFanins, lowestBelow, lowest, outputLowest, outputLevel, leastLevel}
-use Rattle.levels.specs.Promises.{LeastOf, LevelsLeast}
+use Rattle.levels.specs.Promises.{LevelsLeast}
 use Rattle.levels.proofs.Heights.{height-small, height-exact}
 
 module _ (s : ℕ) (m : Netlist) where

@@ -1,13 +1,12 @@
 -- Laws of the sinks counted slot by slot and record by record, while checks 4 to 6 pass.
-use Prim.Native.Nat.{ℕ, suc, _+_, _^_, _≤_, _<_}
+use Prim.Native.Nat.{ℕ, _+_, _^_, _≤_, _<_}
 use native.Mathlib.Decide.{decLt}
 use native.Mathlib.Numerals.{add-one}
 use native.Mathlib.Omega.{arith}
 use mathlib.Core.Path.{_≡_, refl, sym, ap, subst, _∙_}
-use mathlib.Core.Bool.{false}
 use mathlib.Core.List.{List}
-use lib.ListN.{length, getD, set, replicate, length-set, List·getD-eq-default}
-use lib.Dec.{ltb, eqb}
+use lib.ListN.{length, getD, set, length-set, List·getD-eq-default}
+use lib.Dec.{eqb}
 use Rattle.facts.specs.declared.Checked.{Checked}
 use Rattle.facts.specs.declared.Checked.the-variants.{Passed, Refused}
 use Rattle.facts.specs.Checks.{scan}
@@ -18,7 +17,7 @@ use Rattle.facts.proofs.Refusals.{passed-refused}
 use Rattle.facts.proofs.Sums.{count-suc, count-le, count-used, count₂-le}
 use Rattle.netlist.specs.declared.Record.{Record}
 use Rattle.netlist.specs.Kinds.{slots, sourceLimit, arity}
-use Rattle.netlist.specs.Records.{Netlist, netlist, recordCount, recordAt, slot, names}
+use Rattle.netlist.specs.Records.{netlist, recordCount, recordAt, slot, names}
 use Rattle.netlist.specs.Checks.{sizeChecks, structureOf, structureAt, structureChecks}
 use Rattle.netlist.proofs.Checks.{arity-slots, slots-good, fanin-inside}
 use Rattle.netlist.proofs.Source.{size-passed}

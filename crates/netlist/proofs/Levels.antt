@@ -13,7 +13,7 @@ use Rattle.facts.proofs.Bytes.{two-back, stores-two}
 use Rattle.facts.proofs.Lists.{tabulate-cong}
 use Rattle.netlist.specs.declared.Record.{Record}
 use Rattle.netlist.specs.Kinds.{width, slots}
-use Rattle.netlist.specs.Records.{field, recordCount, recordBytes, recordAt}
+use Rattle.netlist.specs.Records.{field, recordBytes, recordAt}
 use Rattle.netlist.specs.Bytes.{levelPlace, withLevel, withLevels}
 use Rattle.netlist.proofs.Records.{record-inside}
 

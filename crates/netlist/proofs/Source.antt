@@ -9,13 +9,12 @@ use mathlib.Core.List.{List}
 use lib.ListN.{length}
 use Rattle.facts.specs.declared.Checked.the-variants.{Passed}
 use Rattle.facts.specs.Checks.{_andThen_}
-use lib.Dec.{ltb}
-use borrow.Author.Tests.{ltb-false, leb-false, eqb-true, eq-eqb, ne-eqb}
+use borrow.Author.Tests.{leb-false, eqb-true, eq-eqb, ne-eqb}
 use Rattle.facts.specs.Sums.{any, seek}
 use Rattle.facts.proofs.Bools.{true-false}
 use Rattle.facts.proofs.Loops.{seek-none}
 use Rattle.facts.proofs.Sums.{any-some, any-none}
-use Rattle.facts.proofs.Reflect.{reflect, check-passed, then-passed, or-none}
+use Rattle.facts.proofs.Reflect.{reflect, then-passed}
 use Rattle.netlist.specs.declared.Record.{Record}
 use Rattle.netlist.specs.Kinds.{width, slots, sourceLimit, majority, output, buffer, arity, isDriver}
 use Rattle.netlist.specs.Records.{Netlist, netlist, recordCount, recordAt, isOutput, depth}

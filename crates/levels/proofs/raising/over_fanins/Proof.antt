@@ -1,13 +1,15 @@
 -- `over_fanins` meets its contract: the largest entry of the first j slots.
 use Prim.Native.Nat.{_-_}
 use borrow.Author.Needs.{needs}
+use Rattle.facts.proofs.Loops.{LargestSoFar, largest-start, largest-more, largest-end}
 use Rattle.netlist.specs.Kinds.{slots}
-use Rattle.levels.proofs.FaninLevels.{LargestBelow, largest-start, entry-inside, entry-near, largest-more, largest-end}
+use Rattle.levels.specs.PrivateLevels.{faninEntry}
+use Rattle.levels.proofs.FaninLevels.{entry-inside, entry-near, entry-is}
 use Rattle.levels.proofs.raising.over_fanins.Statement.{statement}
 use Rattle.levels.proofs.raising.over_fanins.Tie as tie
 
 abbrev Inv-loop : tie.InvT-loop
-Inv-loop reach n r level₀ j₀ level j = LargestBelow reach n r level j
+Inv-loop reach n r level₀ j₀ level j = LargestSoFar (faninEntry reach n r) slots level j
 
 abbrev μ-loop : tie.MeasureT-loop
 μ-loop reach n r level₀ j₀ level j = slots - j
@@ -37,7 +39,7 @@ loop-less : tie.Need-loop-less Inv-loop μ-loop
 loop-less c = search needs
 
 loop-again : tie.Need-loop-again Inv-loop μ-loop
-loop-again c = search largest-more
+loop-again c = search (largest-more, entry-is)
 
 returns : tie.Need-returns Inv-loop μ-loop
 returns c = search largest-end

@@ -1,18 +1,19 @@
 -- `highest` meets its contract: the largest of the levels below k.
 use Prim.Native.Nat.{_-_}
 use borrow.Author.Needs.{needs}
-use Rattle.levels.proofs.LevelBytes.{HighestBelow, highest-start, highest-more, highest-end}
+use Rattle.facts.proofs.Loops.{LargestSoFar, largest-start, largest-more, largest-end}
+use Rattle.levels.specs.PrivateLevels.{entries}
 use Rattle.levels.proofs.writing.highest.Statement.{statement}
 use Rattle.levels.proofs.writing.highest.Tie as tie
 
 abbrev Inv-loop : tie.InvT-loop
-Inv-loop levels n high₀ k₀ high k = HighestBelow levels n high k
+Inv-loop levels n high₀ k₀ high k = LargestSoFar (entries levels) n high k
 
 abbrev μ-loop : tie.MeasureT-loop
 μ-loop levels n high₀ k₀ high k = n - k
 
 loop-holds : tie.Need-loop-holds Inv-loop μ-loop
-loop-holds c = search highest-start
+loop-holds c = search largest-start
 
 cast-larger : tie.Need-cast-larger Inv-loop μ-loop
 cast-larger c = search needs
@@ -33,10 +34,10 @@ loop-less : tie.Need-loop-less Inv-loop μ-loop
 loop-less c = search needs
 
 loop-again : tie.Need-loop-again Inv-loop μ-loop
-loop-again c = search highest-more
+loop-again c = search largest-more
 
 returns : tie.Need-returns Inv-loop μ-loop
-returns c = search highest-end
+returns c = search largest-end
 
 pub highest-spec : {M : Type 1} → statement M
 highest-spec =
