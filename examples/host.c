@@ -1,5 +1,5 @@
-/* A small host: maps the netlist of a file, verifies what was written, runs four rows of inputs
- * through it, and prints what it got.
+/* A small host: works out the least levels of the netlist of a file, maps the netlist, verifies what
+ * was written, runs four rows of inputs through it, and prints what it got.
  *
  *   host FILE     one byte for the capacity, then the source (examples/case.bin is such a file)
  */
@@ -11,6 +11,7 @@
 enum { RECORD = 10, MAX_SOURCE = 4096, MAX_MAPPED = 60000, ROWS = 4 };
 
 static uint8_t file[1 + RECORD * (MAX_SOURCE + 1)];
+static uint8_t levelled[RECORD * (MAX_SOURCE + 1)];
 static uint8_t mapped[RECORD * MAX_MAPPED];
 static uint8_t rows[ROWS * MAX_SOURCE];
 static uint8_t outputs[ROWS * MAX_SOURCE];
@@ -82,6 +83,13 @@ int main(int argc, char **argv)
     fclose(in);
     capacity = len > 0 ? file[0] : 0;
     source_len = len > 0 ? len - 1 : 0;
+
+    /* A netlist without levels is mapped in the copy that this writes. */
+    aqfp_levels(source, source_len, capacity, levelled, source_len, answer);
+    print_numbers("levels", answer, 2);
+    if (number(answer, 0) != 0)
+        return 1;
+    print_records(levelled, source_len / RECORD);
 
     aqfp_map(source, source_len, capacity, mapped, sizeof mapped, answer);
     print_numbers("map", answer, 7);

@@ -9,7 +9,7 @@
  *   aqfp_evaluate    gives the plain logic of a source for one row of inputs
  *   aqfp_run         runs a mapped netlist phase by phase over many rows
  *   aqfp_step        runs a mapped netlist by one step
- *   aqfp_levels      writes a source with the least levels that leave room for every tree
+ *   aqfp_levels      writes a source with the least levels of its records
  *
  * C99 and C++. Link with the static library libaqfp.a.
  *
@@ -22,13 +22,14 @@
  *   byte  0     kind: 0 input, 1 AND, 2 OR, 3 MAJ (majority of three), 4 output,
  *               5 buffer (mapped netlists only; a splitter is a buffer with several branches)
  *   byte  1     inversion: bit j inverts slot j, bits 3 to 7 are 0
- *   bytes 2-3   level, at most 4,095 (in a source for aqfp_levels, anything)
+ *   bytes 2-3   level, at most 4,095
  *   bytes 4-9   slots 0, 1 and 2, two bytes each: the index of a fanin
  *
  * An input uses no slot, output and buffer use slot 0, AND and OR use slots 0 and 1, MAJ uses all.
- * An unused slot holds 65,535 and its inversion bit is 0. Outputs and buffers never invert. Inputs
- * stand at level 0, outputs share one level, and a fanin of a source record is an earlier record,
- * at a lower level, that is no output.
+ * An unused slot holds 65,535 and its inversion bit is 0. Outputs and buffers never invert. A fanin
+ * of a source record is an earlier record that is no output. Inputs stand at level 0, outputs share
+ * one level, and a fanin stands at a lower level than its record; in a source for aqfp_levels the
+ * levels may be anything.
  *
  * A source has N records, at most 4,096. A mapped netlist has M records, at most 60,000; its
  * first N are the source's with other fanins, the rest are buffers. Both may be empty. D is the
@@ -254,9 +255,9 @@ uint32_t aqfp_step(const uint8_t *source, size_t source_len,
  * levels that keep the rules, those written are the lowest at every record at once.
  *
  * In:       source, whose own levels are not looked at and may be anything; capacity.
- * Out:      levelled, exactly as long as source: the source's bytes but for the level fields.
- *           None of 2 to 8 refuses it for the same capacity. It may need more buffers than 9
- *           allows.
+ * Out:      levelled, an area of its own, exactly as long as source: the source's bytes but for
+ *           the level fields. None of 2 to 8 refuses it for the same capacity. It may need more
+ *           buffers than 9 allows.
  * Answer:   number, place.
  * Checks:   1 to 6, 22 (place: the first record whose least level, worked out without a bound, is
  *           above 4,095; it may be an output, since all outputs share one level), 23.

@@ -551,9 +551,9 @@ static void hold_levels(struct bytes source, uint32_t s, size_t levelled_len)
     check(answer[0] != 0 || is_levelled(source), "aqfp_levels: every byte of the copy");
 }
 
-/* A source is accepted, and its copy too, which keeps its levels; 9 alone may refuse the copy when
- * it is mapped, and what is mapped is legal. */
-static void hold_copy(struct bytes source, uint32_t s, size_t mapped_len)
+/* A source is accepted, and its copy too, which keeps its levels; mapped, the copy gets the number,
+ * 0 or 9, and what is mapped is legal. */
+static void hold_copy(struct bytes source, uint32_t s, size_t mapped_len, uint32_t number)
 {
     static uint8_t copy[RECORD * MAX_SOURCE], mapped[RECORD * MAX_MAPPED];
     struct bytes levelled = part(copy, source.len);
@@ -568,7 +568,7 @@ static void hold_copy(struct bytes source, uint32_t s, size_t mapped_len)
     check(answered(0, 0) && (source.len == 0 || memcmp(levelled_area.at, copy, source.len) == 0),
           "the copy's least levels are its levels");
     do_map(levelled, s, fill(mapped_len));
-    check(answered(0, 0) || answered(9, 0), "the mapper refuses the copy by 9 only");
+    check(answered(number, 0), "the mapper accepts the copy, or refuses it by 9");
     if (answer[0] != 0)
         return;
     buffers = answer[3];
@@ -918,7 +918,7 @@ static void test_levels_worked(void)
                 check(answered(0, 0), "levels brought are not looked at");
                 check(memcmp(levelled_area.at, worked_source, sizeof changed) == 0,
                       "the worked case's levels");
-                hold_copy(source, s, 1000);
+                hold_copy(source, s, 1000, 0);
             }
         for (len = 0; len <= 110; len++) {
             do_levels(worked, s, fill(len));
@@ -972,13 +972,13 @@ static void test_levels_heights(void)
                     make_sinks(sinks, (int)outputs);
                     do_levels(made(), s, fill(netlist_len));
                     check(all_at(1 + h + (sinks > power)), "s to the power h sinks, and one more");
-                    hold_copy(made(), s, 600000);
+                    hold_copy(made(), s, 600000, 0);
                 }
         make_sinks(12285, 0);
         check(netlist_len == RECORD * MAX_SOURCE, "the largest net");
         do_levels(made(), s, fill(netlist_len));
         check(all_at(most[s - 2]), "12,285 sinks");
-        hold_copy(made(), s, 600000);
+        hold_copy(made(), s, 600000, 0);
         /* Slots are counted, not records. */
         two_records(AND, 3, 9, 0, 0, UNUSED);
         do_levels(made(), s, fill(20));
@@ -1015,14 +1015,16 @@ static void add_chain(unsigned gates, unsigned slots, unsigned end)
     }
 }
 
-/* What the source in netlist is answered, with an area that fits and with others. */
-static void levels_answered(uint32_t s, uint32_t number, uint32_t place, const char *what)
+/* What the source in netlist is answered, with an area that fits and with others; where it is
+ * accepted, the copy is mapped with the number `by`. */
+static void levels_mapped(uint32_t s, uint32_t number, uint32_t place, uint32_t by,
+                          const char *what)
 {
     do_levels(made(), s, fill(netlist_len));
     check(answered(number, place), what);
     hold_levels(made(), s, netlist_len);
     if (number == 0) {
-        hold_copy(made(), s, 600000);
+        hold_copy(made(), s, 600000, by);
         number = 23;
     }
     do_levels(made(), s, fill(netlist_len - 1));
@@ -1035,6 +1037,11 @@ static void levels_answered(uint32_t s, uint32_t number, uint32_t place, const c
     check(answered(number, place), what);
     do_levels(made(), s, fill(0));
     check(answered(number, place), what);
+}
+
+static void levels_answered(uint32_t s, uint32_t number, uint32_t place, const char *what)
+{
+    levels_mapped(s, number, place, 0, what);
 }
 
 static void test_levels_limits(void)
@@ -1142,7 +1149,7 @@ static void test_levels_limits(void)
     add_and(0, 15, 15);
     add_chain(2046, 2, 31);
     add_one(OUTPUT, 0, 2077);
-    levels_answered(2, 0, 0, "16 outputs at 4,095");
+    levels_mapped(2, 0, 0, 9, "16 outputs at 4,095");
     check(least[16] == MAX_LEVEL && least[2078] == MAX_LEVEL, "16 outputs at 4,095");
     do_levels(made(), 2, fill(netlist_len));
     memcpy(netlist, levelled_area.at, netlist_len);
@@ -2098,7 +2105,7 @@ static void test_random_levels(void)
     for (k = 0; k < 4000; k++) {
         struct bytes source = random_source(), levelled = part(copy, source.len);
         uint32_t s = 2 + below(3);
-        hold_copy(source, s, RECORD * 4000);
+        hold_copy(source, s, RECORD * 4000, 0);
         do_levels(source, s, fill(source.len));
         memcpy(copy, levelled_area.at, source.len);
         set_levels(source_bytes, source.len, below(4) > 0, 65535 * below(2));
@@ -2277,7 +2284,7 @@ static void hold_blocks(uint32_t n, uint32_t m, uint32_t s)
     check(source.len == RECORD * n && mapped.len == RECORD * m, "the sizes of the test's netlists");
     hold_block_map(b, source, mapped);
     hold_block_counts(b, source);
-    hold_copy(source, s, RECORD * MAX_MAPPED);
+    hold_copy(source, s, RECORD * MAX_MAPPED, 0);
     do_verify(source, s, mapped);
     check(accepted(m - n), "the verifier accepts what the mapper writes");
     hold_waves(source, s, mapped);

@@ -49,7 +49,7 @@ outputLevel s m = largest (outputLowest s m) (m .size)
 abbrev pub leastLevel : ℕ → Netlist → ℕ → ℕ
 leastLevel s m k = cond (isOutput m k) (outputLevel s m) (lowest s m k)
 
--- 22 of record k, which is to have a level: it is too large
+-- 22 of record k: the level that it is to have is above 4,095
 abbrev pub highCheck : (ℕ → ℕ) → ℕ → Checked
 highCheck level k = check 22 k (ltb topLevel (level k))
 
@@ -65,10 +65,11 @@ copyChecks level source area = scan (highCheck level) 0 (recordCount source) and
 abbrev pub levelled : (ℕ → ℕ) → List ℕ → List ℕ
 levelled level source = withLevels level source (recordCount source)
 
--- the same of the least levels
+-- 22, then 23, of the least levels
 abbrev pub leastChecks : List ℕ → ℕ → List ℕ → Checked
 leastChecks source s area = copyChecks (leastLevel s (netlist source)) source area
 
+-- the source with its least levels
 abbrev pub leastCopy : List ℕ → ℕ → List ℕ
 leastCopy source s = levelled (leastLevel s (netlist source)) source
 
@@ -76,6 +77,6 @@ leastCopy source s = levelled (leastLevel s (netlist source)) source
 unfoldable pub levelsAnswer : List ℕ → ℕ → List ℕ → Checked
 levelsAnswer source s area = (capacityCheck s andThen structureChecks source) andThen leastChecks source s area
 
--- the area: the source with its least levels; a refusal leaves it
+-- the area: that copy; a refusal leaves it
 unfoldable pub levelsArea : List ℕ → ℕ → List ℕ → List ℕ
 levelsArea source s area = unlessRefused (levelsAnswer source s area) (leastCopy source s) area

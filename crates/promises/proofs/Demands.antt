@@ -1,6 +1,6 @@
 -- The three demands, from the theorems of the crates below and of this one.
 use Rattle.facts.proofs.Rounding.{rounded-exact}
-use Rattle.netlist.proofs.Refusals.{source-exact, input-exact}
+use Rattle.netlist.proofs.Refusals.{source-exact, input-exact, structure-exact}
 use Rattle.fanout.proofs.Numbers.{numbers-exactly}
 use Rattle.verifier.proofs.Fewest.{on-net-exactly}
 use Rattle.verifier.proofs.Accepted.{accepted-exactly}
@@ -38,6 +38,7 @@ demand-1 =
     record {
       source = source-exact;
       input = input-exact;
+      structure = structure-exact;
       count = net.refused-exactly;
       countNets = counts-exact;
       countsKeep = counts-keep;

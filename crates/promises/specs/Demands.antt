@@ -5,7 +5,7 @@ use mathlib.Core.List.{List}
 use Rattle.facts.specs.declared.Checked.the-variants.{Refused}
 use Rattle.facts.specs.Rounding.{RoundedExact}
 use Rattle.netlist.specs.declared.Capacities.{Capacities}
-use Rattle.netlist.specs.Refusals.{SourceExact, InputExact}
+use Rattle.netlist.specs.Refusals.{SourceExact, InputExact, StructureExact}
 use Rattle.verifier.specs.Accepted.{AcceptedExactly}
 use Rattle.verifier.specs.Balance.{AcceptedBalanced}
 use Rattle.verifier.specs.Fewest.{OnNetExactly}
@@ -40,6 +40,7 @@ pub record RefusedKeeps : Type 0 where
 pub record Demand1 : Type 0 where
   pub source : SourceExact
   pub input : InputExact
+  pub structure : StructureExact
   pub count : net.RefusedExactly
   pub countNets : CountsExact
   pub countsKeep : CountsKeep

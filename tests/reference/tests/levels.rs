@@ -221,7 +221,6 @@ fn levels_by_seed() {
         let subject = damaged(&mut random, subject);
         let call = any_call(&mut random, &subject, Name::Levels);
         let Outcome { answer, areas } = perform(&PLAIN, &call);
-        assert_ne!(answer[0], 7, "seed 13, index {index}");
         if answer[0] > 0 {
             assert_eq!(areas, call.areas);
             refused += usize::from(answer[0] == 22);
