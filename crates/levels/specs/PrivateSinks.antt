@@ -13,12 +13,12 @@ use Rattle.netlist.specs.Kinds.{slots, sourceLimit}
 use Rattle.netlist.specs.Records.{Netlist, netlist, recordCount, slot, names}
 use Rattle.netlist.specs.Checks.{structureAt, structureChecks}
 
--- the first slots of a record name entries of an array, and its numbers have room for one more of each
+-- the first slots of a record name entries of an array, each with room for all of them
 pub record SlotsFit (r : Record) (used : ℕ) (sinks : List ℕ) : Type 0 where
   pub inside : (j : ℕ) → j < used → slot r j < length sinks
   pub room : (d : ℕ) → getD sinks d 0 + used < 65536
 
--- one more for each record that one of the first j slots names
+-- one more for each of the first j slots, at the record that it names
 pub record SinksAdded (r : Record) (j : ℕ) (before after : List ℕ) : Type 0 where
   pub long : length after ≡ length before
   pub at : (d : ℕ) → getD after d 0 ≡ getD before d 0 + count (λ i. eqb (slot r i) d) j

@@ -11,7 +11,7 @@ use netlist::OR;
 use netlist::OUTPUT;
 use netlist::Record;
 
-// One more sink for each record that one of the first slots names.
+// One more sink for each of the first slots, at the record that it names.
 fn add_sinks(r: Record, used: usize, sinks: &mut [u16])
     requires { ⌜ SlotsFit r used (now sinks) ⌝ }
     ensures { λ _. ⌜ SinksAdded r used (now (sinks .entry)) (now (sinks .exit)) ⌝ }
