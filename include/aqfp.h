@@ -256,7 +256,7 @@ uint32_t aqfp_step(const uint8_t *source, size_t source_len,
  *
  * In:       source, whose own levels are not looked at and may be anything; capacity.
  * Out:      levelled, an area of its own, exactly as long as source: the source's bytes but for
- *           the level fields. None of 2 to 8 refuses it for the same capacity. It may need more
+ *           the level fields. None of 1 to 8 refuses it with the same capacity. It may need more
  *           buffers than 9 allows.
  * Answer:   number, place.
  * Checks:   1 to 6, 22 (place: the first record whose least level, worked out without a bound, is

@@ -14,7 +14,7 @@ use Rattle.netlist.specs.Records.{feeds}
 use Rattle.netlist.specs.Checks.{capacityCheck, structureChecks}
 use Rattle.netlist.proofs.Source.{capacity-passed, structured-passed}
 use Rattle.levels.specs.Levels.{leastChecks, leastCopy, levelsAnswer, levelsArea}
-use Rattle.levels.specs.PrivateSinks.{Zeros, StructuredIfPassed}
+use Rattle.levels.specs.PrivateSinks.{Zeros, SourceCounted}
 use Rattle.levels.specs.PrivateLevels.{Unraised}
 
 -- the arrays before anything is counted
@@ -23,7 +23,7 @@ zeros-start = record { long = length-replicate {A = ℕ} (suc sourceLimit) 0; ze
 
 -- where 2 to 6 pass, levels can be worked out
 pub unraised : (source : List ℕ) (s : ℕ) (a : Checked) (before reach : List ℕ) → (2 ≤ s) × (s ≤ 4) → Zeros before →
-    StructuredIfPassed source a before reach → a ≡ Passed → Unraised source s reach (replicate sourceLimit 0)
+    SourceCounted source a before reach → a ≡ Passed → Unraised source s reach (replicate sourceLimit 0)
 unfolding feeds
 unraised source s a before reach cap z c p =
     let whole = structured-passed source .0 (sym (c .answer) ∙ p) in

@@ -113,7 +113,7 @@ module _ (s n : ℕ) where
   powers-start = record { is = sym (pow-zero s); rest = seek-start (carries s n) n }
 
   module _ (cap : (2 ≤ s) × (s ≤ 4)) (power h : ℕ) (p : Powers s n power h) where
-    -- the exponent is below what the power has not reached
+    -- while the power is below the number of sinks, so is the exponent
     exponent-below : power < n → h < n
     exponent-below l = omega (arith, p .is, below-power s h (cap .0))
 

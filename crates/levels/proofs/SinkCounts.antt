@@ -22,7 +22,7 @@ use Rattle.netlist.specs.Checks.{sizeChecks, structureOf, structureAt, structur
 use Rattle.netlist.proofs.Checks.{arity-slots, slots-good, fanin-inside}
 use Rattle.netlist.proofs.Source.{size-passed}
 use Rattle.fanout.proofs.Rows.{added-at}
-use Rattle.levels.specs.PrivateSinks.{SlotsFit, SinksAdded, SinksSoFar, Counting, CountedIfPassed, Uncounted, AllCountedIfPassed, Zeros, StructuredIfPassed}
+use Rattle.levels.specs.PrivateSinks.{SlotsFit, SinksAdded, SinksSoFar, Counting, RecordCounted, Uncounted, RecordsCounted, Zeros, SourceCounted}
 
 -- the first j slots are counted, of those that fit
 pub record Adding (r : Record) (used j : ℕ) (before sinks : List ℕ) : Type 0 where
@@ -92,7 +92,7 @@ module _ (source : List ℕ) (k : ℕ) (sinks : List ℕ) (c : Counting source k
           ];
         }
 
-    pub record-counted : (after : List ℕ) → a ≡ Passed → SinksAdded r used sinks after → CountedIfPassed source k Passed sinks after
+    pub record-counted : (after : List ℕ) → a ≡ Passed → SinksAdded r used sinks after → RecordCounted source k Passed sinks after
     unfolding count₂ sum
     record-counted after p s =
         record {
@@ -105,7 +105,7 @@ module _ (source : List ℕ) (k : ℕ) (sinks : List ℕ) (c : Counting source k
         here d =
             rw (f, e) (count-used (λ i. eqb (slot (recordAt source k) i) d) (arity (recordAt source k .kind)) slots (arity-slots (recordAt source k .kind)))
 
-  pub record-refused : (number place : ℕ) → a ≡ Refused number place → CountedIfPassed source k (Refused number place) sinks sinks
+  pub record-refused : (number place : ℕ) → a ≡ Refused number place → RecordCounted source k (Refused number place) sinks sinks
   record-refused number place p =
       record { answer = sym p ∙ answer-is; long = refl; counted = λ h. absurd (passed-refused number place (sym h)) }
 
@@ -139,7 +139,7 @@ module _ (source : List ℕ) (n : ℕ) (before : List ℕ) where
     counted-next h =
         record { present = omega (arith, c .all); few = c .few; long = omega (arith, c .room, c .long); so-far = c .so-far }
 
-    module _ (h : k < n) (a : Checked) (after : List ℕ) (d : CountedIfPassed source k a sinks after) where
+    module _ (h : k < n) (a : Checked) (after : List ℕ) (d : RecordCounted source k a sinks after) where
       pub counted-more : a ≡ Passed → CountedBelow source n (k + 1) before after
       counted-more p =
           record {
@@ -154,7 +154,7 @@ module _ (source : List ℕ) (n : ℕ) (before : List ℕ) where
       pub counted-longer : length after ≡ length before
       counted-longer = d .long ∙ c .long
 
-      pub counted-stop : (number place : ℕ) → a ≡ Refused number place → AllCountedIfPassed source (Refused number place) before after
+      pub counted-stop : (number place : ℕ) → a ≡ Refused number place → RecordsCounted source (Refused number place) before after
       counted-stop number place p =
           record {
             answer =
@@ -164,7 +164,7 @@ module _ (source : List ℕ) (n : ℕ) (before : List ℕ) where
             counted = λ q. absurd (passed-refused number place (sym q));
           }
 
-    pub counted-end : n ≤ k → AllCountedIfPassed source Passed before sinks
+    pub counted-end : n ≤ k → RecordsCounted source Passed before sinks
     counted-end h =
         let e : k ≡ recordCount source = omega (arith, c .all, c .rest .within) in
         record {
@@ -185,12 +185,12 @@ module _ (source sinks : List ℕ) (z : Zeros sinks) (a : Checked) (e : a ≡ si
     pub uncounted : Uncounted source n sinks
     uncounted = record { all = f; few = few; long = omega (arith, few, z .long); zeros = z .zeros }
 
-  pub structure-passed : (b : Checked) (after : List ℕ) → a ≡ Passed → AllCountedIfPassed source b sinks after → StructuredIfPassed source b sinks after
+  pub structure-passed : (b : Checked) (after : List ℕ) → a ≡ Passed → RecordsCounted source b sinks after → SourceCounted source b sinks after
   unfolding structureChecks
   structure-passed b after p c =
       record { answer = then-go a (sizeChecks source) _ e b p (c .answer); long = c .long; counted = c .counted }
 
-  pub structure-refused : (number place : ℕ) → a ≡ Refused number place → StructuredIfPassed source (Refused number place) sinks sinks
+  pub structure-refused : (number place : ℕ) → a ≡ Refused number place → SourceCounted source (Refused number place) sinks sinks
   unfolding structureChecks
   structure-refused number place p =
       record { answer = then-stop a (sizeChecks source) _ e number place p; long = refl; counted = λ h. absurd (passed-refused number place (sym h)) }

@@ -34,11 +34,21 @@ pub record Counting (source : List ℕ) (k : ℕ) (sinks : List ℕ) : Type 0 wh
   pub long : recordCount source < length sinks
   pub so-far : SinksSoFar (netlist source) k sinks
 
--- the answer of checks 4 to 6 of record k; where they pass, its slots are counted
-pub record CountedIfPassed (source : List ℕ) (k : ℕ) (a : Checked) (before after : List ℕ) : Type 0 where
-  pub answer : a ≡ structureAt (netlist source) k
+-- an answer of checks; where they pass, the slots of the records below i are counted
+pub record CountedIfPassed (source : List ℕ) (i : ℕ) (a right : Checked) (before after : List ℕ) : Type 0 where
+  pub answer : a ≡ right
   pub long : length after ≡ length before
-  pub counted : a ≡ Passed → SinksSoFar (netlist source) (suc k) after
+  pub counted : a ≡ Passed → SinksSoFar (netlist source) i after
+
+-- checks 4 to 6 of record k, with its slots counted; of all records; and checks 2 to 6
+abbrev pub RecordCounted : List ℕ → ℕ → Checked → List ℕ → List ℕ → Type 0
+RecordCounted source k a = CountedIfPassed source (suc k) a (structureAt (netlist source) k)
+
+abbrev pub RecordsCounted : List ℕ → Checked → List ℕ → List ℕ → Type 0
+RecordsCounted source a = CountedIfPassed source (recordCount source) a (scan (structureAt (netlist source)) 0 (recordCount source))
+
+abbrev pub SourceCounted : List ℕ → Checked → List ℕ → List ℕ → Type 0
+SourceCounted source a = CountedIfPassed source (recordCount source) a (structureChecks source)
 
 -- nothing is counted yet, and there is an entry for every record and one more
 pub record Uncounted (source : List ℕ) (n : ℕ) (sinks : List ℕ) : Type 0 where
@@ -47,19 +57,7 @@ pub record Uncounted (source : List ℕ) (n : ℕ) (sinks : List ℕ) : Type 0 w
   pub long : recordCount source < length sinks
   pub zeros : (d : ℕ) → getD sinks d 0 ≡ 0
 
--- the answer of checks 4 to 6 of all records; where they pass, every slot is counted
-pub record AllCountedIfPassed (source : List ℕ) (a : Checked) (before after : List ℕ) : Type 0 where
-  pub answer : a ≡ scan (structureAt (netlist source)) 0 (recordCount source)
-  pub long : length after ≡ length before
-  pub counted : a ≡ Passed → SinksSoFar (netlist source) (recordCount source) after
-
 -- zeros, an entry for every record of the largest source and one more
 pub record Zeros (sinks : List ℕ) : Type 0 where
   pub long : length sinks ≡ suc sourceLimit
   pub zeros : (d : ℕ) → getD sinks d 0 ≡ 0
-
--- the answer of checks 2 to 6; where they pass, every slot is counted
-pub record StructuredIfPassed (source : List ℕ) (a : Checked) (before after : List ℕ) : Type 0 where
-  pub answer : a ≡ structureChecks source
-  pub long : length after ≡ length before
-  pub counted : a ≡ Passed → SinksSoFar (netlist source) (recordCount source) after

@@ -2,7 +2,7 @@
 ghost use mathlib.Core.Path.{_≡_};
 ghost use Rattle.netlist.specs.Kinds;
 ghost use Rattle.netlist.specs.Records.{recordAt};
-ghost use Rattle.levels.specs.PrivateSinks.{SlotsFit, SinksAdded, Counting, CountedIfPassed, Uncounted, AllCountedIfPassed, Zeros, StructuredIfPassed};
+ghost use Rattle.levels.specs.PrivateSinks.{SlotsFit, SinksAdded, Counting, RecordCounted, Uncounted, RecordsCounted, Zeros, SourceCounted};
 use facts::Checked;
 use netlist::AND;
 use netlist::INPUT;
@@ -29,7 +29,7 @@ fn check_used(source: &[u8], k: u32, r: Record, used: usize, sinks: &mut [u16]) 
     requires { ⌜ Counting (now source) k (now sinks) ⌝ }
     requires { ⌜ r ≡ recordAt (now source) k ⌝ }
     requires { ⌜ used ≡ Kinds.arity (r .kind) ⌝ }
-    ensures { λ a. ⌜ CountedIfPassed (now (source .entry)) k a (now (sinks .entry)) (now (sinks .exit)) ⌝ }
+    ensures { λ a. ⌜ RecordCounted (now (source .entry)) k a (now (sinks .entry)) (now (sinks .exit)) ⌝ }
 {
     let checked = netlist::source_reader::check_structure(source, k, r, used);
     match checked {
@@ -45,7 +45,7 @@ fn check_used(source: &[u8], k: u32, r: Record, used: usize, sinks: &mut [u16]) 
 fn check_record(source: &[u8], k: u32, r: Record, sinks: &mut [u16]) -> Checked
     requires { ⌜ Counting (now source) k (now sinks) ⌝ }
     requires { ⌜ r ≡ recordAt (now source) k ⌝ }
-    ensures { λ a. ⌜ CountedIfPassed (now (source .entry)) k a (now (sinks .entry)) (now (sinks .exit)) ⌝ }
+    ensures { λ a. ⌜ RecordCounted (now (source .entry)) k a (now (sinks .entry)) (now (sinks .exit)) ⌝ }
 {
     let kind = r.kind;
     match kind {
@@ -61,7 +61,7 @@ fn check_record(source: &[u8], k: u32, r: Record, sinks: &mut [u16]) -> Checked
 // Checks 4 to 6 of every record, rising; where they pass, every slot is counted.
 fn check_records(source: &[u8], n: u32, sinks: &mut [u16]) -> Checked
     requires { ⌜ Uncounted (now source) n (now sinks) ⌝ }
-    ensures { λ a. ⌜ AllCountedIfPassed (now (source .entry)) a (now (sinks .entry)) (now (sinks .exit)) ⌝ }
+    ensures { λ a. ⌜ RecordsCounted (now (source .entry)) a (now (sinks .entry)) (now (sinks .exit)) ⌝ }
 {
     let mut k: u32 = 0;
     while k < n {
@@ -81,7 +81,7 @@ fn check_records(source: &[u8], n: u32, sinks: &mut [u16]) -> Checked
 // Checks 2 to 6; where they pass, every slot is counted.
 pub(crate) fn check_structured(source: &[u8], sinks: &mut [u16]) -> Checked
     requires { ⌜ Zeros (now sinks) ⌝ }
-    ensures { λ a. ⌜ StructuredIfPassed (now (source .entry)) a (now (sinks .entry)) (now (sinks .exit)) ⌝ }
+    ensures { λ a. ⌜ SourceCounted (now (source .entry)) a (now (sinks .entry)) (now (sinks .exit)) ⌝ }
 {
     let size = netlist::source_reader::check_size(source);
     match size {
