@@ -1,6 +1,7 @@
 -- Laws of numbers as bytes: two of them give the number back, four tell it, and two or four stores at a place put a number's bytes there.
-use Prim.Native.Nat.{ℕ, _+_, _*_, _/_, _%_, _<_, _≤_}
+use Prim.Native.Nat.{ℕ, zero, suc, _+_, _*_, _/_, _%_, _<_, _≤_}
 use native.Mathlib.Omega.{arith}
+use native.Mathlib.Nat.{zero-add, mod-eq-of-lt, div-eq-of-lt, add-mul-div-left, add-mul-mod-self-left}
 use native.Mathlib.Numerals.{add-one, add-two, add-three}
 use mathlib.Core.Path.{_≡_, sym, _∙_, ap, ap₂}
 use mathlib.Core.List.{List, [], _∷_}
@@ -12,6 +13,18 @@ use Rattle.facts.proofs.Areas.{sets-put}
 -- a two-byte number from its bytes
 pub two-back : (v : ℕ) → v < 65536 → v % 256 + 256 * (v / 256 % 256) ≡ v
 two-back v l = omega arith
+
+-- and the bytes from the number
+pub two-from : (a b : ℕ) → a < 256 → b < 256 → twoBytes (a + 256 * b) ≡ a ∷ b ∷ []
+two-from a b l m =
+    let high : (a + 256 * b) / 256 ≡ b = add-mul-div-left a b (omega arith) ∙ rw (div-eq-of-lt l) (zero-add b) in
+    rw (add-mul-mod-self-left a 256 b, mod-eq-of-lt l, high, mod-eq-of-lt m)
+
+-- two bytes are bytes
+pub two-below : (v i : ℕ) → i < 2 → getD (twoBytes v) i 0 < 256
+two-below v zero l = omega arith
+two-below v (suc zero) l = omega arith
+two-below v (suc (suc i)) l = absurd (omega arith)
 
 pub stores-two : (area : List ℕ) (at v x y : ℕ) → at + 1 < length area → x ≡ v % 256 → y ≡ v / 256 % 256 →
     set (set area at x) (at + 1) y ≡ put area at (twoBytes v)

@@ -6,7 +6,7 @@ use native.Mathlib.Omega.{arith}
 use native.Mathlib.Nat.{add-zero, add-suc, mul-zero, mul-suc, mul-le-mul-left}
 use native.Mathlib.Decide.{decLt}
 use lib.ListN.{length, getD, take, drop, replicate, length-append, length-drop, length-replicate, List·getD-append, List·getD-eq-default}
-use lib.Seq.{getD-at, take-append-le, drop-append-le, drop-at, take-all, getD-drop, getD-take, ext-getD}
+use lib.Seq.{getD-at, take-append-le, drop-append-le, drop-at, take-all, take-add, getD-drop, getD-take, ext-getD}
 use Rattle.facts.specs.Lists.{tabulate, joined}
 
 -- an entry below the length does not depend on the default
@@ -94,3 +94,10 @@ pub joined-cong : (f g : ℕ → List ℕ) (n : ℕ) → ((i : ℕ) → i < n �
 unfolding joined
 joined-cong f g zero h = refl
 joined-cong f g (suc n) h = cc (joined-cong f g n (λ i l. h i (omega arith)), h n (omega arith))
+
+-- a list is its parts, joined
+pub parts-joined : (w n : ℕ) (l : List ℕ) → joined (λ i. take w (drop (w * i) l)) n ≡ take (w * n) l
+unfolding joined
+parts-joined w zero l = rw (mul-zero w)
+parts-joined w (suc n) l =
+    rw (mul-suc w n, parts-joined w n l) (sym (take-add (w * n) w l))

@@ -10,7 +10,7 @@ use Rattle.facts.specs.declared.Checked.the-variants.{Passed, Refused}
 infixr 15 _or_
 -- the table's rows in the order in which they are checked; entry n is the row of number n
 abbrev pub rows : List ℕ
-rows = 0 ∷ 1 ∷ 2 ∷ 3 ∷ 4 ∷ 4 ∷ 4 ∷ 4 ∷ 7 ∷ 8 ∷ 9 ∷ 10 ∷ 11 ∷ 11 ∷ 11 ∷ 11 ∷ 12 ∷ 13 ∷ 14 ∷ 15 ∷ 17 ∷ 16 ∷ 5 ∷ 6 ∷ []
+rows = 0 ∷ 1 ∷ 4 ∷ 5 ∷ 6 ∷ 6 ∷ 6 ∷ 6 ∷ 9 ∷ 10 ∷ 11 ∷ 12 ∷ 13 ∷ 13 ∷ 13 ∷ 13 ∷ 14 ∷ 15 ∷ 16 ∷ 17 ∷ 19 ∷ 18 ∷ 7 ∷ 8 ∷ 2 ∷ 3 ∷ []
 
 abbrev pub rowOf : ℕ → ℕ
 rowOf number = getD rows number 0

@@ -1,4 +1,4 @@
--- Laws of writing records one after the other: the first j of n are written.
+-- Laws of the records that are written: buffers on what they hang on, and the source's with other slots.
 use Prim.Native.Nat.{ℕ, zero, suc, _+_, _-_, _*_, _≤_, _<_, _/_}
 use mathlib.Core.Path.{_≡_, refl, sym, _∙_, ap, ap₂}
 use mathlib.Core.List.{List, [], _∷_}
@@ -8,46 +8,14 @@ use native.Mathlib.Numerals.{add-one}
 use mir.Val.{Fits}
 use mir.Syntax.{w16}
 use lib.ListN.{length, getD}
-use Rattle.facts.specs.Lists.{joined}
 use Rattle.facts.specs.Areas.{put}
-use Rattle.facts.proofs.Areas.{put-none, length-put, put-behind}
 use Rattle.netlist.specs.declared.Record.{Record}
 use Rattle.netlist.specs.Kinds.{width, slots}
 use Rattle.netlist.specs.Records.{recordAt}
 use Rattle.netlist.specs.Bytes.{encode, encoded}
-use Rattle.netlist.proofs.Bytes.{length-encode, length-encoded}
+use Rattle.netlist.proofs.Bytes.{RecordsSoFar, written-more, written-end}
 use Rattle.mapper.specs.Mapped.{bufferOf}
 use Rattle.mapper.specs.PrivateWriting.{behind, levelRecord, lineParent, lineRecord, relinked, relinkedAt}
-
--- records f 0 to f (j - 1) are written from record at on
-pub record RecordsSoFar (area₀ : List ℕ) (at : ℕ) (f : ℕ → Record) (n : ℕ) (area : List ℕ) (j : ℕ) : Type 0 where
-  pub within : j ≤ n
-  pub long : length area ≡ length area₀
-  pub bytes : area ≡ put area₀ (width * at) (encoded f j)
-
-module _ (area₀ : List ℕ) (at : ℕ) (f : ℕ → Record) (n : ℕ) where
-  pub written-start : RecordsSoFar area₀ at f n area₀ 0
-  unfolding encoded joined
-  written-start = let bytes = sym (put-none area₀ (width * at)) in search arith
-
-  module _ (area : List ℕ) (j : ℕ) (h : RecordsSoFar area₀ at f n area j) where
-    pub written-end : n ≤ j → area ≡ put area₀ (width * at) (encoded f n)
-    written-end l =
-        let e : n ≡ j = omega (arith, h .within) in rw e (h .bytes)
-
-    pub written-more : (r : Record) (after : List ℕ) → width * (at + n) ≤ length area₀ → j < n → r ≡ f j →
-        after ≡ put area (width * (at + j)) (encode r) → RecordsSoFar area₀ at f n after (j + 1)
-    unfolding encoded joined
-    written-more r after room l e g =
-        record {
-          within = omega arith;
-          long = rw g (length-put area (width * (at + j)) (encode r) (omega (arith, h .long, length-encode r)) ∙ h .long);
-          bytes =
-              rw (g, h .bytes, place, add-one j, ← e) (put-behind area₀ (width * at) (encoded f j) (encode r) (omega (arith, length-encoded f j)));
-        }
-      where
-        place : width * (at + j) ≡ width * at + length (encoded f j)
-        place = omega (arith, length-encoded f j)
 
 -- what node q of distance k hangs on, by distance
 pub behind-near : (s k q base : ℕ) → k < 2 → base ≡ base + behind s k q

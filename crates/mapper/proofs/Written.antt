@@ -1,31 +1,20 @@
 -- The bytes of the mapped netlist hold it: its fields fit, and what is read of the bytes is the mapped netlist.
 use Prim.Native.Nat.{ℕ, _≤_, _<_}
 use mathlib.Core.Path.{_≡_, refl, _∙_, subst}
-use mathlib.Core.Bool.{Bool, true, false, cond}
 use native.Mathlib.Omega.{arith}
 use native.Mathlib.Decide.{decLt}
-use native.Mathlib.Nat.{pow-le-pow-right}
 use lib.ListN.{length, List·getD-eq-default}
 use Rattle.netlist.specs.declared.Capacities.{Capacities}
-use Rattle.netlist.specs.Kinds.{slots, unused, isGate, arity, invertible}
+use Rattle.netlist.specs.Kinds.{slots, unused, arity}
 use Rattle.netlist.specs.Records.{Netlist, netlist, slot}
 use Rattle.netlist.specs.Bytes.{bytesOf}
 use Rattle.netlist.specs.PrivateBytes.{Fits}
-use Rattle.netlist.proofs.Checks.{arity-slots}
-use Rattle.netlist.proofs.Source.{kind-byte}
+use Rattle.netlist.proofs.Source.{kind-byte, inversion-byte}
 use Rattle.netlist.proofs.Bytes.{netlist-bytes}
 use Rattle.mapper.specs.Mapped.{mappedSize, bufferRecord, rewired, mappedAt, mapped}
 use Rattle.mapper.specs.PrivateWriting.{Ready}
 use Rattle.mapper.proofs.Mapped.{at-source, at-end, placed}
 use Rattle.mapper.proofs.Nodes.{pos, kind-kept, inversion-kept, level-kept, slot-kept, named, at-placed, buffer-kind, buffer-inversion, buffer-low, buffer-empty}
-
--- no kind inverts more slots than there are
-invertible-le : (kind : ℕ) → invertible kind ≤ slots
-invertible-le kind = go (isGate kind)
-  where
-    go : (b : Bool) → cond b (arity kind) 0 ≤ slots
-    go true = arity-slots kind
-    go false = omega arith
 
 module _ (n : Netlist) (caps : Capacities) (r : Ready n caps) where
   slots-wide : (i : ℕ) → i < mappedSize n caps → length (mappedAt n caps i .slots) ≡ slots
@@ -63,7 +52,7 @@ module _ (n : Netlist) (caps : Capacities) (r : Ready n caps) where
         | yes h ↦
             record {
               kind = omega (arith, kind-kept n caps r i h, kind-byte n (r .source) i h);
-              inversion = omega (arith, inversion-kept n caps r i h, r .source .inversions i h, pow-le-pow-right {n = 2} (omega arith) (invertible-le (n .at i .kind)));
+              inversion = omega (arith, inversion-kept n caps r i h, inversion-byte n (r .source) i h);
               level = omega (arith, level-kept n caps r i h, r .source .levels i h);
               slots = λ j. slot-fits i j l;
               all = slots-wide i l;

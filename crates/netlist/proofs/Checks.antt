@@ -41,6 +41,14 @@ arity-slots kind =
       | no g ↦ omega (arith, List·getD-eq-default arities 0 (let h : 6 ≤ kind = omega arith in h))
     ]
 
+-- nor does any invert more
+pub invertible-slots : (kind : ℕ) → invertible kind ≤ slots
+invertible-slots kind = go (isGate kind)
+  where
+    go : (b : Bool) → cond b (arity kind) 0 ≤ slots
+    go true = arity-slots kind
+    go false = omega arith
+
 -- a kind that is no gate uses at most one slot, a gate at least two, and a kind of a source that is no input at least one
 several : ℕ → Bool
 several kind = not (isGate kind) && ltb 1 (arity kind)

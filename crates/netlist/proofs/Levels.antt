@@ -5,8 +5,8 @@ use native.Mathlib.Omega.{arith}
 use mathlib.Core.Path.{_≡_, refl, sym, ap, ap₂, subst, _∙_}
 use mathlib.Core.Logic.{_≢_}
 use mathlib.Core.List.{List}
-use lib.ListN.{length, getD, set, drop, length-set}
-use lib.Seq.{getD-set-same, getD-set-other, getD-take, getD-drop}
+use lib.ListN.{length, getD, set, length-set}
+use lib.Seq.{getD-set-same, getD-set-other}
 use Rattle.facts.specs.Bytes.{twoBytes}
 use Rattle.facts.proofs.Areas.{length-put}
 use Rattle.facts.proofs.Bytes.{two-back, stores-two}
@@ -15,7 +15,7 @@ use Rattle.netlist.specs.declared.Record.{Record}
 use Rattle.netlist.specs.Kinds.{width, slots}
 use Rattle.netlist.specs.Records.{field, recordBytes, recordAt}
 use Rattle.netlist.specs.Bytes.{levelPlace, withLevel, withLevels}
-use Rattle.netlist.proofs.Records.{record-inside}
+use Rattle.netlist.proofs.Records.{record-byte, record-inside}
 
 -- the level of one record set
 module _ (bytes : List ℕ) (k v : ℕ) (room : width * k + width ≤ length bytes) where
@@ -93,15 +93,12 @@ module _ (level : ℕ → ℕ) (bytes : List ℕ) where
 
   -- record k
   module _ (n k : ℕ) (l : width * n ≤ length bytes) (h : k < n) (f : level k < 65536) where
-    byte : (all : List ℕ) (b : ℕ) → b < width → getD (recordBytes all k) b 0 ≡ getD all (width * k + b) 0
-    byte all b s = getD-take width (drop (width * k) all) b 0 s ∙ getD-drop (width * k) all b 0
-
     same : (b : ℕ) → b < width → b ≢ levelPlace → b ≢ suc levelPlace →
         getD (recordBytes (withLevels level bytes n) k) b 0 ≡ getD (recordBytes bytes k) b 0
     same b s a c =
-        byte (withLevels level bytes n) b s
+        record-byte (withLevels level bytes n) k b s
         ∙ levels-other n (width * k + b) l (λ e. a (omega arith)) (λ e. c (omega arith))
-        ∙ sym (byte bytes b s)
+        ∙ sym (record-byte bytes k b s)
 
     slot-same : (j : ℕ) → j < slots → field (recordBytes (withLevels level bytes n) k) (4 + 2 * j) ≡ field (recordBytes bytes k) (4 + 2 * j)
     slot-same j s =
@@ -112,8 +109,8 @@ module _ (level : ℕ → ℕ) (bytes : List ℕ) where
     set-here : field (recordBytes (withLevels level bytes n) k) levelPlace ≡ level k
     set-here =
         ap₂ (λ (a b : ℕ). a + 256 * b)
-        (byte (withLevels level bytes n) levelPlace (omega arith))
-        (byte (withLevels level bytes n) (levelPlace + 1) (omega arith) ∙ ap (λ (i : ℕ). getD (withLevels level bytes n) i 0) next)
+        (record-byte (withLevels level bytes n) k levelPlace (omega arith))
+        (record-byte (withLevels level bytes n) k (levelPlace + 1) (omega arith) ∙ ap (λ (i : ℕ). getD (withLevels level bytes n) i 0) next)
         ∙ levels-set n k l h f
       where
         next : width * k + (levelPlace + 1) ≡ width * k + levelPlace + 1

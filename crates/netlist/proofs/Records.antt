@@ -1,14 +1,15 @@
 -- Laws of records read off bytes: within the end a record is its ten bytes, from the end on it is blank.
 use Prim.Native.Nat.{ℕ, _+_, _-_, _*_, _<_, _≤_}
 use native.Mathlib.Nat.{add-sub-cancel-left}
-use native.Mathlib.Decide.{ℕ-discrete}
+use native.Mathlib.Decide.{ℕ-discrete, decLt}
 use native.Mathlib.Omega.{arith}
 use mathlib.Core.Path.{_≡_, sym, ap, _∙_}
 use mathlib.Core.List.{List}
-use lib.ListN.{length, take, drop, length-take, length-drop, List·getD-eq-default}
+use lib.ListN.{length, getD, take, drop, length-take, length-drop, List·getD-eq-default}
+use lib.Seq.{getD-take, getD-drop}
 use borrow.Author.Tests.{lt-ltb, le-ltb}
 use Rattle.netlist.specs.declared.Record.{Record}
-use Rattle.netlist.specs.Kinds.{width, arities, arity}
+use Rattle.netlist.specs.Kinds.{width, slots, arities, arity}
 use Rattle.netlist.specs.Records.{decode, blank, recordCount, recordBytes, recordAt}
 
 -- a kind past the table uses no slot
@@ -30,6 +31,10 @@ module _ (bytes : List ℕ) (k : ℕ) where
   pub part-record : take (width * k + width - width * k) (drop (width * k) bytes) ≡ recordBytes bytes k
   part-record = ap (λ (n : ℕ). take n (drop (width * k) bytes)) (add-sub-cancel-left (width * k) width)
 
+  -- byte b of record k
+  pub record-byte : (b : ℕ) → b < width → getD (recordBytes bytes k) b 0 ≡ getD bytes (width * k + b) 0
+  record-byte b l = getD-take width (drop (width * k) bytes) b 0 l ∙ getD-drop (width * k) bytes b 0
+
   pub record-inside : k < recordCount bytes → recordAt bytes k ≡ decode (recordBytes bytes k)
   unfolding recordAt
   record-inside h = rw (lt-ltb k (recordCount bytes) h)
@@ -37,6 +42,14 @@ module _ (bytes : List ℕ) (k : ℕ) where
   pub record-past : recordCount bytes ≤ k → recordAt bytes k ≡ blank
   unfolding recordAt
   record-past h = rw (le-ltb k (recordCount bytes) h)
+
+  -- a record has all its slots
+  pub slots-long : length (recordAt bytes k .slots) ≡ slots
+  slots-long =
+      elim (decLt k (recordCount bytes)) [
+        | yes h ↦ ap (λ (r : Record). length (r .slots)) (record-inside h)
+        | no h ↦ ap (λ (r : Record). length (r .slots)) (record-past (omega arith))
+      ]
 
   -- the ten bytes of a record within the end, and what the reader gives of them
   module _ (h : k < recordCount bytes) (part : List ℕ) (p : part ≡ recordBytes bytes k) where

@@ -1,6 +1,7 @@
 -- A source passes checks 2 to 7 exactly if it is one: whole records with the facts of `IsSource`; what its kinds are, and where its outputs stand.
 use Prim.Native.Nat.{ℕ, _%_, _≤_, _<_}
 use native.Mathlib.Decide.{decLt}
+use native.Mathlib.Nat.{pow-le-pow-right}
 use native.Mathlib.Omega.{arith}
 use mathlib.Core.Path.{_≡_, refl, sym, ap, _∙_}
 use mathlib.Core.Logic.{_↔_, _≢_}
@@ -23,7 +24,7 @@ use Rattle.netlist.specs.Checks.{capacityCheck, capacityChecks, sizeChec
 use Rattle.netlist.specs.Source.{IsSource, Source, StructuredBytes, Unlevelled, OutputsAt}
 use Rattle.netlist.specs.Capacities.{Allowed}
 use Rattle.netlist.specs.PrivateInput.{Input}
-use Rattle.netlist.proofs.Checks.{arity-slots}
+use Rattle.netlist.proofs.Checks.{arity-slots, invertible-slots}
 use Rattle.netlist.proofs.Records.{record-past}
 
 -- a used slot is a slot
@@ -127,9 +128,12 @@ module _ (n : Netlist) (source : IsSource n) (k : ℕ) (l : k < n .size) where
   pub is-output : isDriver (n .at k .kind) ≡ false → n .at k .kind ≡ output
   is-output e = omega (arith, leb-false (n .at k .kind) majority e, source .kinds k l)
 
-  -- a kind is a byte
+  -- a kind is a byte, and so is an inversion
   pub kind-byte : n .at k .kind < 256
   kind-byte = omega (arith, source .kinds k l)
+
+  pub inversion-byte : n .at k .inversion < 256
+  inversion-byte = omega (arith, source .inversions k l, pow-le-pow-right {n = 2} (omega arith) (invertible-slots (n .at k .kind)))
 
 -- a driver stands within the bytes
 pub driver-inside : (bytes : List ℕ) (d : ℕ) → isDriver (recordAt bytes d .kind) ≡ true → d < recordCount bytes

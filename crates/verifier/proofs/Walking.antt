@@ -32,7 +32,7 @@ use Rattle.verifier.proofs.Checks.{driven, placed-driven, place-buffer}
 use Rattle.verifier.proofs.Feeding.{tallied-start, buffer-kind, Tallying, tallying-onward, tallying-end, tallying-stop, tallying-more}
 
 -- one driver more is known
-keep : (m : Netlist) (drivers : List ℕ) (x d : ℕ) → Known m drivers → x < m .size → (d ≢ unknown → d ≡ driver m x) → Known m (set drivers x d)
+pub keep : (m : Netlist) (drivers : List ℕ) (x d : ℕ) → Known m drivers → x < m .size → (d ≢ unknown → d ≡ driver m x) → Known m (set drivers x d)
 keep m drivers x d k l e =
     record {
       room = rw (length-set drivers x d) (k .room);
@@ -47,7 +47,8 @@ keep m drivers x d k l e =
           ];
     }
 
-known-none : (m : Netlist) (entries : ℕ) → m .size ≤ entries → Known m (replicate entries unknown)
+-- at first none is
+pub known-none : (m : Netlist) (entries : ℕ) → m .size ≤ entries → Known m (replicate entries unknown)
 known-none m entries l =
     record {
       room = rw (length-replicate {A = ℕ} entries unknown) l;
@@ -71,33 +72,34 @@ known-right n drivers x m d k i l e h = elim (decLt x n) [
       g ∙ k .right x l (λ u. h (g ∙ u)))
 ]
 
--- a buffer that passes 13 to 15 has its fanin's driver
-module _ (m : Netlist) (drivers : List ℕ) (known : Known m drivers) (n k : ℕ) (i : Buffering n m k) where
-  module _ (r : Record) (x : ℕ) (p : x ≡ slot r 0) (used : ℕ) (u : used ≡ arity buffer) (c : Bool) (before after : List ℕ) (f : Fed m r used c before after) (g : c ≡ true) where
-    fine : badFanin m r 0 ≡ false
-    fine = any-none (badFanin m r) used .0 (not-true (any (badFanin m r) used) (sym (f .good) ∙ g)) 0 (omega (arith, u))
+-- a buffer that passes 14 and 15 has its fanin's driver
+module _ (m : Netlist) (drivers : List ℕ) (known : Known m drivers) (r : Record) (x : ℕ) (p : x ≡ slot r 0) (fine : badFanin m r 0 ≡ false) where
+  named : x < m .size
+  named = let h = simp reflect at fine in rw p (h .0 .0)
 
-    named : x < m .size
-    named = let h = simp reflect at fine in rw p (h .0 .0)
+  pub fine-room : x < length drivers
+  fine-room = omega (arith, named, known .room)
 
+  buffer-driver : (k : ℕ) → r ≡ m .at k → r .kind ≡ buffer → driver m k ≡ driver m x
+  buffer-driver k q e =
+      let l = simp reflect at fine in
+      rw (p, q) (ap (λ (level : ℕ). walk m level k) (rw q at (l .1)) ∙ walk-back m (m .at (slot (m .at k) 0) .level) k (rw q at e))
+
+  pub fine-known : (n k d : ℕ) → d ≡ knownDriver n drivers x → r ≡ m .at k → r .kind ≡ buffer → Buffering n m k → Known m (set drivers k d)
+  fine-known n k d h q e i =
+      keep m drivers k d known (i .here) (λ v. known-right n drivers x m d known (i .driven) named h v ∙ sym (buffer-driver k q e))
+
+-- so has one whose slot was counted
+module _ (m : Netlist) (r : Record) (used : ℕ) (u : used ≡ arity buffer) (c : Bool) (before after : List ℕ) (f : Fed m r used c before after) (g : c ≡ true) where
+  fed-fine : badFanin m r 0 ≡ false
+  fed-fine = any-none (badFanin m r) used .0 (not-true (any (badFanin m r) used) (sym (f .good) ∙ g)) 0 (omega (arith, u))
+
+  module _ (drivers : List ℕ) (x : ℕ) (p : x ≡ slot r 0) (known : Known m drivers) where
     pub fanin-room : x < length drivers
-    fanin-room = omega (arith, named, known .room)
+    fanin-room = fine-room m drivers known r x p fed-fine
 
-    buffer-driver : r ≡ m .at k → r .kind ≡ buffer → driver m k ≡ driver m x
-    buffer-driver q e =
-        let l = simp reflect at fine in
-        rw (p, q) (ap (λ (level : ℕ). walk m level k) (rw q at (l .1)) ∙ walk-back m (m .at (slot (m .at k) 0) .level) k (rw q at e))
-
-pub buffer-known :
-    (m : Netlist) (drivers : List ℕ) (n k d x used : ℕ) (r : Record) (b c : Bool) (before after : List ℕ) →
-    d ≡ knownDriver n drivers x → x ≡ slot r 0 → r ≡ m .at k → b ≡ noBuffer r → b ≡ false → used ≡ arity buffer → Fed m r used c before after → c ≡ true →
-    Known m drivers → Buffering n m k → Known m (set drivers k d)
-buffer-known m drivers n k d x used r b c before after h p q e t u f g known i =
-    keep m drivers k d known (i .here) (
-    λ v.
-    known-right n drivers x m d known (i .driven) (named m drivers known n k i r x p used u c before after f g) h v
-    ∙ sym (buffer-driver m drivers known n k i r x p used u c before after f g q (buffer-kind r b e t))
-    )
+    pub buffer-known : (n k d : ℕ) (b : Bool) → d ≡ knownDriver n drivers x → r ≡ m .at k → b ≡ noBuffer r → b ≡ false → Buffering n m k → Known m (set drivers k d)
+    buffer-known n k d b h q e t i = fine-known m drivers known r x p fed-fine n k d h q (buffer-kind r b e t) i
 
 module _ (n : ℕ) (m : Netlist) (drivers : List ℕ) (level x : ℕ) (w : Traceable n m drivers level x) where
   pub walk-stays : x < n → Traced m x x drivers
@@ -153,6 +155,20 @@ pub buffer-traceable :
 buffer-traceable n m drivers size k level w known e l h =
     record { walkable = w; here = rw e at l; stands = h; known = known }
 
+-- a used slot may be traced from, one level lower
+module _ (first : ℕ) (m : Netlist) (before : List ℕ) (r : Record) (n : ℕ) (w : SlotsTraceable first m before r n) (j : ℕ) (l : j < n) where
+  pub slot-level : 1 ≤ r .level
+  slot-level = omega (arith, w .lower j l)
+
+  pub slot-traceable : (drivers : List ℕ) (x : ℕ) → Known m drivers → x ≡ slot r j → Traceable first m drivers (r .level - 1) x
+  slot-traceable drivers x known e =
+      rw e (record {
+        walkable = w .walkable;
+        here = w .slots j l;
+        stands = omega (arith, w .lower j l);
+        known = known;
+      })
+
 -- no slot below j strays, and what is known is right
 pub record NoneStrayed (m : Netlist) (a r : Record) (n : ℕ) (drivers : List ℕ) (j : ℕ) : Type 0 where
   pub none : NoneYet (strays m a r) n j
@@ -167,17 +183,8 @@ module _ (first : ℕ) (m : Netlist) (before : List ℕ) (a r : Record) (n : ℕ
     strayed-end l = record { answer = any-end (strays m a r) n j (i .none) l; known = i .known }
 
     module _ (l : j < n) where
-      pub strayed-level : 1 ≤ r .level
-      strayed-level = omega (arith, w .lower j l)
-
       pub strayed-traceable : (x : ℕ) → x ≡ slot r j → Traceable first m drivers (r .level - 1) x
-      strayed-traceable x e =
-          rw e (record {
-            walkable = w .walkable;
-            here = w .slots j l;
-            stands = omega (arith, w .lower j l);
-            known = i .known;
-          })
+      strayed-traceable x e = slot-traceable first m before r n w j l drivers x (i .known) e
 
     module _ (after : List ℕ) (x d y : ℕ) (f : Traced m x d after) (e : x ≡ slot r j) (l : j < n) where
       here : y ≡ slot a j → strays m a r j ≡ not (eqb d y)

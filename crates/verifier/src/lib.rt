@@ -11,8 +11,8 @@ use netlist::record_count;
 use traces::UNKNOWN;
 
 mod feeds;
-mod places;
-mod traces;
+pub mod places;
+pub mod traces;
 
 // Entries of the local arrays: one for each record of a mapped netlist.
 const RECORDS: usize = netlist::MAPPED_LIMIT;

@@ -85,7 +85,7 @@ fn bad_name(mapped: &[u8], r: Record, j: usize) -> bool
 }
 
 // Checks 14 and 15 of one used slot: it names no fanin, or one that is not one level lower.
-fn bad_fanin(mapped: &[u8], r: Record, j: usize) -> bool
+pub fn bad_fanin(mapped: &[u8], r: Record, j: usize) -> bool
     ensures { λ b. ⌜ b ≡ badFanin (netlist (now (mapped .entry))) r j ⌝ }
 {
     if bad_name(mapped, r, j) {

@@ -16,10 +16,10 @@ use netlist::record_reader;
 use netlist::slot;
 
 // What stands for a driver that is not known yet.
-pub(crate) const UNKNOWN: u16 = 65535;
+pub const UNKNOWN: u16 = 65535;
 
 // What is known of record x's driver, where none of the first n records is a buffer.
-pub(crate) fn known(n: u32, drivers: &[u16], x: u16) -> u16
+pub fn known(n: u32, drivers: &[u16], x: u16) -> u16
     requires { ⌜ x < length (now drivers) ⌝ }
     ensures { λ d. ⌜ d ≡ knownDriver n (now (drivers .entry)) x ⌝ }
 {
@@ -31,7 +31,7 @@ pub(crate) fn known(n: u32, drivers: &[u16], x: u16) -> u16
 }
 
 // The driver of record x: x itself below n, where no buffer stands; of a buffer what is known, or what the walk back from it finds.
-fn walk(mapped: &[u8], n: u32, drivers: &mut [u16], level: u16, x: u16) -> u16
+pub fn walk(mapped: &[u8], n: u32, drivers: &mut [u16], level: u16, x: u16) -> u16
     requires { ⌜ Traceable n (netlist (now mapped)) (now drivers) level x ⌝ }
     ensures { λ d. ⌜ Traced (netlist (now (mapped .entry))) x d (now (drivers .exit)) ⌝ }
 {

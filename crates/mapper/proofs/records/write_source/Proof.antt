@@ -2,7 +2,8 @@
 use Prim.Native.Nat.{_-_}
 use Rattle.netlist.specs.Records.{recordCount}
 use Rattle.mapper.specs.PrivateWriting.{relinkedAt}
-use Rattle.mapper.proofs.WriteRecords.{RecordsSoFar, written-start, source-more, source-end}
+use Rattle.netlist.proofs.Bytes.{RecordsSoFar, written-start}
+use Rattle.mapper.proofs.WriteRecords.{source-more, source-end}
 use borrow.Author.Needs.{needs}
 use Rattle.mapper.proofs.records.write_source.Statement.{statement}
 use Rattle.mapper.proofs.records.write_source.Tie as tie

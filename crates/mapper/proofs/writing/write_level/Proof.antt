@@ -1,7 +1,8 @@
 -- `write_level` meets its contract: the first j buffers are written.
 use Prim.Native.Nat.{_-_}
 use Rattle.mapper.specs.PrivateWriting.{levelRecord}
-use Rattle.mapper.proofs.WriteRecords.{RecordsSoFar, written-start, written-end, level-parent, level-more}
+use Rattle.netlist.proofs.Bytes.{RecordsSoFar, written-start, written-end}
+use Rattle.mapper.proofs.WriteRecords.{level-parent, level-more}
 use borrow.Author.Needs.{needs}
 use Rattle.mapper.proofs.writing.write_level.Statement.{statement}
 use Rattle.mapper.proofs.writing.write_level.Tie as tie

@@ -1,7 +1,8 @@
 -- `write_line` meets its contract: the first j buffers are written.
 use Prim.Native.Nat.{_-_}
 use Rattle.mapper.specs.PrivateWriting.{lineRecord}
-use Rattle.mapper.proofs.WriteRecords.{RecordsSoFar, written-start, written-end, line-more}
+use Rattle.netlist.proofs.Bytes.{RecordsSoFar, written-start, written-end}
+use Rattle.mapper.proofs.WriteRecords.{line-more}
 use borrow.Author.Needs.{needs}
 use Rattle.mapper.proofs.writing.write_line.Statement.{statement}
 use Rattle.mapper.proofs.writing.write_line.Tie as tie

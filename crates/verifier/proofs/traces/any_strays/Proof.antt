@@ -4,7 +4,7 @@ use Prim.Native.Nat.{_-_}
 use mathlib.Core.Path.{_≡_}
 use lib.ListN.{length}
 use Rattle.netlist.specs.Records.{netlist}
-use Rattle.verifier.proofs.Walking.{NoneStrayed, strayed-start, strayed-end, strayed-level, strayed-traceable, strayed-found, strayed-more}
+use Rattle.verifier.proofs.Walking.{NoneStrayed, strayed-start, strayed-end, slot-level, strayed-traceable, strayed-found, strayed-more}
 use Rattle.verifier.proofs.traces.any_strays.Statement.{statement}
 use Rattle.verifier.proofs.traces.any_strays.Tie as tie
 
@@ -21,7 +21,7 @@ slot-requires : tie.Need-slot-requires Inv-loop μ-loop
 slot-requires c κs = search needs
 
 sub-walk : tie.Need-sub-walk Inv-loop μ-loop
-sub-walk c = search strayed-level
+sub-walk c = search slot-level
 
 walk-requires : tie.Need-walk-requires Inv-loop μ-loop
 walk-requires c κs = search (needs, strayed-traceable)
