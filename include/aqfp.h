@@ -10,6 +10,7 @@
  *   aqfp_run         runs a mapped netlist phase by phase over many rows
  *   aqfp_step        runs a mapped netlist by one step
  *   aqfp_levels      writes a source with the least levels of its records
+ *   aqfp_strip       writes back the source that a mapped netlist came from
  *
  * C99 and C++. Link with the static library libaqfp.a.
  *
@@ -40,10 +41,10 @@
  * AREAS
  *
  * An area is a pointer and, after it, its length in bytes. It must have that length. An area that
- * a call may write (mapped of aqfp_map, counts, values, state, outputs, levelled, answer) must
- * share no byte with any other area of that call; areas that are only read may overlap. No call
- * can check either. Alignment does not matter. An empty area may be a null pointer; see
- * docs/INTEGRATION.md.
+ * a call may write (mapped of aqfp_map, counts, values, state, outputs, levelled, source of
+ * aqfp_strip, answer) must share no byte with any other area of that call; areas that are only
+ * read may overlap. No call can check either. Alignment does not matter. An empty area may be a
+ * null pointer; see docs/INTEGRATION.md.
  *
  * Any bytes and any numbers may be handed in: a call returns, and touches nothing but its areas.
  *
@@ -68,6 +69,10 @@
  *   number  condition                                                             place
  *
  *        1  capacity not 2, 3 or 4                                                0
+ *
+ *       24  a mapped netlist for which no source exists that aqfp_verify accepts  0
+ *           with it and the capacity
+ *       25  a source area shorter than that source                                0
  *
  *        2  source length not a multiple of 10                                    0
  *        3  source of more than 4,096 records                                     0
@@ -267,6 +272,25 @@ uint32_t aqfp_levels(const uint8_t *source, size_t source_len,
                      uint32_t capacity,
                      uint8_t *levelled, size_t levelled_len,
                      uint8_t answer[8]);
+
+/* Writes back the source that a mapped netlist, whoever wrote it, came from: the one source for
+ * which aqfp_verify accepts the mapped netlist with this capacity. No two sources have that.
+ *
+ * What aqfp_map wrote comes back as the source that was mapped. Mapping what this call writes,
+ * with the same capacity and a mapped area as long as the mapped netlist, is accepted, and gives
+ * a netlist with no more buffers: in all, on each net and at each level of each net.
+ *
+ * In:       capacity; mapped, which may be empty.
+ * Out:      source, whose first 10 x N bytes are written and whose other bytes stay. An area of
+ *           40,960 bytes is always enough.
+ * Answer:   number, place, N.
+ * Checks:   1, 24 (every fault of mapped, its length included), 25.
+ * Refused:  source stays as it was.
+ */
+uint32_t aqfp_strip(uint32_t capacity,
+                    const uint8_t *mapped, size_t mapped_len,
+                    uint8_t *source, size_t source_len,
+                    uint8_t answer[12]);
 
 #ifdef __cplusplus
 }

@@ -19,6 +19,9 @@ use Rattle.mapper.specs.Answer.{mappingNumbers}
 use Rattle.verifier.specs.declared.Verified.{Verified}
 use Rattle.verifier.specs.declared.Verified.the-variants as verified
 use Rattle.verifier.specs.Checks.{verifiedNumbers}
+use Rattle.strip.specs.declared.Stripped.{Stripped}
+use Rattle.strip.specs.declared.Stripped.the-variants as stripped
+use Rattle.strip.specs.Answer.{strippedNumbers}
 use Rattle.aqfp.specs.Answers.{numbers, first, Answered}
 
 -- one number more
@@ -91,3 +94,13 @@ module _ {r : ℕ} {l : List ℕ} where
       {v w : Verified} {number place : ℕ} → v ≡ w → v ≡ verified.Refused number place → Answered r l (number ∷ place ∷ 0 ∷ []) → Answered r l (verifiedNumbers w)
   unfolding verifiedNumbers
   verified-refused e f g = rw (← e, f) g
+
+  pub stripped-accepted :
+      {v w : Stripped} {records : ℕ} → v ≡ w → v ≡ stripped.Records records → Answered r l (0 ∷ 0 ∷ records ∷ []) → Answered r l (strippedNumbers w)
+  unfolding strippedNumbers
+  stripped-accepted e f g = rw (← e, f) g
+
+  pub stripped-refused :
+      {v w : Stripped} {number place : ℕ} → v ≡ w → v ≡ stripped.Refused number place → Answered r l (number ∷ place ∷ 0 ∷ []) → Answered r l (strippedNumbers w)
+  unfolding strippedNumbers
+  stripped-refused e f g = rw (← e, f) g

@@ -9,6 +9,7 @@ ghost use Rattle.levels.specs.Levels.{levelsAnswer, levelsArea};
 ghost use Rattle.nets.specs.Counts.{countsAnswer, countsArea};
 ghost use Rattle.mapper.specs.Answer.{mapAnswer, mapArea, mappingNumbers};
 ghost use Rattle.verifier.specs.Checks.{verifyAnswer, verifiedNumbers};
+ghost use Rattle.strip.specs.Answer.{stripAnswer, stripArea, strippedNumbers};
 ghost use Rattle.simulator.specs.Evaluate.{evaluateAnswer, evaluateArea};
 ghost use Rattle.simulator.specs.Step.{stepAnswer, stepArea};
 ghost use Rattle.simulator.specs.Run.{runAnswer, runArea, runOutputs};
@@ -17,6 +18,7 @@ use facts::Checked;
 use fanout::Count;
 use fanout::NO_TREE;
 use netlist::Capacities;
+use strip::Stripped;
 use verifier::Verified;
 
 // Stores the numbers of an answer and returns the first.
@@ -197,4 +199,22 @@ pub extern "C" fn aqfp_levels(
     ensures area { λ _. ⌜ now (levelled .exit) ≡ levelsArea (now (source .entry)) capacity (now (levelled .entry)) ⌝ }
 {
     answer_checked(answer, levels::assign_levels(source, capacity, levelled))
+}
+
+// Stripping: number, place, N.
+#[no_mangle]
+pub extern "C" fn aqfp_strip(
+    capacity: u32,
+    mapped: &[u8],
+    source: &mut [u8],
+    answer: &mut [u8; 12],
+) -> u32
+    ensures answer { λ r. ⌜ Answered r (now (answer .exit)) (strippedNumbers (stripAnswer (capacitiesOf capacity) (now (mapped .entry)) (now (source .entry)))) ⌝ }
+    ensures area { λ _. ⌜ now (source .exit) ≡ stripArea (capacitiesOf capacity) (now (mapped .entry)) (now (source .entry)) ⌝ }
+{
+    let stripped = strip::strip(Capacities { buffer: capacity }, mapped, source);
+    match stripped {
+        Stripped::Records(records) => write_answer(answer, &[0, 0, records]),
+        Stripped::Refused(number, place) => write_answer(answer, &[number, place, 0]),
+    }
 }

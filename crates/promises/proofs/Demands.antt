@@ -10,6 +10,7 @@ use Rattle.levels.proofs.Lowest.{levels-least}
 use Rattle.levels.proofs.Promises.{levels-exact, high-exactly, levels-keep, levels-written}
 use Rattle.nets.proofs.Promises.{counts-exact, counts-keep, counts-listed}
 use Rattle.mapper.proofs.Promises.{map-exact, refused-leaves, block-none}
+use Rattle.strip.proofs.Promises.{one-source, strip-exact, strip-accepts, strip-writes, strip-keeps}
 use Rattle.simulator.specs.Evaluate.{evaluateArea}
 use Rattle.simulator.specs.Step.{stepArea}
 use Rattle.simulator.specs.Run.{runArea, runOutputs}
@@ -19,6 +20,7 @@ use Rattle.promises.specs.Demands.{RefusedKeeps, Demand1, Demand2, Deman
 use Rattle.promises.proofs.Written.{written-legal, written-balanced, written-accepted, written-least, beyond-kept, buffers-one-number, maps-where-accepted}
 use Rattle.promises.proofs.Block.{block-exact, block-short}
 use Rattle.promises.proofs.Levelled.{levelled-maps}
+use Rattle.promises.proofs.RoundTrips.{strip-mapped, map-stripped}
 use Rattle.promises.proofs.Numbers.{numbers-exact}
 use Rattle.fanout.proofs.Call as net
 use Rattle.verifier.proofs.Refusals as verifier
@@ -51,6 +53,8 @@ demand-1 =
       levels = levels-exact;
       levelsKeep = levels-keep;
       tooHigh = high-exactly;
+      strip = strip-exact;
+      stripKeeps = strip-keeps;
       keeps = refused-keeps;
       countNumbers = numbers-exactly;
       numbers = numbers-exact;
@@ -76,6 +80,10 @@ demand-2 =
       shortBlock = block-short;
       levelled = levels-written;
       levelledMaps = levelled-maps;
+      oneSource = one-source;
+      strips = strip-accepts;
+      stripped = strip-writes;
+      stripMapped = strip-mapped;
     }
 
 pub demand-3 : Demand3
@@ -89,4 +97,5 @@ demand-3 =
       evaluator = evaluator-is-plain;
       height = height-exact;
       leastLevels = levels-least;
+      mapStripped = map-stripped;
     }

@@ -28,13 +28,17 @@ use Rattle.simulator.specs.Refusals.{AreaFails, EvaluateFails, StepFails, RunFa
 use Rattle.simulator.proofs.Refusals.{evaluate-exact, step-exact, run-exact}
 use Rattle.levels.specs.Promises.{LevelsFail}
 use Rattle.levels.proofs.Promises.{levels-exact, levels-numbered}
+use Rattle.strip.specs.Answer.{sourceSize, stripChecks, stripAnswer, strippedNumbers}
+use Rattle.strip.specs.Promises.{StripFails}
+use Rattle.strip.proofs.Promises.{strip-exact, strip-numbered, strip-accepts}
 use Rattle.nets.specs.Promises.{CountsFail}
 use Rattle.nets.proofs.Promises.{counts-exact}
 use Rattle.promises.specs.Written.{Maps}
-use Rattle.promises.specs.Numbers.{AnsweredExactly, TwoNumbers, Figures, MapNumbers, VerifyNumbers, NumbersExact}
+use Rattle.promises.specs.Numbers.{AnsweredExactly, TwoNumbers, Figures, MapNumbers, VerifyNumbers, StripNumbers, NumbersExact}
 use Rattle.promises.proofs.Written.{map-numbered, maps-passed}
 use Rattle.promises.proofs.Figures.{figures-hold, figures-same}
 use Rattle.verifier.specs.declared.Verified.the-variants as verified
+use Rattle.strip.specs.declared.Stripped.the-variants as stripped
 
 area-numbered : (Bad : Type 0) (row : List ℕ) → Numbered (AreaFails Bad row)
 area-numbered Bad row number place = ⊎-elim (λ f. omega (arith, f .0)) (λ z. omega (arith, z .2 .0))
@@ -111,6 +115,27 @@ module _ (source : List ℕ) (caps : Capacities) (mapped : List ℕ) where
         );
       }
 
+module _ (caps : Capacities) (mapped area : List ℕ) where
+  abbrev stripNumbers : Checked → List ℕ
+  stripNumbers a = strippedNumbers (outcome a (stripped.Records (sourceSize (netlist mapped))) stripped.Refused)
+
+  strip-numbers : StripNumbers caps mapped area (strippedNumbers (stripAnswer caps mapped area))
+  unfolding strippedNumbers first
+  strip-numbers =
+      record {
+        refused =
+            tell (StripFails caps mapped area) (stripChecks caps mapped area) stripNumbers
+            (λ number place. number ∷ place ∷ 0 ∷ []) (strip-exact caps mapped area) (strip-numbered caps mapped area)
+            (λ n p f. cc) (λ n p. refl) (λ n p m q f. (cc, cc));
+        accepted = λ N. (
+          λ f.
+              let passed = zero-passed (λ c. first (stripNumbers c)) (strip-exact caps mapped area) (strip-numbered caps mapped area) (λ n p. refl) (ap first f) in
+              let same : sourceSize (netlist mapped) ≡ N = cc (sym (ap stripNumbers passed) ∙ f) in
+              strip-accepts caps mapped area N .0 (rw passed (ap stripped.Records same)),
+          λ h. ap strippedNumbers (strip-accepts caps mapped area N .1 h),
+        );
+      }
+
 module _ (source : List ℕ) (caps : Capacities) (area : List ℕ) where
   abbrev answered : Checked → List ℕ
   answered a = mappingNumbers (answerOf a (netlist source) caps)
@@ -165,4 +190,5 @@ numbers-exact =
           two-numbers (RunFails source caps mapped r rows area outs) _ (run-exact source caps mapped r rows area outs)
           (λ number place. ⊎-elim (verify-numbered source caps mapped number place) (area-numbered _ rows number place));
       levels = λ source s area. two-numbers (LevelsFail source s area) _ (levels-exact source s area) (levels-numbered source s area);
+      strip = strip-numbers;
     }

@@ -12,6 +12,7 @@ use Rattle.verifier.specs.Fewest.{OnNetExactly}
 use Rattle.levels.specs.Promises.{HeightExact, LevelsLeast, LevelsExact, HighExactly, LevelsKeep, LevelsWritten}
 use Rattle.nets.specs.Promises.{CountsExact, CountsKeep, CountsListed}
 use Rattle.mapper.specs.Promises.{MapExact, RefusedLeaves, BlockNone}
+use Rattle.strip.specs.Promises.{OneSource, StripExact, StripAccepts, StripWrites, StripKeeps}
 use Rattle.simulator.specs.Evaluate.{evaluateAnswer, evaluateArea}
 use Rattle.simulator.specs.Step.{stepAnswer, stepArea}
 use Rattle.simulator.specs.Run.{runAnswer, runArea, runOutputs}
@@ -20,6 +21,7 @@ use Rattle.simulator.specs.Claims.{EvaluatorIsPlain, CallsArePlain, RunIsPlain,
 use Rattle.promises.specs.Written.{WrittenLegal, WrittenBalanced, WrittenAccepted, WrittenLeast, BeyondKept, BuffersOneNumber, MapsWhereAccepted}
 use Rattle.promises.specs.Block.{BlockExact, BlockShort}
 use Rattle.promises.specs.Levelled.{LevelledMaps}
+use Rattle.promises.specs.RoundTrips.{StripMapped, MapStripped}
 use Rattle.promises.specs.Numbers.{NumbersExact}
 use Rattle.fanout.specs.Promises as net
 use Rattle.verifier.specs.Refusals as verifier
@@ -53,6 +55,8 @@ pub record Demand1 : Type 0 where
   pub levels : LevelsExact
   pub levelsKeep : LevelsKeep
   pub tooHigh : HighExactly
+  pub strip : StripExact
+  pub stripKeeps : StripKeeps
   pub keeps : RefusedKeeps
   pub countNumbers : net.NumbersExactly
   pub numbers : NumbersExact
@@ -60,7 +64,8 @@ pub record Demand1 : Type 0 where
 
 -- demand 2: what is written is legal, path-balanced, properly branched and accepted, with the number of buffers answered; 'no tree'
 -- exactly when no tree at all is legal, by the count of one net and in a list of counts, which is the single counts; the verifier
--- accepts exactly the legal mapped netlists; a source with its least levels differs in level fields alone, and none of 1 to 8 refuses it
+-- accepts exactly the legal mapped netlists; a source with its least levels differs in level fields alone, and none of 1 to 8 refuses it;
+-- a mapped netlist has one source at most, stripping accepts exactly if there is one and writes it, and what the mapper wrote gives its source back
 pub record Demand2 : Type 0 where
   pub legal : WrittenLegal
   pub balanced : WrittenBalanced
@@ -78,10 +83,15 @@ pub record Demand2 : Type 0 where
   pub shortBlock : BlockShort
   pub levelled : LevelsWritten
   pub levelledMaps : LevelledMaps
+  pub oneSource : OneSource
+  pub strips : StripAccepts
+  pub stripped : StripWrites
+  pub stripMapped : StripMapped
 
 -- demand 3: no accepted netlist has fewer buffers, in all, on a net or at a level of a net, where a buffer's net is where its
 -- slot, traced back, ends; every list of one-step calls and every
--- run give the rows of plain logic; no levels that keep the rules are lower at any record than the least levels, by heights that are true
+-- run give the rows of plain logic; no levels that keep the rules are lower at any record than the least levels, by heights that are true;
+-- anybody's netlist, stripped and mapped again, has no more buffers
 pub record Demand3 : Type 0 where
   pub least : WrittenLeast
   pub nets : OnNetExactly
@@ -91,3 +101,4 @@ pub record Demand3 : Type 0 where
   pub evaluator : EvaluatorIsPlain
   pub height : HeightExact
   pub leastLevels : LevelsLeast
+  pub mapStripped : MapStripped

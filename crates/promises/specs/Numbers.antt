@@ -22,6 +22,8 @@ use Rattle.mapper.specs.Promises.{MapFails}
 use Rattle.verifier.specs.Checks.{verifyAnswer, verifiedNumbers}
 use Rattle.verifier.specs.Accepted.{Accepted}
 use Rattle.verifier.specs.Refusals.{VerifyFails}
+use Rattle.strip.specs.Answer.{stripAnswer, strippedNumbers}
+use Rattle.strip.specs.Promises.{StripFails, HasSource}
 use Rattle.simulator.specs.Evaluate.{evaluateAnswer}
 use Rattle.simulator.specs.Step.{stepAnswer}
 use Rattle.simulator.specs.Run.{runAnswer}
@@ -67,6 +69,11 @@ pub record VerifyNumbers (source : List ℕ) (caps : Capacities) (mapped : List 
   -- no condition holds exactly if the mapped netlist is legal
   pub clear : Clear (VerifyFails source caps mapped) ↔ Accepted source caps mapped
 
+-- stripping's three numbers
+pub record StripNumbers (caps : Capacities) (mapped area : List ℕ) (numbers : List ℕ) : Type 0 where
+  pub refused : AnsweredExactly (StripFails caps mapped area) numbers (λ number place. number ∷ place ∷ 0 ∷ [])
+  pub accepted : (N : ℕ) → (numbers ≡ 0 ∷ 0 ∷ N ∷ []) ↔ HasSource caps mapped area N
+
 -- of each call; the count's numbers are in `NumbersExactly` of fanout
 pub record NumbersExact : Type 0 where
   pub map : (source : List ℕ) (caps : Capacities) (area : List ℕ) → MapNumbers source caps area (mappingNumbers (mapAnswer source caps area))
@@ -82,3 +89,4 @@ pub record NumbersExact : Type 0 where
       TwoNumbers (RunFails source caps mapped r rows area outs) (checkedNumbers (runAnswer source caps mapped r rows area outs))
   pub levels : (source : List ℕ) (s : ℕ) (area : List ℕ) →
       TwoNumbers (LevelsFail source s area) (checkedNumbers (levelsAnswer source s area))
+  pub strip : (caps : Capacities) (mapped area : List ℕ) → StripNumbers caps mapped area (strippedNumbers (stripAnswer caps mapped area))

@@ -1,0 +1,5 @@
+pub mod Sources
+pub mod Fanins
+pub mod TracedRecords
+pub mod Promises
+pub mod Answering

@@ -1,0 +1,4 @@
+pub mod Sources
+pub mod Answer
+pub mod PrivateTracing
+pub mod Promises
