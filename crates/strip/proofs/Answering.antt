@@ -7,7 +7,6 @@ use mathlib.Core.Bool.{Bool, true, false}
 use mathlib.Core.List.{List, _++_}
 use lib.ListN.{length, take, drop}
 use lib.Seq.{take-at}
-use lib.Dec.{ltb}
 use borrow.Author.Tests.{lt-ltb, le-ltb}
 use Rattle.facts.specs.declared.Checked.{Checked}
 use Rattle.facts.specs.declared.Checked.the-variants.{Passed, Refused as Failed}
@@ -23,8 +22,8 @@ use Rattle.verifier.specs.Accepted.{Accepted}
 use Rattle.verifier.specs.Checks.{verifyChecks}
 use Rattle.verifier.proofs.Accepted.{checks-passed, accepted-exactly}
 use Rattle.strip.specs.declared.Stripped.the-variants.{Records, Refused}
-use Rattle.strip.specs.Answer.{sourceSize, strippedBytes, refuses, sourceCheck, roomCheck, sourceChecks, stripChecks, stripAnswer, stripArea}
-use Rattle.strip.specs.PrivateTracing.{Counted, LeftWritten}
+use Rattle.strip.specs.Answer.{sourceSize, strippedBytes, refuses, sourcelessCheck, roomCheck, strippingChecks, stripChecks, stripAnswer, stripArea}
+use Rattle.strip.specs.PrivateTracing.{strippingArea, SizesFit, LeftWritten}
 use Rattle.strip.proofs.Sources.{length-left, count-left}
 use Rattle.strip.proofs.Fanins.{legal-standing}
 use Rattle.strip.proofs.Promises.{passed-source}
@@ -52,7 +51,7 @@ module _ (caps : Capacities) (mapped : List ℕ) where
       record { none = λ a. passed-refused number place (sym (checks-passed (strippedBytes mapped) caps mapped .1 a) ∙ sym e ∙ f) }
 
   -- then 24 is answered, and the area stays
-  none-refuses : NoneLeft caps mapped → sourceCheck caps mapped ≡ Failed 24 0
+  none-refuses : NoneLeft caps mapped → sourcelessCheck caps mapped ≡ Failed 24 0
   none-refuses n = go (verifyChecks (strippedBytes mapped) caps mapped) (λ e. n .none (checks-passed (strippedBytes mapped) caps mapped .0 e))
     where
       go : (a : Checked) → (a ≡ Passed → ⊥) → check 24 0 (refuses a) ≡ Failed 24 0
@@ -60,11 +59,11 @@ module _ (caps : Capacities) (mapped : List ℕ) where
       go (Failed number place) h = refl
 
   module _ (area : List ℕ) where
-    pub none-answered : NoneLeft caps mapped → Failed 24 0 ≡ sourceChecks caps mapped area
-    unfolding sourceChecks
-    none-answered n = then-stop (sourceCheck caps mapped) (sourceCheck caps mapped) (roomCheck mapped area) refl 24 0 (none-refuses n)
+    pub none-answered : NoneLeft caps mapped → Failed 24 0 ≡ strippingChecks caps mapped area
+    unfolding strippingChecks
+    none-answered n = then-stop (sourcelessCheck caps mapped) (sourcelessCheck caps mapped) (roomCheck (strippedBytes mapped) area) refl 24 0 (none-refuses n)
 
-    pub none-kept : NoneLeft caps mapped → area ≡ unlessRefused (sourceChecks caps mapped area) (onto (strippedBytes mapped) area) area
+    pub none-kept : NoneLeft caps mapped → area ≡ strippingArea caps mapped area
     none-kept n = rw (← none-answered n)
 
     -- the verifier decides
@@ -73,20 +72,20 @@ module _ (caps : Capacities) (mapped : List ℕ) where
       judged-refused number place f = judged-none judged number place (e ∙ ap (λ (l : List ℕ). verifyChecks l caps mapped) s) f
 
       module _ (p : judged ≡ Passed) where
-        passes : Passed ≡ sourceCheck caps mapped
+        passes : Passed ≡ sourcelessCheck caps mapped
         passes = rw (← s, ← e, p)
 
-        pub judged-answered : (a : Checked) → a ≡ check 25 0 (ltb (length area) (length source)) → a ≡ sourceChecks caps mapped area
-        unfolding sourceChecks
-        judged-answered a f = then-go Passed (sourceCheck caps mapped) (roomCheck mapped area) passes a refl (f ∙ ap (λ (l : List ℕ). check 25 0 (ltb (length area) (length l))) s)
+        pub judged-answered : (a : Checked) → a ≡ roomCheck source area → a ≡ strippingChecks caps mapped area
+        unfolding strippingChecks
+        judged-answered a f = then-go Passed (sourcelessCheck caps mapped) (roomCheck (strippedBytes mapped) area) passes a refl (f ∙ ap (λ (l : List ℕ). roomCheck l area) s)
 
-        pub judged-written : (after : List ℕ) → after ≡ unlessRefused (check 25 0 (ltb (length area) (length source))) (onto source area) area →
-            after ≡ unlessRefused (sourceChecks caps mapped area) (onto (strippedBytes mapped) area) area
-        unfolding sourceChecks
-        judged-written after f = go-written Passed (sourceCheck caps mapped) (roomCheck mapped area) passes (onto (strippedBytes mapped) area) area after refl (rw s at f)
+        pub judged-written : (after : List ℕ) → after ≡ unlessRefused (roomCheck source area) (onto source area) area →
+            after ≡ strippingArea caps mapped area
+        unfolding strippingChecks
+        judged-written after f = go-written Passed (sourcelessCheck caps mapped) (roomCheck (strippedBytes mapped) area) passes (onto (strippedBytes mapped) area) area after refl (rw s at f)
 
 -- what is left, as a part of the array that it was written into
-pub left-part : (mapped : List ℕ) (n all : ℕ) (b : Bool) (before after : List ℕ) → Counted (netlist mapped) n all → LeftWritten mapped b before after → b ≡ true →
+pub left-part : (mapped : List ℕ) (n all : ℕ) (b : Bool) (before after : List ℕ) → SizesFit (netlist mapped) n all → LeftWritten mapped b before after → b ≡ true →
     take (width * n - 0) after ≡ strippedBytes mapped
 left-part mapped n all b before after c w t =
     let z : length (strippedBytes mapped) ≡ width * n - 0 = omega (arith, length-left mapped, c .size) in
@@ -94,41 +93,41 @@ left-part mapped n all b before after c w t =
 
 -- 25, then the source at the start of the area
 module _ (source area : List ℕ) where
-  pub short-refused : length area < length source → Failed 25 0 ≡ check 25 0 (ltb (length area) (length source))
+  pub short-refused : length area < length source → Failed 25 0 ≡ roomCheck source area
   short-refused h = rw (lt-ltb (length area) (length source) h)
 
-  pub short-kept : length area < length source → area ≡ unlessRefused (check 25 0 (ltb (length area) (length source))) (onto source area) area
+  pub short-kept : length area < length source → area ≡ unlessRefused (roomCheck source area) (onto source area) area
   short-kept h = rw (lt-ltb (length area) (length source) h)
 
   module _ (h : length source ≤ length area) where
-    pub room-passed : Passed ≡ check 25 0 (ltb (length area) (length source))
+    pub room-passed : Passed ≡ roomCheck source area
     room-passed = rw (le-ltb (length area) (length source) h)
 
     pub room-written : (part : List ℕ) → part ≡ source →
-        part ++ drop (length source - 0) area ≡ unlessRefused (check 25 0 (ltb (length area) (length source))) (onto source area) area
+        part ++ drop (length source - 0) area ≡ unlessRefused (roomCheck source area) (onto source area) area
     room-written part e =
         let z : length source - 0 ≡ length source = omega arith in
         rw (e, le-ltb (length area) (length source) h, z)
 
 -- 1, then the rest
 module _ (caps : Capacities) (mapped area : List ℕ) (a : Checked) (e : a ≡ capacityChecks caps) where
-  pub allowed-answered : (b : Checked) → a ≡ Passed → b ≡ sourceChecks caps mapped area → b ≡ stripChecks caps mapped area
+  pub allowed-answered : (b : Checked) → a ≡ Passed → b ≡ strippingChecks caps mapped area → b ≡ stripChecks caps mapped area
   unfolding stripChecks
-  allowed-answered b p f = then-go a (capacityChecks caps) (sourceChecks caps mapped area) e b p f
+  allowed-answered b p f = then-go a (capacityChecks caps) (strippingChecks caps mapped area) e b p f
 
-  pub allowed-written : (after : List ℕ) → a ≡ Passed → after ≡ unlessRefused (sourceChecks caps mapped area) (onto (strippedBytes mapped) area) area →
+  pub allowed-written : (after : List ℕ) → a ≡ Passed → after ≡ strippingArea caps mapped area →
       after ≡ stripArea caps mapped area
   unfolding stripChecks
-  allowed-written after p f = go-written a (capacityChecks caps) (sourceChecks caps mapped area) e (onto (strippedBytes mapped) area) area after p f
+  allowed-written after p f = go-written a (capacityChecks caps) (strippingChecks caps mapped area) e (onto (strippedBytes mapped) area) area after p f
 
   module _ (number place : ℕ) (p : a ≡ Failed number place) where
     pub capacity-refused : Failed number place ≡ stripChecks caps mapped area
     unfolding stripChecks
-    capacity-refused = then-stop a (capacityChecks caps) (sourceChecks caps mapped area) e number place p
+    capacity-refused = then-stop a (capacityChecks caps) (strippingChecks caps mapped area) e number place p
 
     pub capacity-kept : area ≡ stripArea caps mapped area
     unfolding stripChecks
-    capacity-kept = stop-kept a (capacityChecks caps) (sourceChecks caps mapped area) e (onto (strippedBytes mapped) area) area number place p
+    capacity-kept = stop-kept a (capacityChecks caps) (strippingChecks caps mapped area) e (onto (strippedBytes mapped) area) area number place p
 
 -- the answer of the whole
 module _ (caps : Capacities) (mapped area : List ℕ) (a : Checked) (e : a ≡ stripChecks caps mapped area) where

@@ -25,12 +25,12 @@ use Rattle.verifier.specs.PrivateFeeding.{badFanin}
 use Rattle.verifier.specs.PrivateWalking.{Driven, Walkable, Known, knownDriver}
 use Rattle.verifier.proofs.Walking.{fine-room, fine-known}
 use Rattle.strip.specs.Answer.{sourceSize}
-use Rattle.strip.specs.PrivateTracing.{badFanins, badBuffer, Counted, BuffersLooked, Standing, Looked}
+use Rattle.strip.specs.PrivateTracing.{badFanins, badBuffer, SizesFit, BuffersLooked, Standing, Looked}
 
 -- no record before the first buffer is one
-counted-driven : (m : Netlist) (n all : ℕ) → Counted m n all → Driven n m
+sizes-driven : (m : Netlist) (n all : ℕ) → SizesFit m n all → Driven n m
 unfolding sourceSize
-counted-driven m n all c =
+sizes-driven m n all c =
     record { driver = λ x l. eqb-false _ _ (seek-before (isBuffer m) 0 (m .size) x (omega arith) (omega (arith, c .size))) }
 
 -- record k fails 14 or 15, or does not
@@ -72,12 +72,12 @@ module _ (m : Netlist) (r : Record) where
 pub record BuffersSoFar (n : ℕ) (m : Netlist) (all : ℕ) (drivers : List ℕ) (k : ℕ) : Type 0 where
   pub from : n ≤ k
   pub within : k ≤ all
-  pub counted : Counted m n all
+  pub counted : SizesFit m n all
   pub good : (i : ℕ) → n ≤ i → i < k → badBuffer m (m .at i) ≡ false
   pub known : Known m drivers
 
 module _ (n : ℕ) (m : Netlist) (all : ℕ) (drivers : List ℕ) where
-  pub buffers-start : Counted m n all → Known m drivers → BuffersSoFar n m all drivers n
+  pub buffers-start : SizesFit m n all → Known m drivers → BuffersSoFar n m all drivers n
   unfolding sourceSize
   buffers-start c known =
       record {
@@ -129,11 +129,11 @@ module _ (n : ℕ) (m : Netlist) (all : ℕ) (drivers : List ℕ) where
                 ];
                 known =
                     fine-known m drivers (s .known) r x p (fine .1) n k d h e (fine .0)
-                    (record { from = s .from; here = buffer-inside; driven = counted-driven m n all (s .counted) });
+                    (record { from = s .from; here = buffer-inside; driven = sizes-driven m n all (s .counted) });
               }
 
 -- the look as a whole
-module _ (m : Netlist) (n all : ℕ) (c : Counted m n all) where
+module _ (m : Netlist) (n all : ℕ) (c : SizesFit m n all) where
   pub records-inside : n ≤ m .size
   unfolding sourceSize
   records-inside = omega (arith, c .size, seek-within (isBuffer m) 0 (m .size))
@@ -168,7 +168,7 @@ module _ (m : Netlist) (n all : ℕ) (c : Counted m n all) where
           let each : (k j : ℕ) → k < m .size → j < arity (m .at k .kind) → badFanin m (m .at k) j ≡ false =
           λ k j h a. any-none (badFanin m (m .at k)) (arity (m .at k .kind)) .0 (fanins-good u k h) j a in
           record {
-            driven = counted-driven m n all c;
+            driven = sizes-driven m n all c;
             buffers = λ k a h. buffer-good m (m .at k) (l .good u k a h) .0;
             named = λ k j h a. (let f = simp reflect at (each k j h a) in f .0 .0);
             balanced = λ k j h a. (let f = simp reflect at (each k j h a) in f .1);

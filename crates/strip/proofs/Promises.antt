@@ -25,8 +25,8 @@ use Rattle.verifier.specs.Checks.{verifyChecks}
 use Rattle.verifier.proofs.Accepted.{checks-passed, accepted-exactly}
 use Rattle.strip.specs.declared.Stripped.the-variants.{Records, Refused}
 use Rattle.strip.specs.Sources.{SourceOf}
-use Rattle.strip.specs.Answer.{sourceSize, strippedBytes, refuses, sourceCheck, roomCheck, sourceChecks, stripChecks}
-use Rattle.strip.specs.Promises.{OneSource, NoSource, TooShort, StripFails, StripExact, StripAccepts, StripWrites, StripKeeps}
+use Rattle.strip.specs.Answer.{sourceSize, strippedBytes, refuses, sourcelessCheck, roomCheck, strippingChecks, stripChecks}
+use Rattle.strip.specs.Promises.{OneSource, NoSource, NoRoom, StripFails, StripExact, StripAccepts, StripWrites, StripKeeps}
 use Rattle.strip.proofs.Sources.{stripped-source, count-left, source-left}
 
 pub one-source : OneSource
@@ -53,17 +53,17 @@ module _ (caps : Capacities) (mapped : List ℕ) where
       go Passed h = absurd (h refl)
       go (Failed number place) h = refl
 
-  source-passed : sourceCheck caps mapped ≡ Passed → SourceOf caps mapped (strippedBytes mapped)
+  source-passed : sourcelessCheck caps mapped ≡ Passed → SourceOf caps mapped (strippedBytes mapped)
   source-passed e = source-left caps mapped (refuses-none _ .0 (check-passed 24 0 _ .0 e))
 
-  short-is : (area : List ℕ) → sourceCheck caps mapped ≡ Passed → (ltb (length area) (length (strippedBytes mapped)) ≡ true) ↔ TooShort caps mapped area
+  short-is : (area : List ℕ) → sourcelessCheck caps mapped ≡ Passed → (ltb (length area) (length (strippedBytes mapped)) ≡ true) ↔ NoRoom caps mapped area
   short-is area e = (
     λ f. (strippedBytes mapped, source-passed e, ltb-true _ _ f),
     λ t. lt-ltb (length area) (length (strippedBytes mapped)) (omega (arith, ap length (stripped-source caps mapped (t .0) (t .1)), t .2)),
   )
 
 strip-first : (caps : Capacities) (mapped area : List ℕ) → First (StripFails caps mapped area) (stripChecks caps mapped area)
-unfolding stripChecks sourceChecks
+unfolding stripChecks strippingChecks
 strip-first caps mapped area =
     first-then
     (rows-before (rowOf 1) (λ n p f. omega (arith, one-row 1 0 _ n p f))
@@ -85,18 +85,18 @@ strip-numbered caps mapped area n p =
 -- what passing gives, and what gives it
 module _ (caps : Capacities) (mapped area : List ℕ) where
   pub passed-source : stripChecks caps mapped area ≡ Passed → SourceOf caps mapped (strippedBytes mapped) × (length (strippedBytes mapped) ≤ length area)
-  unfolding stripChecks sourceChecks
+  unfolding stripChecks strippingChecks
   passed-source e =
-      let late = then-passed (sourceCheck caps mapped) _ .0 (then-passed (capacityChecks caps) _ .0 e .1) in
+      let late = then-passed (sourcelessCheck caps mapped) _ .0 (then-passed (capacityChecks caps) _ .0 e .1) in
       (source-passed caps mapped (late .0), ltb-false _ _ (check-passed 25 0 _ .0 (late .1)))
 
   pub source-passes : (source : List ℕ) → SourceOf caps mapped source → length source ≤ length area → stripChecks caps mapped area ≡ Passed
-  unfolding stripChecks sourceChecks
+  unfolding stripChecks strippingChecks
   source-passes source s room =
       let allowed = accepted-exactly source caps mapped (s .buffers) .0 (s .accepted) .0 .allowed in
       then-passed (capacityChecks caps) _ .1 (
         capacity-passed (caps .buffer) .1 (allowed .low, allowed .high),
-        then-passed (sourceCheck caps mapped) (roomCheck mapped area) .1 (
+        then-passed (sourcelessCheck caps mapped) (roomCheck (strippedBytes mapped) area) .1 (
           check-passed 24 0 _ .1 (refuses-none _ .1 (left-passed caps mapped source s)),
           check-passed 25 0 _ .1 (le-ltb (length area) (length (strippedBytes mapped)) (omega (arith, ap length (stripped-source caps mapped source s)))),
         ),

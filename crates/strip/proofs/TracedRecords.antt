@@ -28,7 +28,7 @@ use Rattle.verifier.specs.Trace.{driver}
 use Rattle.verifier.specs.PrivateWalking.{unknown, Known, Traced, SlotsTraceable}
 use Rattle.verifier.proofs.Walking.{known-none}
 use Rattle.strip.specs.Answer.{sourceSize, tracedSlot, tracedRecord, stripped, strippedBytes}
-use Rattle.strip.specs.PrivateTracing.{Counted, Looked, RecordTraced, Writable, LeftWritten}
+use Rattle.strip.specs.PrivateTracing.{SizesFit, Looked, RecordTraced, LeftReady, LeftWritten}
 use Rattle.netlist.specs.Kinds as kinds
 
 -- the first j slots are traced
@@ -101,10 +101,10 @@ pub record LeftSoFar (mapped : List ℕ) (n : ℕ) (before source drivers : List
   pub known : Known (netlist mapped) drivers
 
 module _ (mapped : List ℕ) (n : ℕ) (before : List ℕ) where
-  pub left-start : (drivers : List ℕ) → Writable (netlist mapped) n drivers before → LeftSoFar mapped n before before drivers 0
+  pub left-start : (drivers : List ℕ) → LeftReady (netlist mapped) n drivers before → LeftSoFar mapped n before before drivers 0
   left-start drivers w = record { records = written-start before 0 _ n; known = w .known }
 
-  module _ (known₀ : List ℕ) (w : Writable (netlist mapped) n known₀ before) (source drivers : List ℕ) (k : ℕ) (s : LeftSoFar mapped n before source drivers k) where
+  module _ (known₀ : List ℕ) (w : LeftReady (netlist mapped) n known₀ before) (source drivers : List ℕ) (k : ℕ) (s : LeftSoFar mapped n before source drivers k) where
     pub left-end : n ≤ k → source ≡ onto (strippedBytes mapped) before
     unfolding strippedBytes
     left-end l =
@@ -144,9 +144,9 @@ module _ (mapped : List ℕ) (n : ℕ) (before : List ℕ) where
           }
 
 -- looked at, then written
-module _ (mapped : List ℕ) (n all : ℕ) (c : Counted (netlist mapped) n all) (b : Bool) (drivers : List ℕ) (l : Looked n (netlist mapped) b drivers) where
-  pub looked-writable : (source : List ℕ) → width * n ≤ length source → b ≡ true → Writable (netlist mapped) n drivers source
-  looked-writable source room t = record { walkable = l .good t; size = c .size; known = l .known; room = room }
+module _ (mapped : List ℕ) (n all : ℕ) (c : SizesFit (netlist mapped) n all) (b : Bool) (drivers : List ℕ) (l : Looked n (netlist mapped) b drivers) where
+  pub looked-ready : (source : List ℕ) → width * n ≤ length source → b ≡ true → LeftReady (netlist mapped) n drivers source
+  looked-ready source room t = record { walkable = l .good t; size = c .size; known = l .known; room = room }
 
   pub looked-bad : (source : List ℕ) → b ≡ false → LeftWritten mapped false source source
   looked-bad source t =
@@ -156,8 +156,8 @@ pub looked-written : (mapped before after : List ℕ) → after ≡ onto (stripp
 looked-written mapped before after e = record { good = λ t. e; bad = λ t. absurd (true-false true refl t) }
 
 -- with a new array, an entry for each record
-pub known-fresh : (m : Netlist) (n all entries : ℕ) → Counted m n all → all ≤ entries → Known m (replicate entries unknown)
+pub known-fresh : (m : Netlist) (n all entries : ℕ) → SizesFit m n all → all ≤ entries → Known m (replicate entries unknown)
 known-fresh m n all entries c l = known-none m entries (omega (arith, c .records))
 
-pub known-full : (m : Netlist) (n all : ℕ) → Counted m n all → Known m (replicate mappedLimit unknown)
+pub known-full : (m : Netlist) (n all : ℕ) → SizesFit m n all → Known m (replicate mappedLimit unknown)
 known-full m n all c = known-fresh m n all mappedLimit c (c .fits)

@@ -52,20 +52,20 @@ abbrev pub refuses : Checked → Bool
 refuses a = outcome a false (λ number place. true)
 
 -- 24: the verifier does not accept the mapped netlist for what is left of it
-abbrev pub sourceCheck : Capacities → List ℕ → Checked
-sourceCheck caps mapped = check 24 0 (refuses (verifyChecks (strippedBytes mapped) caps mapped))
+abbrev pub sourcelessCheck : Capacities → List ℕ → Checked
+sourcelessCheck caps mapped = check 24 0 (refuses (verifyChecks (strippedBytes mapped) caps mapped))
 
--- 25: the area is shorter
+-- 25: the area is shorter than a source
 abbrev pub roomCheck : List ℕ → List ℕ → Checked
-roomCheck mapped area = check 25 0 (ltb (length area) (length (strippedBytes mapped)))
+roomCheck source area = check 25 0 (ltb (length area) (length source))
 
 -- 24, then 25
-unfoldable pub sourceChecks : Capacities → List ℕ → List ℕ → Checked
-sourceChecks caps mapped area = sourceCheck caps mapped andThen roomCheck mapped area
+unfoldable pub strippingChecks : Capacities → List ℕ → List ℕ → Checked
+strippingChecks caps mapped area = sourcelessCheck caps mapped andThen roomCheck (strippedBytes mapped) area
 
 -- 1, 24, 25
 unfoldable pub stripChecks : Capacities → List ℕ → List ℕ → Checked
-stripChecks caps mapped area = capacityChecks caps andThen sourceChecks caps mapped area
+stripChecks caps mapped area = capacityChecks caps andThen strippingChecks caps mapped area
 
 -- the call's answer
 abbrev pub stripAnswer : Capacities → List ℕ → List ℕ → Stripped

@@ -1,4 +1,5 @@
--- For private functions alone: what a mapped netlist must have before its slots are traced, and the source while it is written.
+-- For private functions alone: what a mapped netlist must have before its slots are traced, the source while it is written, and the area
+-- once it is decided.
 use Prim.Native.Nat.{ℕ, _*_, _≤_, _<_}
 use mathlib.Core.Path.{_≡_}
 use mathlib.Core.Bool.{Bool, true, false, not, _||_}
@@ -6,13 +7,19 @@ use mathlib.Core.List.{List}
 use lib.ListN.{length}
 use lib.Dec.{eqb}
 use Rattle.facts.specs.Areas.{onto}
+use Rattle.facts.specs.Checks.{unlessRefused}
 use Rattle.facts.specs.Sums.{any}
+use Rattle.netlist.specs.declared.Capacities.{Capacities}
 use Rattle.netlist.specs.declared.Record.{Record}
 use Rattle.netlist.specs.Kinds.{width, sourceLimit, mappedLimit, buffer, arity}
 use Rattle.netlist.specs.Records.{Netlist, netlist}
 use Rattle.verifier.specs.PrivateFeeding.{badFanin}
 use Rattle.verifier.specs.PrivateWalking.{Walkable, Known}
-use Rattle.strip.specs.Answer.{sourceSize, tracedRecord, strippedBytes}
+use Rattle.strip.specs.Answer.{sourceSize, tracedRecord, strippedBytes, strippingChecks}
+
+-- the area once 24 and 25 are decided
+abbrev pub strippingArea : Capacities → List ℕ → List ℕ → List ℕ
+strippingArea caps mapped area = unlessRefused (strippingChecks caps mapped area) (onto (strippedBytes mapped) area) area
 
 -- record k fails 14 or 15
 abbrev pub badFanins : Netlist → ℕ → Bool
@@ -23,7 +30,7 @@ abbrev pub badBuffer : Netlist → Record → Bool
 badBuffer m r = not (eqb (r .kind) buffer) || badFanin m r 0
 
 -- the sizes, once they are within the limits
-pub record Counted (m : Netlist) (n all : ℕ) : Type 0 where
+pub record SizesFit (m : Netlist) (n all : ℕ) : Type 0 where
   pub size : n ≡ sourceSize m
   pub records : all ≡ m .size
   pub few : n ≤ sourceLimit
@@ -52,7 +59,7 @@ pub record RecordTraced (m : Netlist) (r traced : Record) (drivers : List ℕ) :
   pub known : Known m drivers
 
 -- what is left of a mapped netlist can be written
-pub record Writable (m : Netlist) (n : ℕ) (drivers source : List ℕ) : Type 0 where
+pub record LeftReady (m : Netlist) (n : ℕ) (drivers source : List ℕ) : Type 0 where
   pub walkable : Walkable n m
   pub size : n ≡ sourceSize m
   pub known : Known m drivers

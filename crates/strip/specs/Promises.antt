@@ -22,13 +22,13 @@ abbrev pub NoSource : Capacities → List ℕ → Type 0
 NoSource caps mapped = (source : List ℕ) → SourceOf caps mapped source → ⊥
 
 -- 25: the area is shorter than the source
-abbrev pub TooShort : Capacities → List ℕ → List ℕ → Type 0
-TooShort caps mapped area = (source : List ℕ) × SourceOf caps mapped source × (length area < length source)
+abbrev pub NoRoom : Capacities → List ℕ → List ℕ → Type 0
+NoRoom caps mapped area = (source : List ℕ) × SourceOf caps mapped source × (length area < length source)
 
 -- 1, 24, 25
 abbrev pub StripFails : Capacities → List ℕ → List ℕ → Conditions
 StripFails caps mapped area =
-    CapacityFails caps or Fails 24 0 (NoSource caps mapped) or Fails 25 0 (TooShort caps mapped area)
+    CapacityFails caps or Fails 24 0 (NoSource caps mapped) or Fails 25 0 (NoRoom caps mapped area)
 
 -- each number is answered exactly where its condition is the first that holds, and a call is accepted exactly if none does
 abbrev pub StripExact : Type 0

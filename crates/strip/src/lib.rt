@@ -1,12 +1,10 @@
 // Stripping (specification 4.11): the source that a mapped netlist came from.
 ghost use mathlib.Core.Path.{_≡_};
-ghost use lib.Dec.{ltb};
-ghost use lib.ListN.{length};
 ghost use Rattle.facts.specs.Areas.{onto};
-ghost use Rattle.facts.specs.Checks.{check, unlessRefused};
+ghost use Rattle.facts.specs.Checks.{unlessRefused};
 ghost use Rattle.netlist.specs.Records.{netlist};
-ghost use Rattle.strip.specs.Answer.{sourceSize, strippedBytes, sourceChecks, stripChecks, stripAnswer, stripArea};
-ghost use Rattle.strip.specs.PrivateTracing.{Counted};
+ghost use Rattle.strip.specs.Answer.{sourceSize, strippedBytes, roomCheck, strippingChecks, stripChecks, stripAnswer, stripArea};
+ghost use Rattle.strip.specs.PrivateTracing.{SizesFit, strippingArea};
 use facts::Checked;
 use netlist::Capacities;
 use netlist::MAPPED_LIMIT;
@@ -43,8 +41,8 @@ fn source_size(mapped: &[u8]) -> usize
 
 // Check 25; accepted, the source at the start of the area.
 fn write_source(source: &[u8], area: &mut [u8]) -> Checked
-    ensures { λ a. ⌜ a ≡ check 25 0 (ltb (length (now (area .entry))) (length (now (source .entry)))) ⌝ }
-    ensures { λ _. ⌜ now (area .exit) ≡ unlessRefused (check 25 0 (ltb (length (now (area .entry))) (length (now (source .entry))))) (onto (now (source .entry)) (now (area .entry))) (now (area .entry)) ⌝ }
+    ensures { λ a. ⌜ a ≡ roomCheck (now (source .entry)) (now (area .entry)) ⌝ }
+    ensures { λ _. ⌜ now (area .exit) ≡ unlessRefused (roomCheck (now (source .entry)) (now (area .entry))) (onto (now (source .entry)) (now (area .entry))) (now (area .entry)) ⌝ }
 {
     let n = source.len();
     if area.len() < n {
@@ -57,8 +55,8 @@ fn write_source(source: &[u8], area: &mut [u8]) -> Checked
 // Checks 24 and 25 of what is left of a mapped netlist: the verifier decides whether it is a source.
 fn judge(capacities: Capacities, mapped: &[u8], source: &[u8], area: &mut [u8]) -> Checked
     requires { ⌜ now source ≡ strippedBytes (now mapped) ⌝ }
-    ensures { λ a. ⌜ a ≡ sourceChecks capacities (now (mapped .entry)) (now (area .entry)) ⌝ }
-    ensures { λ _. ⌜ now (area .exit) ≡ unlessRefused (sourceChecks capacities (now (mapped .entry)) (now (area .entry))) (onto (strippedBytes (now (mapped .entry))) (now (area .entry))) (now (area .entry)) ⌝ }
+    ensures { λ a. ⌜ a ≡ strippingChecks capacities (now (mapped .entry)) (now (area .entry)) ⌝ }
+    ensures { λ _. ⌜ now (area .exit) ≡ strippingArea capacities (now (mapped .entry)) (now (area .entry)) ⌝ }
 {
     let judged = verifier::check_mapping(source, capacities, mapped);
     match judged {
@@ -75,9 +73,9 @@ fn strip_counted(
     m: usize,
     area: &mut [u8],
 ) -> Checked
-    requires { ⌜ Counted (netlist (now mapped)) n m ⌝ }
-    ensures { λ a. ⌜ a ≡ sourceChecks capacities (now (mapped .entry)) (now (area .entry)) ⌝ }
-    ensures { λ _. ⌜ now (area .exit) ≡ unlessRefused (sourceChecks capacities (now (mapped .entry)) (now (area .entry))) (onto (strippedBytes (now (mapped .entry))) (now (area .entry))) (now (area .entry)) ⌝ }
+    requires { ⌜ SizesFit (netlist (now mapped)) n m ⌝ }
+    ensures { λ a. ⌜ a ≡ strippingChecks capacities (now (mapped .entry)) (now (area .entry)) ⌝ }
+    ensures { λ _. ⌜ now (area .exit) ≡ strippingArea capacities (now (mapped .entry)) (now (area .entry)) ⌝ }
 {
     let mut source = [0u8; SOURCE_BYTES];
     if tracing::trace_source(mapped, n as u32, m as u32, &mut source) {
@@ -88,8 +86,8 @@ fn strip_counted(
 
 // Checks 24 and 25; accepted, the source at the start of the area.
 fn strip_mapped(capacities: Capacities, mapped: &[u8], area: &mut [u8]) -> Checked
-    ensures { λ a. ⌜ a ≡ sourceChecks capacities (now (mapped .entry)) (now (area .entry)) ⌝ }
-    ensures { λ _. ⌜ now (area .exit) ≡ unlessRefused (sourceChecks capacities (now (mapped .entry)) (now (area .entry))) (onto (strippedBytes (now (mapped .entry))) (now (area .entry))) (now (area .entry)) ⌝ }
+    ensures { λ a. ⌜ a ≡ strippingChecks capacities (now (mapped .entry)) (now (area .entry)) ⌝ }
+    ensures { λ _. ⌜ now (area .exit) ≡ strippingArea capacities (now (mapped .entry)) (now (area .entry)) ⌝ }
 {
     if mapped.len() % WIDTH != 0 {
         return Checked::Refused(24, 0);

@@ -8,7 +8,7 @@ ghost use Rattle.netlist.specs.Kinds;
 ghost use Rattle.netlist.specs.Records.{netlist};
 ghost use Rattle.verifier.specs.PrivateWalking.{Known, SlotsTraceable};
 ghost use Rattle.strip.specs.Answer.{strippedBytes};
-ghost use Rattle.strip.specs.PrivateTracing.{Counted, RecordTraced, Writable, LeftWritten};
+ghost use Rattle.strip.specs.PrivateTracing.{SizesFit, RecordTraced, LeftReady, LeftWritten};
 use crate::standing;
 use netlist::Record;
 use netlist::arity;
@@ -48,7 +48,7 @@ fn trace_slots(mapped: &[u8], n: u32, drivers: &mut [u16], r: Record, used: usiz
 
 // The records before the first buffer, with their used slots traced back, at the start of an area.
 fn write_left(mapped: &[u8], n: u32, drivers: &mut [u16], source: &mut [u8])
-    requires { ⌜ Writable (netlist (now mapped)) n (now drivers) (now source) ⌝ }
+    requires { ⌜ LeftReady (netlist (now mapped)) n (now drivers) (now source) ⌝ }
     ensures { λ _. ⌜ now (source .exit) ≡ onto (strippedBytes (now (mapped .entry))) (now (source .entry)) ⌝ }
 {
     let mut k: u32 = 0;
@@ -62,7 +62,7 @@ fn write_left(mapped: &[u8], n: u32, drivers: &mut [u16], source: &mut [u8])
 
 // The same, with drivers of which none is known; nothing is written where some record cannot be traced from.
 fn trace_with(mapped: &[u8], n: u32, m: u32, drivers: &mut [u16], source: &mut [u8]) -> bool
-    requires { ⌜ Counted (netlist (now mapped)) n m ⌝ }
+    requires { ⌜ SizesFit (netlist (now mapped)) n m ⌝ }
     requires { ⌜ Known (netlist (now mapped)) (now drivers) ⌝ }
     requires { ⌜ width * n ≤ length (now source) ⌝ }
     ensures { λ b. ⌜ LeftWritten (now (mapped .entry)) b (now (source .entry)) (now (source .exit)) ⌝ }
@@ -76,7 +76,7 @@ fn trace_with(mapped: &[u8], n: u32, m: u32, drivers: &mut [u16], source: &mut [
 
 // The same. A netlist of few records takes a short array, which is sooner filled.
 pub(crate) fn trace_source(mapped: &[u8], n: u32, m: u32, source: &mut [u8]) -> bool
-    requires { ⌜ Counted (netlist (now mapped)) n m ⌝ }
+    requires { ⌜ SizesFit (netlist (now mapped)) n m ⌝ }
     requires { ⌜ width * n ≤ length (now source) ⌝ }
     ensures { λ b. ⌜ LeftWritten (now (mapped .entry)) b (now (source .entry)) (now (source .exit)) ⌝ }
 {

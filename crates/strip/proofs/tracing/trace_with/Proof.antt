@@ -1,6 +1,6 @@
 -- `trace_with` meets its contract: looked at, then written.
 use borrow.Author.Needs.{needs}
-use Rattle.strip.proofs.TracedRecords.{looked-writable, looked-written, looked-bad}
+use Rattle.strip.proofs.TracedRecords.{looked-ready, looked-written, looked-bad}
 use Rattle.strip.proofs.tracing.trace_with.Statement.{statement}
 use Rattle.strip.proofs.tracing.trace_with.Tie as tie
 
@@ -8,7 +8,7 @@ look-requires : tie.Need-look-requires
 look-requires c κs = search needs
 
 write-left-requires : tie.Need-write-left-requires
-write-left-requires c κs = search looked-writable
+write-left-requires c κs = search looked-ready
 
 same-length : tie.Need-same-length
 same-length c = search needs
