@@ -1,4 +1,4 @@
--- The call's answer from its parts: 1, then 24 by sizes, by the look at the mapped netlist and by the verifier, then 25.
+-- The call's answer from its parts: 1, then 24 by sizes, by 14 and 15 and by the verifier, then 25.
 use Prim.Native.Nat.{ℕ, _-_, _*_, _^_, _%_, _≤_, _<_}
 use native.Mathlib.Omega.{arith}
 use mathlib.Core.Path.{_≡_, refl, sym, ap, _∙_}
@@ -25,7 +25,7 @@ use Rattle.strip.specs.declared.Stripped.the-variants.{Records, Refused}
 use Rattle.strip.specs.Answer.{sourceSize, strippedBytes, refuses, sourcelessCheck, roomCheck, strippingChecks, stripChecks, stripAnswer, stripArea}
 use Rattle.strip.specs.PrivateTracing.{strippingArea, SizesFit, LeftWritten}
 use Rattle.strip.proofs.Sources.{length-left, count-left}
-use Rattle.strip.proofs.Fanins.{legal-standing}
+use Rattle.strip.proofs.Fanins.{legal-passes}
 use Rattle.strip.proofs.Promises.{passed-source}
 
 -- the verifier does not accept what is left
@@ -44,7 +44,7 @@ module _ (caps : Capacities) (mapped : List ℕ) where
 
   pub unfit : (b : Bool) (before after : List ℕ) → LeftWritten mapped b before after → b ≡ false → NoneLeft caps mapped
   unfit b before after w t =
-      record { none = λ a. w .bad t (legal-standing (netlist (strippedBytes mapped)) caps (netlist mapped) (sourceSize (netlist mapped)) (sym (count-left mapped)) (a .legal)) }
+      record { none = λ a. w .bad t (legal-passes (netlist (strippedBytes mapped)) caps (netlist mapped) (sourceSize (netlist mapped)) (sym (count-left mapped)) (a .legal)) }
 
   judged-none : (judged : Checked) (number place : ℕ) → judged ≡ verifyChecks (strippedBytes mapped) caps mapped → judged ≡ Failed number place → NoneLeft caps mapped
   judged-none judged number place e f =

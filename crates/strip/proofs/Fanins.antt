@@ -1,5 +1,5 @@
--- Laws of the look at a mapped netlist before it has a source: 14 and 15 of every record, and buffers from the first on; then its slots can be
--- traced. A legal mapped netlist passes it.
+-- Laws of the checks of a mapped netlist before it has a source: 14 and 15 of every record, and buffers from the first on; then its slots can be
+-- traced. A legal mapped netlist passes them.
 use Prim.Native.Nat.{ℕ, _+_, _≤_, _<_}
 use native.Mathlib.Decide.{decLt}
 use native.Mathlib.Omega.{arith}
@@ -25,7 +25,7 @@ use Rattle.verifier.specs.PrivateFeeding.{badFanin}
 use Rattle.verifier.specs.PrivateWalking.{Driven, Walkable, Known, knownDriver}
 use Rattle.verifier.proofs.Walking.{fine-room, fine-known}
 use Rattle.strip.specs.Answer.{sourceSize}
-use Rattle.strip.specs.PrivateTracing.{badFanins, badBuffer, SizesFit, BuffersLooked, Standing, Looked}
+use Rattle.strip.specs.PrivateTracing.{badFanins, badBuffer, SizesFit, BuffersDecided, FaninsPass, FaninsDecided}
 
 -- no record before the first buffer is one
 sizes-driven : (m : Netlist) (n all : ℕ) → SizesFit m n all → Driven n m
@@ -89,7 +89,7 @@ module _ (n : ℕ) (m : Netlist) (all : ℕ) (drivers : List ℕ) where
       }
 
   module _ (k : ℕ) (s : BuffersSoFar n m all drivers k) where
-    pub buffers-end : all ≤ k → BuffersLooked n m true drivers
+    pub buffers-end : all ≤ k → BuffersDecided n m true drivers
     buffers-end l =
         record {
           good = λ e i a h. s .good i a (omega (arith, s .counted .records));
@@ -102,7 +102,7 @@ module _ (n : ℕ) (m : Netlist) (all : ℕ) (drivers : List ℕ) where
       buffer-inside = omega (arith, s .counted .records)
 
       module _ (r : Record) (e : r ≡ m .at k) (b : Bool) (f : b ≡ badBuffer m r) where
-        pub buffers-stop : b ≡ true → BuffersLooked n m false drivers
+        pub buffers-stop : b ≡ true → BuffersDecided n m false drivers
         buffers-stop t =
             record {
               good = λ u. absurd (true-false true refl (sym u));
@@ -132,15 +132,15 @@ module _ (n : ℕ) (m : Netlist) (all : ℕ) (drivers : List ℕ) where
                     (record { from = s .from; here = buffer-inside; driven = sizes-driven m n all (s .counted) });
               }
 
--- the look as a whole
+-- all records
 module _ (m : Netlist) (n all : ℕ) (c : SizesFit m n all) where
   pub records-inside : n ≤ m .size
   unfolding sourceSize
   records-inside = omega (arith, c .size, seek-within (isBuffer m) 0 (m .size))
 
   module _ (bad : Bool) (e : bad ≡ any (badFanins m) n) where
-    pub look-stops : (drivers : List ℕ) → Known m drivers → bad ≡ true → Looked n m false drivers
-    look-stops drivers known t =
+    pub record-refused : (drivers : List ℕ) → Known m drivers → bad ≡ true → FaninsDecided n m false drivers
+    record-refused drivers known t =
         let found = any-some (badFanins m) n .0 (sym e ∙ t) in
         record {
           good = λ u. absurd (true-false true refl (sym u));
@@ -148,7 +148,7 @@ module _ (m : Netlist) (n all : ℕ) (c : SizesFit m n all) where
           known = known;
         }
 
-    module _ (b : Bool) (drivers : List ℕ) (l : BuffersLooked n m b drivers) (t : bad ≡ false) where
+    module _ (b : Bool) (drivers : List ℕ) (l : BuffersDecided n m b drivers) (t : bad ≡ false) where
       -- every record passes 14 and 15
       fanins-good : b ≡ true → (k : ℕ) → k < m .size → badFanins m k ≡ false
       unfolding any
@@ -174,8 +174,8 @@ module _ (m : Netlist) (n all : ℕ) (c : SizesFit m n all) where
             balanced = λ k j h a. (let f = simp reflect at (each k j h a) in f .1);
           }
 
-      pub look-goes : Looked n m b drivers
-      look-goes =
+      pub fanins-decided : FaninsDecided n m b drivers
+      fanins-decided =
           record {
             good = walkable;
             bad = λ u s.
@@ -186,9 +186,9 @@ module _ (m : Netlist) (n all : ℕ) (c : SizesFit m n all) where
             known = l .known;
           }
 
--- a legal mapped netlist passes it
-pub legal-standing : (n : Netlist) (caps : Capacities) (m : Netlist) (size : ℕ) → size ≡ n .size → Legal n caps m → Standing size m
-legal-standing n caps m size e legal =
+-- a legal mapped netlist passes them
+pub legal-passes : (n : Netlist) (caps : Capacities) (m : Netlist) (size : ℕ) → size ≡ n .size → Legal n caps m → FaninsPass size m
+legal-passes n caps m size e legal =
     record {
       buffers = λ k a h. legal .buffers k (omega (arith, e)) h .kind;
       fanins = λ k h. simp reflect (λ j a. ((legal .named k j h a, legal .noOutput k j h a), legal .balanced k j h a));

@@ -25,10 +25,10 @@ use Rattle.netlist.specs.Counts.{isBuffer}
 use Rattle.netlist.proofs.Bytes.{RecordsSoFar, written-start, written-more, written-end}
 use Rattle.netlist.proofs.Checks.{arity-slots}
 use Rattle.verifier.specs.Trace.{driver}
-use Rattle.verifier.specs.PrivateWalking.{unknown, Known, Traced, SlotsTraceable}
+use Rattle.verifier.specs.PrivateWalking.{unknown, Known, Walkable, Traced, SlotsTraceable}
 use Rattle.verifier.proofs.Walking.{known-none}
 use Rattle.strip.specs.Answer.{sourceSize, tracedSlot, tracedRecord, stripped, strippedBytes}
-use Rattle.strip.specs.PrivateTracing.{SizesFit, Looked, RecordTraced, LeftReady, LeftWritten}
+use Rattle.strip.specs.PrivateTracing.{SizesFit, FaninsDecided, RecordTraced, LeftReady, LeftWritten}
 use Rattle.netlist.specs.Kinds as kinds
 
 -- the first j slots are traced
@@ -38,6 +38,14 @@ pub record SlotsSoFar (m : Netlist) (r : Record) (used : ℕ) (slots drivers : L
   pub long : length slots ≡ kinds.slots
   pub at : (i : ℕ) → i < kinds.slots → getD slots i unused ≡ cond (ltb i j) (driver m (slot r i)) (slot r i)
   pub known : Known m drivers
+
+-- the used slots are as many as the path taken traces
+module _ (r : Record) (used path : ℕ) (e : used ≡ arity (r .kind)) (f : used ≡ path) where
+  pub path-used : path ≡ arity (r .kind)
+  path-used = sym f ∙ e
+
+  pub path-slots : (n : ℕ) (m : Netlist) (drivers : List ℕ) → SlotsTraceable n m drivers r (arity (r .kind)) → SlotsTraceable n m drivers r path
+  path-slots n m drivers w = rw path-used w
 
 module _ (m : Netlist) (r : Record) (used : ℕ) where
   pub slots-start : (n : ℕ) (drivers : List ℕ) → length (r .slots) ≡ kinds.slots → used ≡ arity (r .kind) → SlotsTraceable n m drivers r used →
@@ -120,17 +128,14 @@ module _ (mapped : List ℕ) (n : ℕ) (before : List ℕ) where
       pub left-room : width * k + width ≤ length source
       left-room = omega (arith, s .records .long, w .room)
 
-      pub left-slots : (r : Record) (used : ℕ) → r ≡ recordAt mapped k → used ≡ arity (r .kind) → SlotsTraceable n (netlist mapped) drivers r used
-      left-slots r used e u =
-          record {
+      pub left-slots : (r : Record) → r ≡ recordAt mapped k → SlotsTraceable n (netlist mapped) drivers r (arity (r .kind))
+      left-slots r e =
+          rw e (record {
             walkable = w .walkable;
-            slots = λ j h. rw e (w .walkable .named k j left-inside (uses j h));
-            lower = λ j h. rw e (w .walkable .balanced k j left-inside (uses j h));
+            slots = λ j. w .walkable .named k j left-inside;
+            lower = λ j. w .walkable .balanced k j left-inside;
             known = s .known;
-          }
-        where
-          uses : (j : ℕ) → j < used → j < arity (recordAt mapped k .kind)
-          uses j h = rw (← e, ← u) h
+          })
 
       pub left-more : (r traced : Record) (after later : List ℕ) → r ≡ recordAt mapped k → RecordTraced (netlist mapped) r traced later →
           after ≡ put source (width * k) (encode traced) → LeftSoFar mapped n before after later (k + 1)
@@ -143,17 +148,20 @@ module _ (mapped : List ℕ) (n : ℕ) (before : List ℕ) where
             known = t .known;
           }
 
--- looked at, then written
-module _ (mapped : List ℕ) (n all : ℕ) (c : SizesFit (netlist mapped) n all) (b : Bool) (drivers : List ℕ) (l : Looked n (netlist mapped) b drivers) where
-  pub looked-ready : (source : List ℕ) → width * n ≤ length source → b ≡ true → LeftReady (netlist mapped) n drivers source
-  looked-ready source room t = record { walkable = l .good t; size = c .size; known = l .known; room = room }
+-- 14 and 15 decided, then written
+module _ (mapped : List ℕ) (n all : ℕ) (c : SizesFit (netlist mapped) n all) (b : Bool) (drivers : List ℕ) (l : FaninsDecided n (netlist mapped) b drivers) where
+  pub decided-ready : (known source : List ℕ) → Known (netlist mapped) known → width * n ≤ length source → b ≡ true → LeftReady (netlist mapped) n known source
+  decided-ready known source k room t = record { walkable = l .good t; size = c .size; known = k; room = room }
 
-  pub looked-bad : (source : List ℕ) → b ≡ false → LeftWritten mapped false source source
-  looked-bad source t =
+  pub decided-walkable : b ≡ true → Walkable n (netlist mapped)
+  decided-walkable = l .good
+
+  pub decided-bad : (source : List ℕ) → b ≡ false → LeftWritten mapped false source source
+  decided-bad source t =
       record { good = λ e. absurd (true-false true refl (sym e)); bad = λ e s. l .bad t (rw (c .size) s) }
 
-pub looked-written : (mapped before after : List ℕ) → after ≡ onto (strippedBytes mapped) before → LeftWritten mapped true before after
-looked-written mapped before after e = record { good = λ t. e; bad = λ t. absurd (true-false true refl t) }
+pub decided-written : (mapped before after : List ℕ) → after ≡ onto (strippedBytes mapped) before → LeftWritten mapped true before after
+decided-written mapped before after e = record { good = λ t. e; bad = λ t. absurd (true-false true refl t) }
 
 -- with a new array, an entry for each record
 pub known-fresh : (m : Netlist) (n all entries : ℕ) → SizesFit m n all → all ≤ entries → Known m (replicate entries unknown)

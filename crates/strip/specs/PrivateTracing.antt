@@ -37,20 +37,20 @@ pub record SizesFit (m : Netlist) (n all : ℕ) : Type 0 where
   pub fits : all ≤ mappedLimit
 
 -- whether all records from n on are buffers that pass 14 and 15; what is known of their drivers is right
-pub record BuffersLooked (n : ℕ) (m : Netlist) (b : Bool) (drivers : List ℕ) : Type 0 where
+pub record BuffersDecided (n : ℕ) (m : Netlist) (b : Bool) (drivers : List ℕ) : Type 0 where
   pub good : b ≡ true → (k : ℕ) → n ≤ k → k < m .size → badBuffer m (m .at k) ≡ false
   pub bad : b ≡ false → (k : ℕ) × (n ≤ k) × (k < m .size) × (badBuffer m (m .at k) ≡ true)
   pub known : Known m drivers
 
 -- every record passes 14 and 15, and those from n on are buffers
-pub record Standing (n : ℕ) (m : Netlist) : Type 0 where
+pub record FaninsPass (n : ℕ) (m : Netlist) : Type 0 where
   pub buffers : (k : ℕ) → n ≤ k → k < m .size → m .at k .kind ≡ buffer
   pub fanins : (k : ℕ) → k < m .size → badFanins m k ≡ false
 
 -- whether they do
-pub record Looked (n : ℕ) (m : Netlist) (b : Bool) (drivers : List ℕ) : Type 0 where
+pub record FaninsDecided (n : ℕ) (m : Netlist) (b : Bool) (drivers : List ℕ) : Type 0 where
   pub good : b ≡ true → Walkable n m
-  pub bad : b ≡ false → Standing n m → ⊥
+  pub bad : b ≡ false → FaninsPass n m → ⊥
   pub known : Known m drivers
 
 -- a record with its used slots traced back, and what is known then
@@ -68,4 +68,4 @@ pub record LeftReady (m : Netlist) (n : ℕ) (drivers source : List ℕ) : Type 
 -- it was written at the start of an area, or the mapped netlist is no legal one
 pub record LeftWritten (mapped : List ℕ) (b : Bool) (before after : List ℕ) : Type 0 where
   pub good : b ≡ true → after ≡ onto (strippedBytes mapped) before
-  pub bad : b ≡ false → Standing (sourceSize (netlist mapped)) (netlist mapped) → ⊥
+  pub bad : b ≡ false → FaninsPass (sourceSize (netlist mapped)) (netlist mapped) → ⊥

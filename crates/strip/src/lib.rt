@@ -12,7 +12,7 @@ use netlist::SOURCE_LIMIT;
 use netlist::WIDTH;
 use netlist::record_count;
 
-mod standing;
+mod fanin_checks;
 mod tracing;
 
 // Bytes of the largest source.
@@ -53,7 +53,7 @@ fn write_source(source: &[u8], area: &mut [u8]) -> Checked
 }
 
 // Checks 24 and 25 of what is left of a mapped netlist: the verifier decides whether it is a source.
-fn judge(capacities: Capacities, mapped: &[u8], source: &[u8], area: &mut [u8]) -> Checked
+fn strip_traced(capacities: Capacities, mapped: &[u8], source: &[u8], area: &mut [u8]) -> Checked
     requires { ⌜ now source ≡ strippedBytes (now mapped) ⌝ }
     ensures { λ a. ⌜ a ≡ strippingChecks capacities (now (mapped .entry)) (now (area .entry)) ⌝ }
     ensures { λ _. ⌜ now (area .exit) ≡ strippingArea capacities (now (mapped .entry)) (now (area .entry)) ⌝ }
@@ -79,7 +79,7 @@ fn strip_counted(
 {
     let mut source = [0u8; SOURCE_BYTES];
     if tracing::trace_source(mapped, n as u32, m as u32, &mut source) {
-        return judge(capacities, mapped, &source[0..WIDTH * n], area);
+        return strip_traced(capacities, mapped, &source[0..WIDTH * n], area);
     }
     Checked::Refused(24, 0)
 }

@@ -9,7 +9,7 @@ ghost use Rattle.netlist.specs.Records.{netlist};
 ghost use Rattle.verifier.specs.PrivateWalking.{Known, SlotsTraceable};
 ghost use Rattle.strip.specs.Answer.{strippedBytes};
 ghost use Rattle.strip.specs.PrivateTracing.{SizesFit, RecordTraced, LeftReady, LeftWritten};
-use crate::standing;
+use crate::fanin_checks;
 use netlist::Record;
 use netlist::arity;
 use netlist::record_reader;
@@ -26,7 +26,7 @@ const SHORT: usize = 2048;
 
 const MIDDLE: usize = 16384;
 
-// A record with its used slots traced back.
+// A record with its first slots, the used ones, traced back.
 fn trace_slots(mapped: &[u8], n: u32, drivers: &mut [u16], r: Record, used: usize) -> Record
     requires { ⌜ SlotsTraceable n (netlist (now mapped)) (now drivers) r used ⌝ }
     requires { ⌜ used ≡ Kinds.arity (r .kind) ⌝ }
@@ -46,6 +46,20 @@ fn trace_slots(mapped: &[u8], n: u32, drivers: &mut [u16], r: Record, used: usiz
     }
 }
 
+// The same, by a path for each number of used slots.
+fn trace_used(mapped: &[u8], n: u32, drivers: &mut [u16], r: Record) -> Record
+    requires { ⌜ SlotsTraceable n (netlist (now mapped)) (now drivers) r (Kinds.arity (r .kind)) ⌝ }
+    ensures { λ t. ⌜ RecordTraced (netlist (now (mapped .entry))) r t (now (drivers .exit)) ⌝ }
+{
+    let used = arity(r.kind);
+    match used {
+        0 => trace_slots(mapped, n, drivers, r, 0),
+        1 => trace_slots(mapped, n, drivers, r, 1),
+        2 => trace_slots(mapped, n, drivers, r, 2),
+        _ => trace_slots(mapped, n, drivers, r, netlist::SLOTS),
+    }
+}
+
 // The records before the first buffer, with their used slots traced back, at the start of an area.
 fn write_left(mapped: &[u8], n: u32, drivers: &mut [u16], source: &mut [u8])
     requires { ⌜ LeftReady (netlist (now mapped)) n (now drivers) (now source) ⌝ }
@@ -54,7 +68,7 @@ fn write_left(mapped: &[u8], n: u32, drivers: &mut [u16], source: &mut [u8])
     let mut k: u32 = 0;
     while k < n {
         let r = record_reader::read_at(mapped, k as usize);
-        let traced = trace_slots(mapped, n, drivers, r, arity(r.kind));
+        let traced = trace_used(mapped, n, drivers, r);
         record_writer::write_record(source, k as usize, traced);
         k += 1;
     }
@@ -67,7 +81,8 @@ fn trace_with(mapped: &[u8], n: u32, m: u32, drivers: &mut [u16], source: &mut [
     requires { ⌜ width * n ≤ length (now source) ⌝ }
     ensures { λ b. ⌜ LeftWritten (now (mapped .entry)) b (now (source .entry)) (now (source .exit)) ⌝ }
 {
-    if standing::look(mapped, n, m, drivers) {
+    if fanin_checks::fanins_pass(mapped, n, m, drivers) {
+        traces::walk_buffers(mapped, n, m, drivers);
         write_left(mapped, n, drivers, source);
         return true;
     }

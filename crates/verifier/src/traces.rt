@@ -63,7 +63,7 @@ fn walk_back(mapped: &[u8], n: u32, drivers: &mut [u16], level: u16, x: u16) -> 
 }
 
 // Walks back from each buffer whose driver is not known yet, so that no walk from a source record goes further than one record.
-fn walk_buffers(mapped: &[u8], n: u32, m: u32, drivers: &mut [u16])
+pub fn walk_buffers(mapped: &[u8], n: u32, m: u32, drivers: &mut [u16])
     requires { ⌜ Walkable n (netlist (now mapped)) ⌝ }
     requires { ⌜ m ≡ recordCount (now mapped) ⌝ }
     requires { ⌜ m ≤ mappedLimit ⌝ }

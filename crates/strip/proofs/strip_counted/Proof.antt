@@ -16,20 +16,20 @@ slice-aggregate-trace-source c = search needs
 trace-source-requires : tie.Need-trace-source-requires
 trace-source-requires c κs = search needs
 
-mul-judge : tie.Need-mul-judge
-mul-judge c = search needs
+mul-strip-traced : tie.Need-mul-strip-traced
+mul-strip-traced c = search needs
 
-sub-judge : tie.Need-sub-judge
-sub-judge c = search needs
+sub-strip-traced : tie.Need-sub-strip-traced
+sub-strip-traced c = search needs
 
-part-judge-start : tie.Need-part-judge-start
-part-judge-start c = search needs
+part-strip-traced-start : tie.Need-part-strip-traced-start
+part-strip-traced-start c = search needs
 
-part-judge-end : tie.Need-part-judge-end
-part-judge-end c = search needs
+part-strip-traced-end : tie.Need-part-strip-traced-end
+part-strip-traced-end c = search needs
 
-judge-requires : tie.Need-judge-requires
-judge-requires c κs = search left-part
+strip-traced-requires : tie.Need-strip-traced-requires
+strip-traced-requires c κs = search left-part
 
 same-length : tie.Need-same-length
 same-length c = search needs
@@ -48,11 +48,11 @@ strip-counted-spec =
     cast-trace-source-2
     slice-aggregate-trace-source
     trace-source-requires
-    mul-judge
-    sub-judge
-    part-judge-start
-    part-judge-end
-    judge-requires
+    mul-strip-traced
+    sub-strip-traced
+    part-strip-traced-start
+    part-strip-traced-end
+    strip-traced-requires
     same-length
     returns
     returns-2)

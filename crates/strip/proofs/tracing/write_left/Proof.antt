@@ -22,11 +22,8 @@ cast-read-at c = search needs
 read-at-requires : tie.Need-read-at-requires Inv-loop μ-loop
 read-at-requires c κs = search (needs, left-inside)
 
-arity-requires : tie.Need-arity-requires Inv-loop μ-loop
-arity-requires c κs = search needs
-
-trace-slots-requires : tie.Need-trace-slots-requires Inv-loop μ-loop
-trace-slots-requires c κs = search (needs, left-slots)
+trace-used-requires : tie.Need-trace-used-requires Inv-loop μ-loop
+trace-used-requires c κs = search (needs, left-slots)
 
 cast-write-record : tie.Need-cast-write-record Inv-loop μ-loop
 cast-write-record c = search needs
@@ -61,8 +58,7 @@ write-left-spec =
     loop-holds
     cast-read-at
     read-at-requires
-    arity-requires
-    trace-slots-requires
+    trace-used-requires
     cast-write-record
     write-record-requires
     add-k

@@ -1,12 +1,12 @@
--- `look_at_buffers` meets its contract: the records from n on, below k, are good buffers, and what is known of their drivers is right.
+-- `buffers_pass` meets its contract: the records from n on, below k, are good buffers, and what is known of their drivers is right.
 use borrow.Author.Needs.{needs}
 use Prim.Native.Nat.{_-_}
 use mathlib.Core.Path.{_≡_}
 use lib.ListN.{length}
 use Rattle.netlist.specs.Records.{netlist}
 use Rattle.strip.proofs.Fanins.{BuffersSoFar, buffers-start, buffers-end, buffer-inside, buffers-stop, buffer-room, buffers-more}
-use Rattle.strip.proofs.standing.look_at_buffers.Statement.{statement}
-use Rattle.strip.proofs.standing.look_at_buffers.Tie as tie
+use Rattle.strip.proofs.fanin_checks.buffers_pass.Statement.{statement}
+use Rattle.strip.proofs.fanin_checks.buffers_pass.Tie as tie
 
 abbrev Inv-loop : tie.InvT-loop
 Inv-loop mapped n m drivers₀ k₀ drivers k = BuffersSoFar n (netlist mapped) m drivers k × (length drivers ≡ length drivers₀)
@@ -62,8 +62,8 @@ same-length-2 c = search needs
 returns-2 : tie.Need-returns-2 Inv-loop μ-loop
 returns-2 c = search buffers-end
 
-pub look-at-buffers-spec : {M : Type 1} → statement M
-look-at-buffers-spec =
+pub buffers-pass-spec : {M : Type 1} → statement M
+buffers-pass-spec =
     tie.close
     (tie.spec
     Inv-loop

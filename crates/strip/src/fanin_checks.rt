@@ -6,7 +6,7 @@ ghost use Rattle.netlist.specs.Kinds;
 ghost use Rattle.netlist.specs.Records.{netlist, recordCount};
 ghost use Rattle.verifier.specs.PrivateFeeding.{badFanin};
 ghost use Rattle.verifier.specs.PrivateWalking.{Known};
-ghost use Rattle.strip.specs.PrivateTracing.{badFanins, badBuffer, SizesFit, BuffersLooked, Looked};
+ghost use Rattle.strip.specs.PrivateTracing.{badFanins, badBuffer, SizesFit, BuffersDecided, FaninsDecided};
 use netlist::Record;
 use netlist::arity;
 use netlist::record_reader;
@@ -67,10 +67,10 @@ fn bad_buffer(mapped: &[u8], r: Record) -> bool
 }
 
 // Whether every record from n on is a buffer that passes 14 and 15; its driver is kept if its fanin's is known.
-fn look_at_buffers(mapped: &[u8], n: u32, m: u32, drivers: &mut [u16]) -> bool
+fn buffers_pass(mapped: &[u8], n: u32, m: u32, drivers: &mut [u16]) -> bool
     requires { ⌜ SizesFit (netlist (now mapped)) n m ⌝ }
     requires { ⌜ Known (netlist (now mapped)) (now drivers) ⌝ }
-    ensures { λ b. ⌜ BuffersLooked n (netlist (now (mapped .entry))) b (now (drivers .exit)) ⌝ }
+    ensures { λ b. ⌜ BuffersDecided n (netlist (now (mapped .entry))) b (now (drivers .exit)) ⌝ }
 {
     let mut k = n;
     while k < m {
@@ -86,13 +86,13 @@ fn look_at_buffers(mapped: &[u8], n: u32, m: u32, drivers: &mut [u16]) -> bool
 }
 
 // Whether every record passes 14 and 15 and those from n on are buffers.
-pub(crate) fn look(mapped: &[u8], n: u32, m: u32, drivers: &mut [u16]) -> bool
+pub(crate) fn fanins_pass(mapped: &[u8], n: u32, m: u32, drivers: &mut [u16]) -> bool
     requires { ⌜ SizesFit (netlist (now mapped)) n m ⌝ }
     requires { ⌜ Known (netlist (now mapped)) (now drivers) ⌝ }
-    ensures { λ b. ⌜ Looked n (netlist (now (mapped .entry))) b (now (drivers .exit)) ⌝ }
+    ensures { λ b. ⌜ FaninsDecided n (netlist (now (mapped .entry))) b (now (drivers .exit)) ⌝ }
 {
     if any_bad_record(mapped, n) {
         return false;
     }
-    look_at_buffers(mapped, n, m, drivers)
+    buffers_pass(mapped, n, m, drivers)
 }

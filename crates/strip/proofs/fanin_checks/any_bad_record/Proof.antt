@@ -5,8 +5,8 @@ use Rattle.netlist.specs.Records.{netlist}
 use Rattle.facts.proofs.Loops.{NoneYet, any-start, any-end}
 use Rattle.strip.specs.PrivateTracing.{badFanins}
 use Rattle.strip.proofs.Fanins.{record-bad, record-good}
-use Rattle.strip.proofs.standing.any_bad_record.Statement.{statement}
-use Rattle.strip.proofs.standing.any_bad_record.Tie as tie
+use Rattle.strip.proofs.fanin_checks.any_bad_record.Statement.{statement}
+use Rattle.strip.proofs.fanin_checks.any_bad_record.Tie as tie
 
 abbrev Inv-loop : tie.InvT-loop
 Inv-loop mapped n k₀ k = NoneYet (badFanins (netlist mapped)) n k

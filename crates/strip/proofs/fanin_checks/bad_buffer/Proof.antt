@@ -1,8 +1,8 @@
 -- `bad_buffer` meets its contract: the kind first, then the slot.
 use borrow.Author.Needs.{needs}
 use Rattle.strip.proofs.Fanins.{kind-bad, fanin-bad}
-use Rattle.strip.proofs.standing.bad_buffer.Statement.{statement}
-use Rattle.strip.proofs.standing.bad_buffer.Tie as tie
+use Rattle.strip.proofs.fanin_checks.bad_buffer.Statement.{statement}
+use Rattle.strip.proofs.fanin_checks.bad_buffer.Tie as tie
 
 returns : tie.Need-returns
 returns c = search kind-bad

@@ -2,8 +2,8 @@
 use borrow.Author.Needs.{needs}
 use Rattle.netlist.proofs.Checks.{all-used}
 use Rattle.strip.proofs.Fanins.{used-none, used-some}
-use Rattle.strip.proofs.standing.bad_fanins.Statement.{statement}
-use Rattle.strip.proofs.standing.bad_fanins.Tie as tie
+use Rattle.strip.proofs.fanin_checks.bad_fanins.Statement.{statement}
+use Rattle.strip.proofs.fanin_checks.bad_fanins.Tie as tie
 
 arity-requires : tie.Need-arity-requires
 arity-requires c κs = search needs

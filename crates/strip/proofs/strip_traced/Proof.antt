@@ -1,8 +1,8 @@
--- `judge` meets its contract: the verifier's answer decides.
+-- `strip_traced` meets its contract: the verifier's answer decides.
 use borrow.Author.Needs.{needs}
 use Rattle.strip.proofs.Answering.{none-answered, none-kept, judged-refused, judged-answered, judged-written}
-use Rattle.strip.proofs.judge.Statement.{statement}
-use Rattle.strip.proofs.judge.Tie as tie
+use Rattle.strip.proofs.strip_traced.Statement.{statement}
+use Rattle.strip.proofs.strip_traced.Tie as tie
 
 check-mapping-requires : tie.Need-check-mapping-requires
 check-mapping-requires c κs = search needs
@@ -25,8 +25,8 @@ returns c = (search judged-answered, search judged-written)
 returns-2 : tie.Need-returns-2
 returns-2 c = (search (none-answered, judged-refused), search (none-kept, judged-refused))
 
-pub judge-spec : {M : Type 1} → statement M
-judge-spec =
+pub strip-traced-spec : {M : Type 1} → statement M
+strip-traced-spec =
     tie.close
     (tie.spec
     check-mapping-requires

@@ -4,8 +4,8 @@ use Prim.Native.Nat.{_-_}
 use Rattle.netlist.specs.Records.{netlist}
 use Rattle.facts.proofs.Loops.{NoneYet, any-start, any-more, any-found, any-end}
 use Rattle.verifier.specs.PrivateFeeding.{badFanin}
-use Rattle.strip.proofs.standing.any_bad_fanin.Statement.{statement}
-use Rattle.strip.proofs.standing.any_bad_fanin.Tie as tie
+use Rattle.strip.proofs.fanin_checks.any_bad_fanin.Statement.{statement}
+use Rattle.strip.proofs.fanin_checks.any_bad_fanin.Tie as tie
 
 abbrev Inv-loop : tie.InvT-loop
 Inv-loop mapped r used j₀ j = NoneYet (badFanin (netlist mapped) r) used j
