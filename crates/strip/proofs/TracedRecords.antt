@@ -18,7 +18,7 @@ use Rattle.facts.proofs.Bools.{true-false}
 use Rattle.facts.proofs.Lists.{length-tabulate, getD-tabulate}
 use Rattle.facts.proofs.Loops.{seek-within}
 use Rattle.netlist.specs.declared.Record.{Record}
-use Rattle.netlist.specs.Kinds.{width, unused, mappedLimit, arity}
+use Rattle.netlist.specs.Kinds.{width, unused, arity}
 use Rattle.netlist.specs.Records.{Netlist, netlist, recordCount, recordAt, slot}
 use Rattle.netlist.specs.Bytes.{encode, recs}
 use Rattle.netlist.specs.Counts.{isBuffer}
@@ -166,6 +166,3 @@ decided-written mapped before after e = record { good = λ t. e; bad = λ t. abs
 -- with a new array, an entry for each record
 pub known-fresh : (m : Netlist) (n all entries : ℕ) → SizesFit m n all → all ≤ entries → Known m (replicate entries unknown)
 known-fresh m n all entries c l = known-none m entries (omega (arith, c .records))
-
-pub known-full : (m : Netlist) (n all : ℕ) → SizesFit m n all → Known m (replicate mappedLimit unknown)
-known-full m n all c = known-fresh m n all mappedLimit c (c .fits)

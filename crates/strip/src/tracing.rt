@@ -15,16 +15,11 @@ use netlist::arity;
 use netlist::record_reader;
 use netlist::record_writer;
 use netlist::slot;
+use verifier::MIDDLE;
+use verifier::RECORDS;
+use verifier::SHORT;
 use verifier::traces;
 use verifier::traces::UNKNOWN;
-
-// Entries of the local array: one for each record of a mapped netlist.
-const RECORDS: usize = netlist::MAPPED_LIMIT;
-
-// Up to how many records a short array serves, and up to how many a middle one.
-const SHORT: usize = 2048;
-
-const MIDDLE: usize = 16384;
 
 // A record with its first slots, the used ones, traced back.
 fn trace_slots(mapped: &[u8], n: u32, drivers: &mut [u16], r: Record, used: usize) -> Record

@@ -15,12 +15,12 @@ pub mod places;
 pub mod traces;
 
 // Entries of the local arrays: one for each record of a mapped netlist.
-const RECORDS: usize = netlist::MAPPED_LIMIT;
+pub const RECORDS: usize = netlist::MAPPED_LIMIT;
 
 // Up to how many records short arrays serve, and up to how many middle ones.
-const SHORT: usize = 2048;
+pub const SHORT: usize = 2048;
 
-const MIDDLE: usize = 16384;
+pub const MIDDLE: usize = 16384;
 
 // A legal mapped netlist's number of buffers, or the number of the first failing check and its place.
 pub enum Verified {

@@ -1,6 +1,7 @@
 -- `trace_source` meets its contract: each array has an entry for each record.
 use borrow.Author.Needs.{needs}
-use Rattle.strip.proofs.TracedRecords.{known-fresh, known-full}
+use Rattle.netlist.specs.Kinds.{mappedLimit}
+use Rattle.strip.proofs.TracedRecords.{known-fresh}
 use Rattle.strip.proofs.tracing.trace_source.Statement.{statement}
 use Rattle.strip.proofs.tracing.trace_source.Tie as tie
 
@@ -33,7 +34,8 @@ slice-aggregate-trace-with-3 c = search needs
 
 trace-with-requires-3 : tie.Need-trace-with-requires-3
 trace-with-requires-3 c κs =
-    let pre = c .before .before .before .before .before .before .pre in (pre .0, (known-full _ _ _ (pre .0), pre .1))
+    let pre = c .before .before .before .before .before .before .pre in
+    (pre .0, (known-fresh _ _ _ mappedLimit (pre .0) (pre .0 .fits), pre .1))
 
 same-length-3 : tie.Need-same-length-3
 same-length-3 c = search needs
