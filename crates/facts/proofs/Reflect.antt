@@ -10,7 +10,7 @@ use native.Mathlib.Decide.{ℕ-discrete}
 use mathlib.Core.Logic.{_⊎_, inl, inr, ⊎-elim, _≢_, _↔_}
 use Rattle.facts.specs.declared.Checked.{Checked}
 use Rattle.facts.specs.declared.Checked.the-variants.{Passed, Refused}
-use Rattle.facts.specs.Checks.{check, _andThen_, unlessRefused, scan}
+use Rattle.facts.specs.Checks.{check, _andThen_, unlessRefused, refuses, scan}
 use Rattle.facts.proofs.Sums.{any-none, any-some}
 use Rattle.facts.proofs.Bools.{true-false}
 
@@ -21,6 +21,18 @@ check-passed number place false = (λ e. refl, λ e. refl)
 pub then-passed : (a b : Checked) → ((a andThen b) ≡ Passed) ↔ ((a ≡ Passed) × (b ≡ Passed))
 then-passed Passed b = (λ e. (refl, e), λ e. e .1)
 then-passed (Refused number place) b = (λ e. (e, cc), λ e. e .0)
+
+-- checks refuse exactly where they do not pass
+pub refuses-none : (a : Checked) → (refuses a ≡ false) ↔ (a ≡ Passed)
+refuses-none Passed = (λ e. refl, λ e. refl)
+refuses-none (Refused number place) = (λ e. cc, λ e. cc)
+
+pub refuses-some : (a : Checked) → (refuses a ≡ true) ↔ (a ≢ Passed)
+refuses-some a = (λ e f. true-false (refuses a) e (refuses-none a .1 f), go a)
+  where
+    go : (a : Checked) → a ≢ Passed → refuses a ≡ true
+    go Passed h = absurd (h refl)
+    go (Refused number place) h = refl
 
 -- checks in order, in either grouping
 pub then-assoc : (a b c : Checked) → ((a andThen b) andThen c) ≡ (a andThen (b andThen c))

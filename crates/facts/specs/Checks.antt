@@ -25,6 +25,10 @@ outcome (Refused number place) passed refused = refused number place
 abbrev pub unlessRefused : {A : Type 0} → Checked → A → A → A
 unlessRefused answer new old = outcome answer new (λ number place. old)
 
+-- whether checks refuse
+abbrev pub refuses : Checked → Bool
+refuses answer = outcome answer false (λ number place. true)
+
 -- n places from i on, rising
 unfoldable pub scan : (ℕ → Checked) → ℕ → ℕ → Checked
 scan f i zero = Passed

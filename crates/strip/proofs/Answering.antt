@@ -12,7 +12,7 @@ use Rattle.facts.specs.declared.Checked.{Checked}
 use Rattle.facts.specs.declared.Checked.the-variants.{Passed, Refused as Failed}
 use Rattle.facts.specs.Areas.{onto}
 use Rattle.facts.specs.Checks.{check, unlessRefused}
-use Rattle.facts.proofs.Reflect.{then-go, then-stop, stop-kept, go-written}
+use Rattle.facts.proofs.Reflect.{refuses-some, then-go, then-stop, stop-kept, go-written}
 use Rattle.facts.proofs.Refusals.{passed-refused}
 use Rattle.netlist.specs.declared.Capacities.{Capacities}
 use Rattle.netlist.specs.Kinds.{width, sourceLimit, mappedLimit}
@@ -22,7 +22,7 @@ use Rattle.verifier.specs.Accepted.{Accepted}
 use Rattle.verifier.specs.Checks.{verifyChecks}
 use Rattle.verifier.proofs.Accepted.{checks-passed, accepted-exactly}
 use Rattle.strip.specs.declared.Stripped.the-variants.{Records, Refused}
-use Rattle.strip.specs.Answer.{sourceSize, strippedBytes, refuses, sourcelessCheck, roomCheck, strippingChecks, stripChecks, stripAnswer, stripArea}
+use Rattle.strip.specs.Answer.{sourceSize, strippedBytes, sourcelessCheck, roomCheck, strippingChecks, stripChecks, stripAnswer, stripArea}
 use Rattle.strip.specs.PrivateTracing.{strippingArea, SizesFit, LeftWritten}
 use Rattle.strip.proofs.Sources.{length-left, count-left}
 use Rattle.strip.proofs.Fanins.{legal-passes}
@@ -52,11 +52,8 @@ module _ (caps : Capacities) (mapped : List ℕ) where
 
   -- then 24 is answered, and the area stays
   none-refuses : NoneLeft caps mapped → sourcelessCheck caps mapped ≡ Failed 24 0
-  none-refuses n = go (verifyChecks (strippedBytes mapped) caps mapped) (λ e. n .none (checks-passed (strippedBytes mapped) caps mapped .0 e))
-    where
-      go : (a : Checked) → (a ≡ Passed → ⊥) → check 24 0 (refuses a) ≡ Failed 24 0
-      go Passed h = absurd (h refl)
-      go (Failed number place) h = refl
+  none-refuses n =
+      ap (check 24 0) (refuses-some (verifyChecks (strippedBytes mapped) caps mapped) .1 (λ e. n .none (checks-passed (strippedBytes mapped) caps mapped .0 e)))
 
   module _ (area : List ℕ) where
     pub none-answered : NoneLeft caps mapped → Failed 24 0 ≡ strippingChecks caps mapped area

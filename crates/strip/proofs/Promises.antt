@@ -10,11 +10,10 @@ use lib.Dec.{ltb}
 use borrow.Author.Tests.{ltb-true, ltb-false, lt-ltb, le-ltb}
 use Rattle.facts.specs.declared.Checked.{Checked}
 use Rattle.facts.specs.declared.Checked.the-variants.{Passed, Refused as Failed}
-use Rattle.facts.specs.Checks.{outcome}
+use Rattle.facts.specs.Checks.{outcome, refuses}
 use Rattle.facts.specs.Areas.{onto}
 use Rattle.facts.specs.Refusals.{rowOf, First}
-use Rattle.facts.proofs.Bools.{true-false}
-use Rattle.facts.proofs.Reflect.{check-passed, then-passed}
+use Rattle.facts.proofs.Reflect.{check-passed, then-passed, refuses-some, refuses-none}
 use Rattle.facts.proofs.Refusals.{Numbered, exact, rows-before, one-row, first-check, first-then, first-after}
 use Rattle.netlist.specs.declared.Capacities.{Capacities}
 use Rattle.netlist.specs.Records.{netlist, recordCount}
@@ -25,16 +24,12 @@ use Rattle.verifier.specs.Checks.{verifyChecks}
 use Rattle.verifier.proofs.Accepted.{checks-passed, accepted-exactly}
 use Rattle.strip.specs.declared.Stripped.the-variants.{Records, Refused}
 use Rattle.strip.specs.Sources.{SourceOf}
-use Rattle.strip.specs.Answer.{sourceSize, strippedBytes, refuses, sourcelessCheck, roomCheck, strippingChecks, stripChecks}
+use Rattle.strip.specs.Answer.{sourceSize, strippedBytes, sourcelessCheck, roomCheck, strippingChecks, stripChecks}
 use Rattle.strip.specs.Promises.{OneSource, NoSource, NoRoom, StripFails, StripExact, StripAccepts, StripWrites, StripKeeps}
 use Rattle.strip.proofs.Sources.{stripped-source, count-left, source-left}
 
 pub one-source : OneSource
 one-source caps mapped a b s t = sym (stripped-source caps mapped a s) ∙ stripped-source caps mapped b t
-
-pub refuses-none : (a : Checked) → (refuses a ≡ false) ↔ (a ≡ Passed)
-refuses-none Passed = (λ e. refl, λ e. refl)
-refuses-none (Failed number place) = (λ e. cc, λ e. cc)
 
 module _ (caps : Capacities) (mapped : List ℕ) where
   -- the verifier passes a source of the mapped netlist, so it passes what is left
@@ -45,13 +40,9 @@ module _ (caps : Capacities) (mapped : List ℕ) where
 
   none-is : (refuses (verifyChecks (strippedBytes mapped) caps mapped) ≡ true) ↔ NoSource caps mapped
   none-is = (
-    λ e source s. true-false _ e (refuses-none _ .1 (left-passed source s)),
-    λ none. go (verifyChecks (strippedBytes mapped) caps mapped) (λ e. none (strippedBytes mapped) (source-left caps mapped e)),
+    λ e source s. refuses-some (verifyChecks (strippedBytes mapped) caps mapped) .0 e (left-passed source s),
+    λ none. refuses-some (verifyChecks (strippedBytes mapped) caps mapped) .1 (λ e. none (strippedBytes mapped) (source-left caps mapped e)),
   )
-    where
-      go : (a : Checked) → (a ≡ Passed → ⊥) → refuses a ≡ true
-      go Passed h = absurd (h refl)
-      go (Failed number place) h = refl
 
   source-passed : sourcelessCheck caps mapped ≡ Passed → SourceOf caps mapped (strippedBytes mapped)
   source-passed e = source-left caps mapped (refuses-none _ .0 (check-passed 24 0 _ .0 e))

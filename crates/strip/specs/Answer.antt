@@ -1,12 +1,12 @@
 -- Specification 4.11: a mapped netlist without its buffers, the call's answer, and what its area holds afterwards.
 use Prim.Native.Nat.{ℕ}
-use mathlib.Core.Bool.{Bool, true, false, cond}
+use mathlib.Core.Bool.{cond}
 use mathlib.Core.List.{List, [], _∷_}
 use lib.ListN.{length}
 use lib.Dec.{ltb}
 use Rattle.facts.specs.declared.Checked.{Checked}
 use Rattle.facts.specs.Areas.{onto}
-use Rattle.facts.specs.Checks.{check, _andThen_, outcome, unlessRefused}
+use Rattle.facts.specs.Checks.{check, _andThen_, outcome, unlessRefused, refuses}
 use Rattle.facts.specs.Lists.{tabulate}
 use Rattle.facts.specs.Sums.{seek}
 use Rattle.netlist.specs.declared.Capacities.{Capacities}
@@ -46,10 +46,6 @@ stripped m = record { size = sourceSize m; at = λ k. tracedRecord m (m .at k) }
 -- its bytes: if the mapped netlist has a source, this is it
 unfoldable pub strippedBytes : List ℕ → List ℕ
 strippedBytes mapped = bytesOf (stripped (netlist mapped))
-
--- checks that do not pass
-abbrev pub refuses : Checked → Bool
-refuses a = outcome a false (λ number place. true)
 
 -- 24: the verifier does not accept the mapped netlist for what is left of it
 abbrev pub sourcelessCheck : Capacities → List ℕ → Checked
