@@ -1,10 +1,11 @@
 /* A small host: works out the least levels of the netlist of a file, maps the netlist, verifies what
- * was written, runs four rows of inputs through it, and prints what it got.
+ * was written, strips it again, runs four rows of inputs through it, and prints what it got.
  *
  *   host FILE     one byte for the capacity, then the source (examples/case.bin is such a file)
  */
 
 #include <stdio.h>
+#include <string.h>
 
 #include "aqfp.h"
 
@@ -13,6 +14,7 @@ enum { RECORD = 10, MAX_SOURCE = 4096, MAX_MAPPED = 60000, ROWS = 4 };
 static uint8_t file[1 + RECORD * (MAX_SOURCE + 1)];
 static uint8_t levelled[RECORD * (MAX_SOURCE + 1)];
 static uint8_t mapped[RECORD * MAX_MAPPED];
+static uint8_t stripped[RECORD * MAX_SOURCE];
 static uint8_t rows[ROWS * MAX_SOURCE];
 static uint8_t outputs[ROWS * MAX_SOURCE];
 static uint8_t state[2 * MAX_MAPPED];
@@ -103,6 +105,14 @@ int main(int argc, char **argv)
     print_numbers("verify", answer, 3);
     if (number(answer, 0) != 0)
         return 1;
+
+    /* A mapped netlist, whoever wrote it, gives back the source that it came from. */
+    aqfp_strip(capacity, mapped, mapped_len, stripped, sizeof stripped, answer);
+    print_numbers("strip", answer, 3);
+    if (number(answer, 0) != 0 || RECORD * number(answer, 2) != source_len
+        || memcmp(stripped, source, source_len) != 0)
+        return 1;
+    printf("  the source came back\n");
 
     inputs = number_of(0, source, source_len / RECORD);
     output_count = number_of(4, source, source_len / RECORD);

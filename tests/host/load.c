@@ -49,7 +49,7 @@ int main(int argc, char **argv)
 {
     static const char *const calls[] = { "aqfp_map", "aqfp_count", "aqfp_count_nets",
                                          "aqfp_verify", "aqfp_evaluate", "aqfp_run",
-                                         "aqfp_step", "aqfp_levels" };
+                                         "aqfp_step", "aqfp_levels", "aqfp_strip" };
     void *library, *plugin;
     int (*plugin_main)(int, char **);
     size_t k;
