@@ -300,6 +300,18 @@ static void do_levels(struct bytes source, uint32_t capacity, struct bytes level
     settle("aqfp_levels", returned, read, written);
 }
 
+/* The source is written into source_area. */
+static void do_strip(uint32_t capacity, struct bytes mapped, struct bytes source)
+{
+    static struct area *const read[] = { &mapped_area, NULL };
+    static struct area *const written[] = { &source_area, NULL };
+    const uint8_t *m = lend(&mapped_area, mapped.at, mapped.len);
+    uint8_t *s = lend(&source_area, source.at, source.len);
+    uint32_t returned =
+        aqfp_strip(capacity, m, mapped.len, s, source.len, lend_answer(12));
+    settle("aqfp_strip", returned, read, written);
+}
+
 static int answered(uint32_t number, uint32_t place)
 {
     return answer[0] == number && answer[1] == place;
@@ -383,6 +395,12 @@ static unsigned field(const uint8_t *at)
     return at[0] | (unsigned)at[1] << 8;
 }
 
+static void set_field(uint8_t *at, size_t value)
+{
+    at[0] = (uint8_t)value;
+    at[1] = (uint8_t)(value >> 8);
+}
+
 static unsigned used_slots(unsigned kind)
 {
     static const unsigned used[] = { 0, 2, 2, 3, 1, 1 };
@@ -446,6 +464,152 @@ static void hold_listed(struct bytes source, uint32_t capacity)
         do_count(source, capacity, field(list + 2 * k));
         check(accepted(listed(k)), "a count of a list is that of one net");
     }
+}
+
+/* ---- stripping, worked out here as specification 2.3, 3.3 and 4.11 say ---- */
+
+/* Where a trace that reaches a record ends: at a record that is no buffer, or at none, 65,535. No
+ * legal trace passes more records than there are levels. */
+static size_t traced(struct bytes mapped, size_t record)
+{
+    size_t m = mapped.len / RECORD, steps;
+    for (steps = 0; steps <= MAX_LEVEL && record < m; steps++) {
+        if (mapped.at[RECORD * record] != BUFFER)
+            return record;
+        record = field(mapped.at + RECORD * record + 4);
+    }
+    return UNUSED;
+}
+
+/* What the source of a mapped netlist is if it has one: all records but buffers, which stand first,
+ * with every used slot traced back. The verifier decides whether that is a source. */
+static uint8_t left[RECORD * MAX_SOURCE];
+
+static int has_source(struct bytes mapped, uint32_t s, size_t *n)
+{
+    size_t k, j;
+    *n = mapped.len / RECORD - number_of(BUFFER, mapped);
+    if (*n > MAX_SOURCE || number_of(BUFFER, part(mapped.at, RECORD * *n)) > 0)
+        return 0;
+    memcpy(left, mapped.at, RECORD * *n);
+    for (k = 0; k < *n; k++)
+        for (j = 0; j < used_slots(left[RECORD * k]); j++) {
+            uint8_t *slot = left + RECORD * k + 4 + 2 * j;
+            set_field(slot, traced(mapped, field(slot)));
+        }
+    do_verify(part(left, RECORD * *n), s, mapped);
+    return answer[0] == 0;
+}
+
+/* The number that the call must give; the records of the source are at `n`. */
+static uint32_t strip_number(struct bytes mapped, uint32_t s, size_t source_len, size_t *n)
+{
+    *n = 0;
+    if (s < 2 || s > 4)
+        return 1;
+    if (!has_source(mapped, s, n))
+        return 24;
+    return source_len < RECORD * *n ? 25 : 0;
+}
+
+/* Accepted: the area begins with the source, and its other bytes are as they were. */
+static int is_stripped(struct bytes source)
+{
+    size_t len = source.len;
+    return accepted((uint32_t)(len / RECORD)) && source_area.len >= len
+           && memcmp(source_area.at, source.at, len) == 0
+           && memcmp(source_area.at + len, source_area.before + len, source_area.len - len) == 0;
+}
+
+/* The call gives the number, the place and the bytes worked out here. */
+static void hold_strip(struct bytes mapped, uint32_t s, size_t source_len)
+{
+    size_t n;
+    uint32_t number = strip_number(mapped, s, source_len, &n);
+    do_strip(s, mapped, fill(source_len));
+    check(answered(number, 0), "aqfp_strip: number and place");
+    check(answer[0] != 0 || is_stripped(part(left, RECORD * n)),
+          "aqfp_strip: N and every byte of the area");
+}
+
+/* A mapped netlist has this source: an area of its length is enough, and one byte less is not. */
+static void hold_source(struct bytes source, uint32_t s, struct bytes mapped, const char *what)
+{
+    do_strip(s, mapped, fill(source.len));
+    check(is_stripped(source), what);
+    do_strip(s, mapped, fill(source.len + 1 + below(20)));
+    check(is_stripped(source), what);
+    hold_strip(mapped, s, source.len);
+    if (source.len == 0)
+        return;
+    do_strip(s, mapped, fill(source.len - 1));
+    check(answered(25, 0), what);
+    do_strip(s, mapped, fill(below((uint32_t)source.len)));
+    check(answered(25, 0), what);
+}
+
+/* A mapped netlist has no source; 1 comes before 24, and 24 before 25. */
+static void hold_no_source(struct bytes mapped, uint32_t s, const char *what)
+{
+    do_strip(s, mapped, fill(mapped.len));
+    check(answered(24, 0), what);
+    do_strip(s, mapped, fill(0));
+    check(answered(24, 0), what);
+    do_strip(s + 3, mapped, fill(mapped.len));
+    check(answered(1, 0), what);
+    hold_strip(mapped, s, mapped.len);
+}
+
+static int by_number(const void *a, const void *b)
+{
+    const uint32_t *x = a, *y = b;
+    return (*x > *y) - (*x < *y);
+}
+
+/* The driver and the level of every buffer, as numbers in rising order; how many. */
+static size_t buffers_by_net(struct bytes mapped, uint32_t *buffers)
+{
+    size_t k, count = 0;
+    for (k = 0; k < mapped.len / RECORD; k++)
+        if (mapped.at[RECORD * k] == BUFFER)
+            buffers[count++] = (uint32_t)(traced(mapped, k) << 16 | field(mapped.at + RECORD * k + 2));
+    qsort(buffers, count, sizeof *buffers, by_number);
+    return count;
+}
+
+/* Whether one netlist has no more buffers than the other: in all, on any net, at any level of it. */
+static int no_more_buffers(struct bytes one, struct bytes other)
+{
+    static uint32_t ours[MAX_MAPPED], theirs[MAX_MAPPED];
+    size_t few = buffers_by_net(one, ours), many = buffers_by_net(other, theirs), k, j = 0;
+    for (k = 0; k < few; k++, j++) {
+        while (j < many && theirs[j] < ours[k])
+            j++;
+        if (j >= many || theirs[j] != ours[k])
+            return 0;
+    }
+    return few <= many;
+}
+
+/* Anybody's netlist of this source: stripped it gives the source, which is mapped into an area as
+ * long as that netlist and has no more buffers. */
+static void hold_foreign(struct bytes source, uint32_t s, struct bytes mapped, const char *what)
+{
+    static uint8_t back[RECORD * MAX_SOURCE], again[RECORD * MAX_MAPPED];
+    struct bytes ours;
+    hold_source(source, s, mapped, what);
+    do_strip(s, mapped, fill(mapped.len));
+    check(is_stripped(source), what);
+    memcpy(back, source_area.at, source.len);
+    do_map(part(back, source.len), s, fill(mapped.len));
+    check(answered(0, 0), "the mapper accepts what was stripped");
+    if (answer[0] != 0)
+        return;
+    ours = part(again, RECORD * answer[2]);
+    check(answer[3] <= number_of(BUFFER, mapped), "no more buffers in all");
+    memcpy(again, mapped_area.at, ours.len);
+    check(no_more_buffers(ours, mapped), "no more buffers at any level of any net");
+    hold_source(source, s, ours, what);
 }
 
 /* ---- least levels, worked out here as specification 2.7 and 3.3 say ---- */
@@ -575,6 +739,7 @@ static void hold_copy(struct bytes source, uint32_t s, size_t mapped_len, uint32
     memcpy(mapped, mapped_area.at, RECORD * answer[2]);
     do_verify(levelled, s, part(mapped, RECORD * answer[2]));
     check(accepted(buffers), "the verifier accepts the mapped copy");
+    hold_source(levelled, s, part(mapped, source.len + RECORD * buffers), "the copy comes back");
 }
 
 /* Puts the same level, or any levels, into all records. */
@@ -1158,6 +1323,26 @@ static void test_levels_limits(void)
     end();
 }
 
+static void test_strip_worked(void)
+{
+    uint32_t s;
+    size_t len;
+    begin("aqfp_strip, the worked case");
+    for (s = 2; s <= 4; s++) {
+        for (len = 0; len <= 110; len++) {
+            do_strip(s, worked_out, fill(len));
+            check(len < 50 ? answered(25, 0) : is_stripped(worked), "an area of 50 bytes or more");
+            do_strip(s, fill(0), fill(len));
+            check(is_stripped(fill(0)), "an empty netlist has an empty source");
+            do_strip(s, worked, fill(len));
+            check(answered(24, 0), "the source itself is no mapped netlist");
+        }
+        hold_foreign(worked, s, worked_out, "what the mapper writes");
+        hold_foreign(fill(0), s, fill(0), "an empty netlist");
+    }
+    end();
+}
+
 static void test_run_worked(void)
 {
     static const uint8_t rows[8] = { 1, 1, 0, 1, 1, 0, 1, 1 };
@@ -1251,6 +1436,7 @@ static void refused_everywhere(struct bytes source, uint32_t number, uint32_t pl
     do_step(source, 2, source, fill(1), fill(2));
     check(answered(number, place), what);
     for (s = 2; s <= 4; s++) {
+        hold_strip(source, s, source.len);
         hold_levels(source, s, source.len);
         check(number == 7 ? answer[0] != 7 : answered(number, place), what);
         hold_levels(source, s, source.len + 1); /* also fails 23, which comes later */
@@ -1288,6 +1474,16 @@ static void test_capacities(void)
             check(answered(1, 0), "aqfp_levels");
             do_levels(source[j], bad[k], fill(source[j].len + 1));
             check(answered(1, 0), "aqfp_levels, before 23");
+            do_strip(bad[k], source[j], fill(80));
+            check(answered(1, 0), "aqfp_strip, before 24");
+            do_strip(bad[k], source[j], fill(0));
+            check(answered(1, 0), "aqfp_strip, before 24 and 25");
+            do_strip(bad[k], worked_out, fill(80));
+            check(answered(1, 0), "aqfp_strip");
+            do_strip(bad[k], worked_out, fill(49));
+            check(answered(1, 0), "aqfp_strip, before 25");
+            do_strip(bad[k], fill(0), fill(0));
+            check(answered(1, 0), "aqfp_strip, an empty netlist");
         }
     end();
 }
@@ -1564,7 +1760,8 @@ static void test_list_records(void)
     end();
 }
 
-/* Calls all that verify on a mapped netlist that fails one of 11 to 17. */
+/* Calls all that verify on a mapped netlist that fails one of 11 to 17. Stripped, it may have
+ * another source. */
 static void mapped_refused(struct bytes source, uint32_t capacity, struct bytes mapped,
                            uint32_t number, uint32_t place, const char *what)
 {
@@ -1578,6 +1775,9 @@ static void mapped_refused(struct bytes source, uint32_t capacity, struct bytes 
     do_step(source, capacity, mapped, fill(number_of(INPUT, source)),
             fill(2 * (mapped.len / RECORD)));
     check(answered(number, place), what);
+    hold_strip(mapped, capacity, mapped.len);
+    hold_strip(mapped, capacity, source.len - 1);
+    hold_strip(mapped, 2 + (capacity - 1) % 3, source.len);
 }
 
 /* The worked mapped netlist as the netlist to change. */
@@ -1739,13 +1939,15 @@ static void test_mapped_nets(void)
         add_one(BUFFER, 2, 4096);
     do_verify(fill(RECORD * MAX_SOURCE), 4, made());
     check(answered(17, 4096), "a buffer that feeds 65,537 slots");
+    for (k = 2; k <= 4; k++)
+        hold_no_source(made(), (uint32_t)k, "a buffer that feeds 65,537 slots");
     end();
 }
 
 static void test_mapped_accepted(void)
 {
     unsigned k;
-    begin("aqfp_verify, other engines' netlists");
+    begin("aqfp_verify and aqfp_strip, other engines' netlists");
     start_from_worked();
     do_verify(worked, 2, made());
     check(accepted(3), "what the mapper writes");
@@ -1756,22 +1958,27 @@ static void test_mapped_accepted(void)
     change(4, OUTPUT, 0, 3, 5, UNUSED, UNUSED);
     do_verify(worked, 2, made());
     check(accepted(3), "buffers in another order, naming later ones");
+    hold_foreign(worked, 2, made(), "buffers in another order, naming later ones");
     start_from_worked();
     add_one(BUFFER, 2, 7);
     do_verify(worked, 2, made());
     check(accepted(4), "a buffer that feeds nothing");
+    hold_foreign(worked, 2, made(), "a buffer that feeds nothing");
     add_one(BUFFER, 3, 8);
     add_one(BUFFER, 4, 9);
     add_one(BUFFER, 5, 10);
     do_verify(worked, 2, made());
     check(accepted(7), "buffers above D");
+    hold_foreign(worked, 2, made(), "buffers above D");
     start_from_worked();
     change(4, OUTPUT, 0, 3, 8, UNUSED, UNUSED);
     add_one(BUFFER, 2, 5);
     do_verify(worked, 3, made());
     check(accepted(4), "a second buffer where one would do");
+    hold_foreign(worked, 3, made(), "a second buffer where one would do");
     do_verify(worked, 2, made());
     check(answered(17, 5), "the same with capacity 2: three slots on a buffer");
+    hold_no_source(made(), 2, "the same with capacity 2: three slots on a buffer");
     for (k = 2; k <= 4; k++) {
         do_verify(worked, k, worked_out);
         check(accepted(3), "any capacity");
@@ -1782,6 +1989,7 @@ static void test_mapped_accepted(void)
     add_one(BUFFER, 1, 0);
     do_verify(fill(0), 2, made());
     check(answered(15, 0), "a buffer on itself, over an empty source");
+    hold_no_source(made(), 2, "a buffer on itself, over an empty source");
     /* A tree of buffers, two on each, above the worked case's last buffer: 60,000 records. */
     start_from_worked();
     for (k = 8; k < MAX_MAPPED; k++) {
@@ -1790,6 +1998,11 @@ static void test_mapped_accepted(void)
     }
     do_verify(worked, 2, made());
     check(accepted(MAX_MAPPED - 5), "60,000 records");
+    hold_foreign(worked, 2, made(), "60,000 records");
+    add_one(BUFFER, 2, 7);
+    hold_no_source(made(), 2, "60,001 records");
+    netlist_len--;
+    hold_no_source(made(), 2, "60,000 records and 9 bytes");
     end();
 }
 
@@ -1911,6 +2124,8 @@ static void test_random_bytes(void)
         check(within(0, 7) || within(11, 19), "aqfp_step gives 0 to 7 or 11 to 19");
         hold_levels(source, capacity, below(4) ? source.len : below(70));
         check(within(0, 6) || within(23, 23), "aqfp_levels gives 0 to 6 or 23");
+        hold_strip(mapped, capacity, below(100));
+        check(within(0, 1) || within(24, 25), "aqfp_strip gives 0, 1, 24 or 25");
     }
     end();
 }
@@ -2020,22 +2235,43 @@ static void hold_waves(struct bytes source, uint32_t capacity, struct bytes mapp
     }
 }
 
-/* Puts the buffers, the records from n on, in falling order: as legal as before. */
-static void reverse_buffers(uint8_t *records, size_t n, size_t m)
+/* Where each record goes. */
+static size_t places[MAX_MAPPED];
+
+static void move_records(uint8_t *records, size_t m)
 {
     static uint8_t old[sizeof mapped_bytes];
     size_t k, j;
     memcpy(old, records, RECORD * m);
     for (k = 0; k < m; k++) {
-        uint8_t *to = records + RECORD * (k < n ? k : n + m - 1 - k);
+        uint8_t *to = records + RECORD * places[k];
         memcpy(to, old + RECORD * k, RECORD);
-        for (j = 0; j < used_slots(to[0]); j++) {
-            size_t fanin = field(to + 4 + 2 * j);
-            fanin = fanin < n ? fanin : n + m - 1 - fanin;
-            to[4 + 2 * j] = (uint8_t)fanin;
-            to[5 + 2 * j] = (uint8_t)(fanin >> 8);
-        }
+        for (j = 0; j < used_slots(to[0]); j++)
+            set_field(to + 4 + 2 * j, places[field(to + 4 + 2 * j)]);
     }
+}
+
+/* Puts the buffers, the records from n on, in falling order: as legal as before. */
+static void reverse_buffers(uint8_t *records, size_t n, size_t m)
+{
+    size_t k;
+    for (k = 0; k < m; k++)
+        places[k] = k < n ? k : n + m - 1 - k;
+    move_records(records, m);
+}
+
+/* Puts them in any order. */
+static void shuffle_buffers(uint8_t *records, size_t n, size_t m)
+{
+    size_t k;
+    for (k = 0; k < m; k++)
+        places[k] = k;
+    for (k = m; k > n + 1; k--) {
+        size_t other = n + below((uint32_t)(k - n)), kept = places[k - 1];
+        places[k - 1] = places[other];
+        places[other] = kept;
+    }
+    move_records(records, m);
 }
 
 /* Drivers of a source in no order, some of them again. The first record is one. */
@@ -2073,6 +2309,7 @@ static void test_random_sources(void)
         check(number_of(BUFFER, mapped) == buffers, "the buffers written are those answered");
         do_verify(source, capacity, mapped);
         check(accepted(buffers), "the verifier accepts what the mapper writes");
+        hold_source(source, capacity, mapped, "what was mapped comes back");
         for (driver = 0; driver < source.len / RECORD; driver++)
             if (source.at[RECORD * driver] != OUTPUT) {
                 do_count(source, capacity, driver);
@@ -2084,15 +2321,137 @@ static void test_random_sources(void)
         reverse_buffers(mapped_bytes, source.len / RECORD, mapped.len / RECORD);
         do_verify(source, capacity, mapped);
         check(accepted(buffers), "the same buffers in falling order");
+        hold_foreign(source, capacity, mapped, "the same buffers in falling order");
         if (k % 8 == 4)
             hold_waves(source, capacity, mapped);
         mapped_bytes[below((uint32_t)mapped.len)] ^= (uint8_t)(1 << below(8));
         do_verify(source, capacity, mapped);
         check(within(0, 0) || within(12, 17), "one bit changed");
-        if (answer[0] == 0)
+        if (answer[0] == 0) {
             hold_waves(source, capacity, mapped);
+            hold_foreign(source, capacity, mapped, "one bit changed, the same source");
+        }
+        hold_strip(mapped, capacity, source.len);
     }
     check(mapped_count > 500, "enough netlists were accepted");
+    end();
+}
+
+/* How many slots each record feeds. */
+static uint32_t feeds[MAX_MAPPED];
+
+static void count_feeds(struct bytes mapped)
+{
+    size_t m = mapped.len / RECORD, k, j;
+    memset(feeds, 0, m * sizeof *feeds);
+    for (k = 0; k < m; k++)
+        for (j = 0; j < used_slots(mapped.at[RECORD * k]); j++)
+            feeds[field(mapped.at + RECORD * k + 4 + 2 * j)]++;
+}
+
+/* Adds buffers to m records of mapped_bytes, each on a record that may feed one slot more; how many
+ * records there are then. */
+static size_t add_spare(size_t m, uint32_t s, uint32_t tries)
+{
+    for (; tries > 0; tries--) {
+        uint32_t on = below((uint32_t)m);
+        const uint8_t *record = mapped_bytes + RECORD * on;
+        if (record[0] == OUTPUT || feeds[on] >= (record[0] == BUFFER ? s : 1))
+            continue;
+        put_record(mapped_bytes + RECORD * m, BUFFER, 0, field(record + 2) + 1, on, UNUSED, UNUSED);
+        feeds[on]++;
+        feeds[m++] = 0;
+    }
+    return m;
+}
+
+/* Moves slots to another buffer of the same net and level, if it may feed one more. */
+static void move_slots(size_t m, uint32_t s, uint32_t tries)
+{
+    struct bytes mapped = part(mapped_bytes, RECORD * m);
+    for (; tries > 0; tries--) {
+        uint8_t *record = mapped_bytes + RECORD * below((uint32_t)m), *slot;
+        uint32_t to = below((uint32_t)m), used = used_slots(record[0]);
+        if (used == 0 || mapped_bytes[RECORD * to] != BUFFER || feeds[to] >= s)
+            continue;
+        slot = record + 4 + 2 * below(used);
+        if (field(mapped_bytes + RECORD * to + 2) + 1 != field(record + 2)
+            || traced(mapped, to) != traced(mapped, field(slot)))
+            continue;
+        feeds[field(slot)]--;
+        feeds[to]++;
+        set_field(slot, to);
+    }
+}
+
+/* Another legal netlist of the same source: other trees, more buffers, any order. */
+static struct bytes make_foreign(size_t n, size_t m, uint32_t s)
+{
+    count_feeds(part(mapped_bytes, RECORD * m));
+    m = add_spare(m, s, below(40));
+    move_slots(m, s, 400);
+    m = add_spare(m, s, below(10));
+    if (below(4) > 0)
+        shuffle_buffers(mapped_bytes, n, m);
+    return part(mapped_bytes, RECORD * m);
+}
+
+/* One change of m records, after which most netlists have no source. */
+static void damage(size_t m)
+{
+    uint8_t *record = mapped_bytes + RECORD * below((uint32_t)m);
+    const uint8_t *other = mapped_bytes + RECORD * below((uint32_t)m);
+    switch (below(6)) {
+    case 0:
+        record[below(RECORD)] ^= (uint8_t)(1 << below(8));
+        break;
+    case 1:
+        set_field(record + 4 + 2 * below(SLOTS), below((uint32_t)m + 1));
+        break;
+    case 2:
+        memmove(record + 4, other + 4, 2);
+        break;
+    case 3:
+        set_field(record + 2, field(record + 2) + 1 - 2 * below(2));
+        break;
+    case 4:
+        record[0] = (uint8_t)below(7);
+        break;
+    default:
+        memmove(record, other, RECORD);
+    }
+}
+
+/* Netlists of random sources, with least levels or others, by the mapper and by another engine. */
+static void test_random_strips(void)
+{
+    unsigned long k, kept = 0, lost = 0;
+    begin("stripping of random netlists");
+    for (k = 0; k < 4000; k++) {
+        struct bytes source = random_source(), mapped;
+        uint32_t s = 2 + below(3), changes;
+        size_t n = source.len / RECORD;
+        if (k % 4 > 0) {
+            do_levels(source, s, fill(source.len));
+            memcpy(source_bytes, levelled_area.at, source.len);
+        }
+        do_map(source, s, fill(RECORD * 4000));
+        if (answer[0] != 0)
+            continue;
+        memcpy(mapped_bytes, mapped_area.at, RECORD * answer[2]);
+        mapped = make_foreign(n, answer[2], s);
+        do_verify(source, s, mapped);
+        check(accepted((uint32_t)(mapped.len / RECORD - n)), "another engine's netlist is legal");
+        hold_foreign(source, s, mapped, "another engine's netlist");
+        hold_strip(mapped, 2 + below(3), source.len);
+        for (changes = below(4); changes > 0; changes--) {
+            damage(mapped.len / RECORD);
+            hold_strip(mapped, s, below(2) ? source.len : below((uint32_t)mapped.len + 1));
+            kept += answer[0] == 0;
+            lost += answer[0] == 24;
+        }
+    }
+    check(kept > 100 && lost > 1000, "some changes leave a source, most do not");
     end();
 }
 
@@ -2268,10 +2627,18 @@ static void hold_block_refusals(struct blocks b, struct bytes source)
     change_buffer(b.m - b.last, 1, block_at(b, 0));
     do_verify(source, b.s, made());
     check(answered(16, last), "the last majority traced to another input");
+    hold_no_source(made(), b.s, "the last majority traced to an input that feeds two slots");
     change_buffer(b.m - b.last, 1, b.n - 2);
+    change_buffer(b.m - 1, level - 2, b.m - 2);
+    hold_no_source(made(), b.s, "the last buffer one level too low");
+    change_buffer(b.m - 1, level - 1, b.m - b.ends - 1);
     change(last, MAJ, 5, level, b.m - 1, b.m - 1, b.m - 1);
     do_verify(source, b.s, made());
     check(b.s == 2 ? answered(17, b.m - 1) : accepted(b.m - b.n), "three slots on the last buffer");
+    if (b.s == 2)
+        hold_no_source(made(), b.s, "three slots on the last buffer");
+    else
+        hold_foreign(source, b.s, made(), "three slots on the last buffer");
     put_record(source_bytes + RECORD * last, MAJ, 5, 1, b.n - 2, b.n - 2, b.n - 2);
     do_map(source, b.s, fill(RECORD * b.m));
     check(answered(8, b.n - 2), "the last input's sinks at distance 1");
@@ -2287,10 +2654,12 @@ static void hold_blocks(uint32_t n, uint32_t m, uint32_t s)
     hold_copy(source, s, RECORD * MAX_MAPPED, 0);
     do_verify(source, s, mapped);
     check(accepted(m - n), "the verifier accepts what the mapper writes");
+    hold_foreign(source, s, mapped, "what was mapped comes back");
     hold_waves(source, s, mapped);
     reverse_buffers(netlist, n, m);
     do_verify(source, s, mapped);
     check(accepted(m - n), "the same buffers in falling order");
+    hold_foreign(source, s, mapped, "the same buffers in falling order");
     hold_waves(source, s, mapped);
     reverse_buffers(netlist, n, m);
     hold_block_refusals(b, source);
@@ -2325,11 +2694,11 @@ static void test_all(void)
     static void (*const tests[])(void) = {
         test_map_worked, test_shares, test_count_worked, test_count_limits, test_lists_worked,
         test_list_limits, test_levels_worked, test_levels_heights, test_levels_limits,
-        test_run_worked, test_run_limits, test_capacities, test_source_lengths,
+        test_strip_worked, test_run_worked, test_run_limits, test_capacities, test_source_lengths,
         test_source_records, test_source_order, test_map_sizes, test_count_record,
         test_list_lengths, test_list_records, test_mapped_length, test_mapped_records,
         test_mapped_nets, test_mapped_accepted, test_rows, test_random_bytes, test_random_sources,
-        test_random_levels, test_array_sizes
+        test_random_strips, test_random_levels, test_array_sizes
     };
     size_t k;
     for (k = 0; k < sizeof tests / sizeof tests[0]; k++) {
