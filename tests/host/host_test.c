@@ -2682,6 +2682,457 @@ static void test_array_sizes(void)
     end();
 }
 
+/* ---- stripping: what has a source ---- */
+
+/* The netlist made so far as a source of its own. */
+static struct bytes keep_source(void)
+{
+    memcpy(source_bytes, netlist, netlist_len);
+    return part(source_bytes, netlist_len);
+}
+
+static void set_slot(size_t record, size_t slot, size_t fanin)
+{
+    set_field(netlist + RECORD * record + 4 + 2 * slot, fanin);
+}
+
+/* The changed worked netlist has no source with capacity 2. */
+static void no_source_now(const char *what)
+{
+    hold_no_source(made(), 2, what);
+    start_from_worked();
+}
+
+/* It has one: the worked source with this record instead. */
+static void other_source_now(size_t record, unsigned kind, unsigned inversion, unsigned level,
+                             unsigned a, unsigned b, unsigned c, const char *what)
+{
+    uint8_t other[sizeof worked_source];
+    memcpy(other, worked_source, sizeof other);
+    put_record(other + RECORD * record, kind, inversion, level, a, b, c);
+    hold_foreign(part(other, sizeof other), 2, made(), what);
+    start_from_worked();
+}
+
+/* The netlist made is its own source: it has no buffers and needs none. */
+static void own_source(const char *what)
+{
+    struct bytes source = keep_source();
+    uint32_t s;
+    for (s = 2; s <= 4; s++)
+        hold_foreign(source, s, made(), what);
+}
+
+static void no_source(const char *what)
+{
+    uint32_t s;
+    for (s = 2; s <= 4; s++)
+        hold_no_source(made(), s, what);
+}
+
+/* Every length of the worked netlist with a ninth record, a buffer that feeds nothing. */
+static void test_strip_lengths(void)
+{
+    size_t len;
+    begin("refusal 24, lengths");
+    start_from_worked();
+    add_one(BUFFER, 2, 7);
+    for (len = 0; len <= 90; len++) {
+        struct bytes mapped = part(netlist, len);
+        if (len == 0 || len == 10 || len == 20)
+            hold_foreign(mapped, 2, mapped, "inputs alone are their own source");
+        else if (len == 80 || len == 90)
+            hold_foreign(worked, 2, mapped, "the worked case, and a buffer that feeds nothing");
+        else
+            hold_no_source(mapped, 2, "no multiple of 10, or a slot that names no record");
+    }
+    end();
+}
+
+static void test_strip_records(void)
+{
+    /* Bytes of unused slots: of an input, of AND, of an output and of a buffer. */
+    static const size_t unused[] = { 4, 5, 6, 7, 8, 9, 28, 29, 36, 37, 38, 39, 56, 57, 58, 59 };
+    size_t k;
+    unsigned bit, kind;
+    begin("refusal 24, kinds, inversions, unused slots and levels");
+    start_from_worked();
+    for (bit = 0; bit < 8; bit++) {
+        netlist[1] ^= 1 << bit;
+        no_source_now("an input that inverts");
+        netlist[31] ^= 1 << bit;
+        no_source_now("an output that inverts");
+        netlist[51] ^= 1 << bit;
+        no_source_now("a buffer that inverts");
+        netlist[21] ^= 1 << bit;
+        if (bit < 2)
+            other_source_now(2, AND, 1 << bit, 2, 0, 1, UNUSED, "another inversion");
+        else
+            no_source_now("AND with another bit than 0 and 1");
+        for (k = 0; k < sizeof unused / sizeof unused[0]; k++) {
+            netlist[unused[k]] ^= 1 << bit;
+            no_source_now("an unused slot that is not 65,535");
+        }
+        for (k = 0; k < 8; k++) {
+            netlist[RECORD * k + 2] ^= 1 << bit;
+            no_source_now("another level");
+            netlist[RECORD * k + 3] ^= 1 << bit;
+            no_source_now("another level");
+        }
+    }
+    for (k = 0; k < 9; k++)
+        for (kind = 0; kind < 256; kind++) {
+            start_from_worked();
+            add_one(BUFFER, 2, 7);
+            if (netlist[RECORD * k] == kind)
+                continue;
+            netlist[RECORD * k] = (uint8_t)kind;
+            if (k == 2 && kind == OR)
+                other_source_now(2, OR, 0, 2, 0, 1, UNUSED, "OR instead of AND");
+            else if (k == 4 && kind == BUFFER)
+                hold_foreign(part(worked_source, 40), 2, made(), "a buffer instead of an output");
+            else
+                no_source_now("another kind");
+        }
+    end();
+}
+
+/* Every slot on every record, by what is worked out here; then some with what they give. */
+static void test_strip_slots(void)
+{
+    static const unsigned absent[] = { 8, 9, 255, 256, 4096, 60000, 65534, 65535 };
+    struct bytes source;
+    size_t k, j, to;
+    uint32_t s;
+    begin("refusal 24, slots; other sources");
+    start_from_worked();
+    for (k = 2; k < 8; k++)
+        for (j = 0; j < used_slots(worked_mapped[RECORD * k]); j++) {
+            for (to = 0; to < 8; to++)
+                for (s = 2; s <= 4; s++) {
+                    set_slot(k, j, to);
+                    hold_strip(made(), s, 50 - below(2));
+                    start_from_worked();
+                }
+            for (to = 0; to < sizeof absent / sizeof absent[0]; to++) {
+                set_slot(k, j, absent[to]);
+                no_source_now("a slot that names no record");
+            }
+        }
+    change(2, AND, 0, 2, 7, 5, UNUSED);
+    other_source_now(2, AND, 0, 2, 1, 0, UNUSED, "fanins changed with each other");
+    change(2, MAJ, 6, 2, 5, 7, 7);
+    other_source_now(2, MAJ, 6, 2, 0, 1, 1, "MAJ instead of AND");
+    change_buffer(6, 2, 7);
+    other_source_now(4, OUTPUT, 0, 3, 1, UNUSED, UNUSED, "an output traced to the other input");
+    change(3, OUTPUT, 0, 3, 6, UNUSED, UNUSED);
+    other_source_now(3, OUTPUT, 0, 3, 0, UNUSED, UNUSED, "both outputs traced to one input");
+    change(4, OUTPUT, 0, 3, 2, UNUSED, UNUSED);
+    no_source_now("a gate that feeds two slots");
+    change_buffer(7, 1, 0);
+    no_source_now("an input that feeds two slots");
+    change(2, AND, 0, 2, 5, 5, UNUSED);
+    no_source_now("a buffer that feeds three slots");
+    add_one(BUFFER, 1, 0);
+    no_source_now("an input that feeds two buffers");
+    add_one(BUFFER, 3, 2);
+    no_source_now("a gate that feeds an output and a buffer");
+    add_one(BUFFER, 3, 7);
+    no_source_now("a fanin two levels lower");
+    add_one(BUFFER, 1, 7);
+    no_source_now("a fanin at the same level");
+    add_one(BUFFER, 0, 7);
+    no_source_now("a fanin one level higher");
+    add_one(BUFFER, 1, 8);
+    no_source_now("a buffer on itself, which feeds nothing");
+    add_one(BUFFER, 0, 9);
+    add_one(BUFFER, 65535, 8);
+    no_source_now("two buffers on each other");
+    change_buffer(5, 1, 5);
+    no_source_now("a buffer on itself");
+    change_buffer(5, 1, 6);
+    no_source_now("two buffers on each other, below a gate");
+    clear();
+    add_input();
+    add_one(OUTPUT, 1, 0);
+    own_source("an output on an input");
+    add_one(BUFFER, 2, 1);
+    no_source("a buffer on an output");
+    change(2, OUTPUT, 0, 1, 1, UNUSED, UNUSED);
+    no_source("an output on an output");
+    clear();
+    add_input();
+    add_input();
+    add_one(OUTPUT, 1, 0);
+    add_and(2, 1, 1);
+    source = keep_source();
+    change(3, AND, 0, 2, 4, 4, UNUSED);
+    add_one(BUFFER, 1, 1);
+    hold_foreign(source, 2, made(), "a gate on an input");
+    set_slot(3, 1, 2);
+    no_source("a gate on an output");
+    end();
+}
+
+/* Where a netlist's records stand: buffers last, and a fanin before its sinks. */
+static void test_strip_order(void)
+{
+    struct bytes source;
+    unsigned kind;
+    begin("refusal 24, the order of records");
+    start_from_worked();
+    add_input();
+    no_source_now("an input behind the buffers");
+    add_one(OUTPUT, 3, 6);
+    no_source_now("an output behind the buffers");
+    for (kind = AND; kind <= MAJ; kind++) {
+        add_one(BUFFER, 2, 7);
+        add(kind, 0, 3, 8, 8, kind == MAJ ? 6 : UNUSED);
+        no_source_now("a gate behind the buffers");
+    }
+    two_records(OUTPUT, 0, 2, 0, UNUSED, UNUSED);
+    source = keep_source();
+    set_slot(1, 0, 2);
+    add_one(BUFFER, 1, 0);
+    hold_foreign(source, 2, made(), "an input, an output, a buffer");
+    two_records(BUFFER, 0, 1, 0, UNUSED, UNUSED);
+    add_one(OUTPUT, 2, 1);
+    no_source("an input, a buffer, an output");
+    clear();
+    add_one(BUFFER, 1, 1);
+    add_input();
+    add_one(OUTPUT, 2, 0);
+    no_source("the first record is a buffer");
+    clear();
+    add_one(BUFFER, 1, 1);
+    add_one(BUFFER, 0, UNUSED);
+    no_source("buffers alone");
+    clear();
+    add_input();
+    add_input();
+    add_and(1, 0, 1);
+    add_one(OUTPUT, 2, 2);
+    own_source("no buffers");
+    change(2, OUTPUT, 0, 2, 3, UNUSED, UNUSED);
+    change(3, AND, 0, 1, 0, 1, UNUSED);
+    no_source("an output before its gate");
+    change(2, OUTPUT, 0, 3, 4, UNUSED, UNUSED);
+    add_one(BUFFER, 2, 3);
+    no_source("an output before its gate, with a buffer between them");
+    clear();
+    add_input();
+    add_input();
+    add_input();
+    add_and(1, 0, 1);
+    add(OR, 2, 2, 3, 2, UNUSED);
+    source = keep_source();
+    set_slot(4, 1, 5);
+    add_one(BUFFER, 1, 2);
+    hold_foreign(source, 2, made(), "a gate on a gate");
+    change(3, OR, 2, 2, 4, 5, UNUSED);
+    change(4, AND, 0, 1, 0, 1, UNUSED);
+    no_source("a gate before its gate");
+    end();
+}
+
+/* An input and a record at a level that names it in each slot, over a line of buffers. */
+static struct bytes make_line(unsigned kind, unsigned level)
+{
+    unsigned used = used_slots(kind), end = level == 1 ? 0 : level;
+    struct bytes source;
+    two_records(kind, 0, level, 0, used > 1 ? 0 : UNUSED, used > 2 ? 0 : UNUSED);
+    source = keep_source();
+    change(1, kind, 0, level, end, used > 1 ? end : UNUSED, used > 2 ? end : UNUSED);
+    add_line(level - 1, 1, 0);
+    return source;
+}
+
+static void test_strip_levels(void)
+{
+    static const unsigned above[] = { 1, 2, 255, 256, 4095, 4096, 65535 };
+    static const unsigned kinds[] = { OUTPUT, AND, MAJ };
+    struct bytes source;
+    size_t k, m;
+    uint32_t s;
+    begin("refusal 24, levels");
+    for (k = 0; k < sizeof above / sizeof above[0]; k++) {
+        two_records(INPUT, 0, above[k], UNUSED, UNUSED, UNUSED);
+        no_source("an input above level 0");
+    }
+    two_records(INPUT, 0, 0, UNUSED, UNUSED, UNUSED);
+    own_source("an input at level 0");
+    add_one(OUTPUT, 1, 0);
+    add_one(OUTPUT, 1, 1);
+    own_source("two outputs at one level");
+    change(3, OUTPUT, 0, 2, 4, UNUSED, UNUSED);
+    add_one(BUFFER, 1, 1);
+    no_source("two outputs at two levels");
+    for (k = 0; k < sizeof kinds / sizeof kinds[0]; k++)
+        for (s = used_slots(kinds[k]) > 2 ? 3 : 2; s <= 4; s++) {
+            source = make_line(kinds[k], MAX_LEVEL);
+            m = netlist_len / RECORD;
+            hold_source(source, s, made(), "a record at level 4,095");
+            reverse_buffers(netlist, 2, m);
+            hold_source(source, s, made(), "4,094 buffers in falling order");
+            set_slot(m - 1, 0, 2);
+            hold_no_source(made(), s, "4,094 buffers in a ring");
+            set_slot(m - 1, 0, m - 1);
+            hold_no_source(made(), s, "the first of 4,094 buffers on itself");
+            set_slot(m - 1, 0, 1);
+            hold_no_source(made(), s, "the first of 4,094 buffers on the record at 4,095");
+            make_line(kinds[k], MAX_LEVEL + 1);
+            hold_no_source(made(), s, "a record at level 4,096");
+        }
+    source = make_line(OUTPUT, MAX_LEVEL);
+    add_one(BUFFER, MAX_LEVEL, MAX_LEVEL);
+    reverse_buffers(netlist, 2, MAX_LEVEL + 2);
+    hold_foreign(source, 2, made(), "a buffer at level 4,095");
+    add_one(BUFFER, MAX_LEVEL + 1, 2);
+    hold_no_source(made(), 2, "a buffer at level 4,096");
+    end();
+}
+
+/* One buffer that feeds so many outputs, or so many buffers. */
+static void test_strip_branches(void)
+{
+    unsigned count, k;
+    uint32_t s;
+    begin("refusal 24, branches");
+    for (count = 0; count <= 9; count++)
+        for (s = 2; s <= 4; s++) {
+            struct bytes source;
+            clear();
+            add_input();
+            for (k = 0; k < count; k++)
+                add_one(OUTPUT, 2, 0);
+            source = keep_source();
+            for (k = 1; k <= count; k++)
+                set_slot(k, 0, count + 1);
+            add_one(BUFFER, 1, 0);
+            if (count <= s)
+                hold_foreign(source, s, made(), "a buffer that feeds up to s outputs");
+            else
+                hold_no_source(made(), s, "a buffer that feeds more than s outputs");
+            two_records(BUFFER, 0, 1, 0, UNUSED, UNUSED);
+            for (k = 0; k < count; k++)
+                add_one(BUFFER, 2, 1);
+            if (count <= s)
+                hold_foreign(part(netlist, RECORD), s, made(), "a buffer that feeds up to s buffers");
+            else
+                hold_no_source(made(), s, "a buffer that feeds more than s buffers");
+        }
+    two_records(OUTPUT, 0, 1, 0, UNUSED, UNUSED);
+    add_one(OUTPUT, 1, 0);
+    no_source("an input that feeds two outputs");
+    two_records(AND, 0, 1, 0, 0, UNUSED);
+    no_source("an input that feeds both slots of a gate");
+    two_records(BUFFER, 0, 1, 0, UNUSED, UNUSED);
+    add_one(BUFFER, 1, 0);
+    no_source("an input that feeds two buffers");
+    clear();
+    add_input();
+    add_input();
+    add_and(1, 0, 1);
+    add_one(OUTPUT, 2, 2);
+    add_one(OUTPUT, 2, 2);
+    no_source("a gate that feeds two outputs");
+    end();
+}
+
+/* So many inputs, and buffers in lines on them up to m records. */
+static struct bytes make_lines(size_t inputs, size_t m)
+{
+    size_t k;
+    struct bytes source;
+    clear();
+    for (k = 0; k < inputs; k++)
+        add_input();
+    source = part(netlist, netlist_len);
+    for (; k < m; k++)
+        add_one(BUFFER, (unsigned)(k / inputs), (unsigned)(k - inputs));
+    return source;
+}
+
+static void test_strip_sizes(void)
+{
+    static const size_t sizes[] = { 2047, 2048, 2049, 16383, 16384, 16385 };
+    struct bytes source;
+    size_t k;
+    uint32_t s;
+    begin("refusal 24, sizes");
+    for (s = 2; s <= 4; s++) {
+        for (k = 0; k < sizeof sizes / sizeof sizes[0]; k++) {
+            source = make_lines(200, sizes[k]);
+            hold_foreign(source, s, made(), "200 inputs, on both sides of 2,048 and 16,384");
+            reverse_buffers(netlist, 200, sizes[k]);
+            hold_foreign(source, s, made(), "the same in falling order");
+            set_slot(sizes[k] - 1, 0, 200);
+            hold_no_source(made(), s, "the last buffer in no line");
+        }
+        make_lines(MAX_SOURCE, MAX_SOURCE);
+        own_source("4,096 inputs");
+        make_lines(MAX_SOURCE + 1, MAX_SOURCE + 1);
+        no_source("4,097 inputs");
+        source = make_lines(MAX_SOURCE, MAX_SOURCE + 1);
+        hold_foreign(source, s, made(), "4,096 inputs and a buffer");
+        make_lines(MAX_SOURCE + 1, MAX_SOURCE + 2);
+        hold_no_source(made(), s, "4,097 inputs and a buffer");
+        source = make_lines(MAX_SOURCE, MAX_MAPPED);
+        hold_foreign(source, s, made(), "4,096 inputs in 60,000 records");
+        add_one(BUFFER, MAX_MAPPED / MAX_SOURCE, MAX_MAPPED - MAX_SOURCE);
+        hold_no_source(made(), s, "60,001 records");
+        make_lines(MAX_SOURCE + 1, MAX_MAPPED);
+        hold_no_source(made(), s, "4,097 inputs in 60,000 records");
+    }
+    clear();
+    for (k = 0; k < 15; k++)
+        add_input();
+    for (k = 0; k < 15; k++)
+        add_one(OUTPUT, 3999, (unsigned)k);
+    source = keep_source();
+    do_map(source, 2, fill(600000));
+    check(answered(0, 0) && answer[2] == MAX_MAPPED, "15 lines of 3,998 buffers");
+    memcpy(netlist, mapped_area.at, 600000);
+    netlist_len = 600000;
+    hold_source(source, 2, made(), "15 lines of 3,998 buffers");
+    reverse_buffers(netlist, source.len / RECORD, MAX_MAPPED);
+    hold_source(source, 2, made(), "15 lines of 3,998 buffers in falling order");
+    end();
+}
+
+/* All netlists of an input and three records: another input, outputs and buffers at levels up to 2
+ * on any record, and gates on two. */
+static void test_strip_small(void)
+{
+    enum { CHOICES = 1 + 2 * 12 + 16 };
+    static uint8_t choices[CHOICES][RECORD];
+    size_t count = 0, a, b, c;
+    unsigned k;
+    unsigned long kept = 0;
+    begin("all netlists of an input and three records");
+    put_record(choices[count++], INPUT, 0, 0, UNUSED, UNUSED, UNUSED);
+    for (k = 0; k < 12; k++) {
+        put_record(choices[count++], OUTPUT, 0, k / 4, k % 4, UNUSED, UNUSED);
+        put_record(choices[count++], BUFFER, 0, k / 4, k % 4, UNUSED, UNUSED);
+    }
+    for (k = 0; k < 16; k++)
+        put_record(choices[count++], AND, 0, 1 + k % 4 / 2, k / 4, k % 4, UNUSED);
+    clear();
+    add_input();
+    netlist_len = 4 * RECORD;
+    for (a = 0; a < count; a++)
+        for (b = 0; b < count; b++)
+            for (c = 0; c < count; c++) {
+                memcpy(netlist + RECORD, choices[a], RECORD);
+                memcpy(netlist + 2 * RECORD, choices[b], RECORD);
+                memcpy(netlist + 3 * RECORD, choices[c], RECORD);
+                hold_strip(made(), 2, 40 - 10 * (a % 2));
+                kept += answer[0] == 0;
+            }
+    check(kept > 0, "some have a source");
+    end();
+}
+
 static void fill_filler(void)
 {
     size_t k;
@@ -2698,7 +3149,9 @@ static void test_all(void)
         test_source_records, test_source_order, test_map_sizes, test_count_record,
         test_list_lengths, test_list_records, test_mapped_length, test_mapped_records,
         test_mapped_nets, test_mapped_accepted, test_rows, test_random_bytes, test_random_sources,
-        test_random_strips, test_random_levels, test_array_sizes
+        test_random_strips, test_random_levels, test_array_sizes,
+        test_strip_lengths, test_strip_records, test_strip_slots, test_strip_order,
+        test_strip_levels, test_strip_branches, test_strip_sizes, test_strip_small
     };
     size_t k;
     for (k = 0; k < sizeof tests / sizeof tests[0]; k++) {
