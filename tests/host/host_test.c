@@ -570,14 +570,16 @@ static int by_number(const void *a, const void *b)
 static size_t buffers_by_net(struct bytes mapped, uint32_t *buffers)
 {
     size_t k, count = 0;
-    for (k = 0; k < mapped.len / RECORD; k++)
-        if (mapped.at[RECORD * k] == BUFFER)
-            buffers[count++] = (uint32_t)(traced(mapped, k) << 16 | field(mapped.at + RECORD * k + 2));
+    for (k = 0; k < mapped.len / RECORD; k++) {
+        const uint8_t *record = mapped.at + RECORD * k;
+        if (record[0] == BUFFER)
+            buffers[count++] = (uint32_t)traced(mapped, k) << 16 | field(record + 2);
+    }
     qsort(buffers, count, sizeof *buffers, by_number);
     return count;
 }
 
-/* Whether one netlist has no more buffers than the other: in all, on any net, at any level of it. */
+/* Whether one netlist has no more buffers than the other at any level of any net. */
 static int no_more_buffers(struct bytes one, struct bytes other)
 {
     static uint32_t ours[MAX_MAPPED], theirs[MAX_MAPPED];
@@ -588,7 +590,7 @@ static int no_more_buffers(struct bytes one, struct bytes other)
         if (j >= many || theirs[j] != ours[k])
             return 0;
     }
-    return few <= many;
+    return 1;
 }
 
 /* Anybody's netlist of this source: stripped it gives the source, which is mapped into an area as
@@ -2773,6 +2775,10 @@ static void test_strip_records(void)
             netlist[unused[k]] ^= 1 << bit;
             no_source_now("an unused slot that is not 65,535");
         }
+        for (k = 0; k < sizeof unused / sizeof unused[0]; k += 2) {
+            set_field(netlist + unused[k], bit);
+            no_source_now("an unused slot that names a record");
+        }
         for (k = 0; k < 8; k++) {
             netlist[RECORD * k + 2] ^= 1 << bit;
             no_source_now("another level");
@@ -3017,7 +3023,8 @@ static void test_strip_branches(void)
             for (k = 0; k < count; k++)
                 add_one(BUFFER, 2, 1);
             if (count <= s)
-                hold_foreign(part(netlist, RECORD), s, made(), "a buffer that feeds up to s buffers");
+                hold_foreign(part(netlist, RECORD), s, made(),
+                             "a buffer that feeds up to s buffers");
             else
                 hold_no_source(made(), s, "a buffer that feeds more than s buffers");
         }
