@@ -1484,6 +1484,8 @@ static void test_capacities(void)
             check(answered(1, 0), "aqfp_strip");
             do_strip(bad[k], worked_out, fill(49));
             check(answered(1, 0), "aqfp_strip, before 25");
+            do_strip(bad[k], worked_out, fill(0));
+            check(answered(1, 0), "aqfp_strip, before 25");
             do_strip(bad[k], fill(0), fill(0));
             check(answered(1, 0), "aqfp_strip, an empty netlist");
         }
@@ -2001,10 +2003,6 @@ static void test_mapped_accepted(void)
     do_verify(worked, 2, made());
     check(accepted(MAX_MAPPED - 5), "60,000 records");
     hold_foreign(worked, 2, made(), "60,000 records");
-    add_one(BUFFER, 2, 7);
-    hold_no_source(made(), 2, "60,001 records");
-    netlist_len--;
-    hold_no_source(made(), 2, "60,000 records and 9 bytes");
     end();
 }
 
@@ -2771,6 +2769,16 @@ static void test_strip_records(void)
             other_source_now(2, AND, 1 << bit, 2, 0, 1, UNUSED, "another inversion");
         else
             no_source_now("AND with another bit than 0 and 1");
+        change(2, OR, 1 << bit, 2, 5, 7, UNUSED);
+        if (bit < 2)
+            other_source_now(2, OR, 1 << bit, 2, 0, 1, UNUSED, "OR that inverts");
+        else
+            no_source_now("OR with another bit than 0 and 1");
+        change(2, MAJ, 1 << bit, 2, 5, 7, 7);
+        if (bit < 3)
+            other_source_now(2, MAJ, 1 << bit, 2, 0, 1, 1, "MAJ that inverts");
+        else
+            no_source_now("MAJ with another bit than 0 to 2");
         for (k = 0; k < sizeof unused / sizeof unused[0]; k++) {
             netlist[unused[k]] ^= 1 << bit;
             no_source_now("an unused slot that is not 65,535");
@@ -2825,10 +2833,12 @@ static void test_strip_slots(void)
                 no_source_now("a slot that names no record");
             }
         }
+    for (to = 1; to < sizeof absent / sizeof absent[0]; to++) {
+        add_one(BUFFER, 2, absent[to]);
+        no_source_now("a buffer on no record, which feeds nothing");
+    }
     change(2, AND, 0, 2, 7, 5, UNUSED);
     other_source_now(2, AND, 0, 2, 1, 0, UNUSED, "fanins changed with each other");
-    change(2, MAJ, 6, 2, 5, 7, 7);
-    other_source_now(2, MAJ, 6, 2, 0, 1, 1, "MAJ instead of AND");
     change_buffer(6, 2, 7);
     other_source_now(4, OUTPUT, 0, 3, 1, UNUSED, UNUSED, "an output traced to the other input");
     change(3, OUTPUT, 0, 3, 6, UNUSED, UNUSED);
@@ -2858,10 +2868,19 @@ static void test_strip_slots(void)
     no_source_now("a buffer on itself");
     change_buffer(5, 1, 6);
     no_source_now("two buffers on each other, below a gate");
-    clear();
-    add_input();
-    add_one(OUTPUT, 1, 0);
-    own_source("an output on an input");
+    for (k = 0; k < 4; k++) {
+        two_records(OUTPUT, 0, (unsigned)k, 0, UNUSED, UNUSED);
+        if (k == 1)
+            own_source("an output one level above an input");
+        else
+            no_source("an output at another level");
+        two_records(BUFFER, 0, (unsigned)k, 0, UNUSED, UNUSED);
+        if (k == 1)
+            hold_foreign(part(netlist, RECORD), 2, made(), "a buffer one level above an input");
+        else
+            no_source("a buffer at another level");
+    }
+    two_records(OUTPUT, 0, 1, 0, UNUSED, UNUSED);
     add_one(BUFFER, 2, 1);
     no_source("a buffer on an output");
     change(2, OUTPUT, 0, 1, 1, UNUSED, UNUSED);
@@ -2944,12 +2963,13 @@ static void test_strip_order(void)
 /* An input and a record at a level that names it in each slot, over a line of buffers. */
 static struct bytes make_line(unsigned kind, unsigned level)
 {
-    unsigned used = used_slots(kind), end = level == 1 ? 0 : level;
+    unsigned used = used_slots(kind), j;
     struct bytes source;
     two_records(kind, 0, level, 0, used > 1 ? 0 : UNUSED, used > 2 ? 0 : UNUSED);
     source = keep_source();
-    change(1, kind, 0, level, end, used > 1 ? end : UNUSED, used > 2 ? end : UNUSED);
     add_line(level - 1, 1, 0);
+    for (j = 0; j < used; j++)
+        set_slot(1, j, level);
     return source;
 }
 
@@ -3076,10 +3096,6 @@ static void test_strip_sizes(void)
             set_slot(sizes[k] - 1, 0, 200);
             hold_no_source(made(), s, "the last buffer in no line");
         }
-        make_lines(MAX_SOURCE, MAX_SOURCE);
-        own_source("4,096 inputs");
-        make_lines(MAX_SOURCE + 1, MAX_SOURCE + 1);
-        no_source("4,097 inputs");
         source = make_lines(MAX_SOURCE, MAX_SOURCE + 1);
         hold_foreign(source, s, made(), "4,096 inputs and a buffer");
         make_lines(MAX_SOURCE + 1, MAX_SOURCE + 2);
@@ -3088,12 +3104,16 @@ static void test_strip_sizes(void)
         hold_foreign(source, s, made(), "4,096 inputs in 60,000 records");
         add_one(BUFFER, MAX_MAPPED / MAX_SOURCE, MAX_MAPPED - MAX_SOURCE);
         hold_no_source(made(), s, "60,001 records");
+        netlist_len--;
+        hold_no_source(made(), s, "60,000 records and 9 bytes");
         make_lines(MAX_SOURCE + 1, MAX_MAPPED);
         hold_no_source(made(), s, "4,097 inputs in 60,000 records");
     }
-    clear();
-    for (k = 0; k < 15; k++)
-        add_input();
+    make_lines(MAX_SOURCE, MAX_SOURCE);
+    own_source("4,096 inputs");
+    make_lines(MAX_SOURCE + 1, MAX_SOURCE + 1);
+    no_source("4,097 inputs");
+    make_lines(15, 15);
     for (k = 0; k < 15; k++)
         add_one(OUTPUT, 3999, (unsigned)k);
     source = keep_source();
