@@ -3,7 +3,7 @@
 use crate::net::{self, Count};
 use crate::refusal::Refusal;
 use crate::simulator::{self, Run};
-use crate::{levels, mapper, verifier};
+use crate::{levels, mapper, strip, verifier};
 
 /// What stands for "no tree" in the answer of the count and in a list of counts.
 pub const NO_TREE: u32 = 4_294_967_295;
@@ -58,6 +58,10 @@ pub fn step(source: &[u8], capacity: u32, mapped: &[u8], row: &[u8], state: &mut
 
 pub fn levels(source: &[u8], capacity: u32, levelled: &mut [u8]) -> [u32; 2] {
     answer(levels::write(source, capacity, levelled).map(|()| []))
+}
+
+pub fn strip(capacity: u32, mapped: &[u8], source: &mut [u8]) -> [u32; 3] {
+    answer(strip::strip(capacity, mapped, source).map(|records| [records]))
 }
 
 /// The bytes of an answer, four for each number, low byte first.

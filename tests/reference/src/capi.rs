@@ -170,3 +170,18 @@ pub unsafe extern "C" fn aqfp_levels(
     let levelled = lent_mut(levelled, levelled_len);
     give(&calls::levels(lent(source, source_len), capacity, levelled), answer)
 }
+
+/// # Safety
+/// As the header says.
+#[no_mangle]
+pub unsafe extern "C" fn aqfp_strip(
+    capacity: u32,
+    mapped: *const u8,
+    mapped_len: usize,
+    source: *mut u8,
+    source_len: usize,
+    answer: *mut u8,
+) -> u32 {
+    let source = lent_mut(source, source_len);
+    give(&calls::strip(capacity, lent(mapped, mapped_len), source), answer)
+}

@@ -8,6 +8,7 @@ use crate::random::Random;
 use crate::record::*;
 use crate::shapes;
 use crate::source::{check_source, indices_of, number_of};
+use crate::strip::source_of;
 
 /// What an area is filled with before the mapper may write it.
 pub const FILL: u8 = 0xA5;
@@ -310,6 +311,40 @@ pub fn levels_call(random: &mut Random, subject: &Subject) -> Call {
     Call { areas: vec![random.bytes(len)], ..call }
 }
 
+/// An area for a source: mostly of the right length, else any shorter one, or off by a byte or by a
+/// record.
+fn source_area(random: &mut Random, right: usize) -> Vec<u8> {
+    let len = match random.below(24) {
+        0 => right.saturating_sub(WIDTH),
+        1 => right + WIDTH,
+        2 => random.below(right + 1),
+        3..=9 => length(random, right),
+        _ => right,
+    };
+    random.bytes(len)
+}
+
+/// Stripping a mapped netlist of the subject, once in 4 times without a source that passes 2 to 7
+/// and once in 6 times with any capacity.
+pub fn strip_call(random: &mut Random, subject: &Subject) -> Call {
+    let mut mapped = mapped_for(random, subject);
+    if random.one_in(4) {
+        let records = decode(&mapped);
+        let n = subject.records.len().min(records.len());
+        mapped = damage::unsourced(random, &records, n);
+    }
+    let any = random.between(2, 4) as u32;
+    let capacity = if random.one_in(6) { any } else { subject.capacity };
+    let right = source_of(capacity, &mapped).map_or(subject.source.len(), |source| source.len());
+    Call {
+        source: Vec::new(),
+        capacity,
+        mapped,
+        areas: vec![source_area(random, right)],
+        ..call(Name::Strip, subject)
+    }
+}
+
 /// A call of the name on the subject.
 pub fn any_call(random: &mut Random, subject: &Subject, name: Name) -> Call {
     match name {
@@ -321,6 +356,7 @@ pub fn any_call(random: &mut Random, subject: &Subject, name: Name) -> Call {
         Name::Run => run_call(random, subject, 6),
         Name::Step => step_call(random, subject),
         Name::Levels => levels_call(random, subject),
+        Name::Strip => strip_call(random, subject),
     }
 }
 
@@ -389,11 +425,26 @@ pub fn crowded_call(random: &mut Random) -> Call {
     Call { mapped: encode(&records), ..call(Name::Verify, &subject) }
 }
 
+/// Stripping the mapped netlist of another call.
+fn strip_of(random: &mut Random, call: &Call) -> Call {
+    Call {
+        name: Name::Strip,
+        source: Vec::new(),
+        number: 0,
+        rows: Vec::new(),
+        areas: vec![source_area(random, call.source.len())],
+        ..call.clone()
+    }
+}
+
 /// All calls made on netlist `index` of a seed: most are small, one in 250 is at a limit.
 pub fn calls_by_seed(seed: u64, index: u64) -> Vec<Call> {
     let mut random = Random::of(seed, index);
     if index % 1000 == 999 {
-        return vec![full_call(&mut random), crowded_call(&mut random)];
+        let mut calls = vec![full_call(&mut random), crowded_call(&mut random)];
+        let stripped: Vec<Call> = calls.iter().map(|call| strip_of(&mut random, call)).collect();
+        calls.extend(stripped);
+        return calls;
     }
     let subject = match index % 250 {
         249 => limit(&mut random),
@@ -403,7 +454,8 @@ pub fn calls_by_seed(seed: u64, index: u64) -> Vec<Call> {
     let mut calls = Vec::new();
     for name in NAMES {
         calls.push(any_call(&mut random, &subject, name));
-        if matches!(name, Name::Count | Name::CountNets | Name::Verify | Name::Levels) {
+        if matches!(name, Name::Count | Name::CountNets | Name::Verify | Name::Levels | Name::Strip)
+        {
             calls.push(any_call(&mut random, &subject, name));
         }
     }

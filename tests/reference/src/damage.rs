@@ -1,5 +1,6 @@
 //! Damage to sources and mapped netlists, for each refusal number that a netlist can meet.
 
+use crate::generator::shuffle;
 use crate::random::Random;
 use crate::record::*;
 use crate::source::indices_of;
@@ -297,4 +298,37 @@ pub fn mapped(
         _ => {}
     }
     bytes
+}
+
+/// Raises some output by one level, on a buffer of its own.
+fn raise_output(random: &mut Random, records: &mut Vec<Record>) -> Option<()> {
+    let k = some(random, records, |_, record| record.kind == OUTPUT)?;
+    let Record { level, slots, .. } = records[k];
+    records[k].level = level.wrapping_add(1);
+    records[k].slots[0] = records.len() as u16;
+    records.push(Record::buffer(level, slots[0]));
+    Some(())
+}
+
+/// A mapped netlist whose first `n` records need not be a source any more, as bytes: source records
+/// in another order or among the buffers, one output or all records a level higher, or some record
+/// damaged for one of the checks 4 to 7. But for the last it stays balanced and feeds as before.
+pub fn unsourced(random: &mut Random, mapped: &[Record], n: usize) -> Vec<u8> {
+    let mut records = mapped.to_vec();
+    match random.below(5) {
+        0 => shuffle(random, &mut records, 0..n),
+        1 => {
+            let (first, end) = (random.below(n + 1), records.len());
+            shuffle(random, &mut records, first..end);
+        }
+        2 => {
+            raise_output(random, &mut records);
+        }
+        3 => records.iter_mut().for_each(|record| record.level = record.level.wrapping_add(1)),
+        _ => {
+            let check = random.pick(&SOURCE_CHECKS[1..]);
+            return source(random, &records, check);
+        }
+    }
+    encode(&records)
 }

@@ -13,6 +13,7 @@ pub struct Engine {
     pub run: fn(&[u8], u32, &[u8], Run) -> [u32; 2],
     pub step: fn(&[u8], u32, &[u8], &[u8], &mut [u8]) -> [u32; 2],
     pub levels: fn(&[u8], u32, &mut [u8]) -> [u32; 2],
+    pub strip: fn(u32, &[u8], &mut [u8]) -> [u32; 3],
 }
 
 pub const PLAIN: Engine = Engine {
@@ -24,6 +25,7 @@ pub const PLAIN: Engine = Engine {
     run: calls::run,
     step: calls::step,
     levels: calls::levels,
+    strip: calls::strip,
 };
 
 pub const FAST: Engine = Engine {
@@ -35,6 +37,7 @@ pub const FAST: Engine = Engine {
     run: fast::run,
     step: fast::step,
     levels: fast::levels,
+    strip: fast::strip,
 };
 
 #[derive(Clone, Copy, PartialEq, Eq, Debug)]
@@ -47,9 +50,10 @@ pub enum Name {
     Run,
     Step,
     Levels,
+    Strip,
 }
 
-pub const NAMES: [Name; 8] = [
+pub const NAMES: [Name; 9] = [
     Name::Map,
     Name::Count,
     Name::CountNets,
@@ -58,6 +62,7 @@ pub const NAMES: [Name; 8] = [
     Name::Run,
     Name::Step,
     Name::Levels,
+    Name::Strip,
 ];
 
 impl Name {
@@ -72,6 +77,7 @@ impl Name {
             Name::Run => "run",
             Name::Step => "step",
             Name::Levels => "levels",
+            Name::Strip => "strip",
         }
     }
 }
@@ -123,6 +129,7 @@ pub fn perform(engine: &Engine, call: &Call) -> Outcome {
         }
         Name::Step => (engine.step)(source, capacity, mapped, &call.rows, &mut areas[0]).to_vec(),
         Name::Levels => (engine.levels)(source, capacity, &mut areas[0]).to_vec(),
+        Name::Strip => (engine.strip)(capacity, mapped, &mut areas[0]).to_vec(),
     };
     Outcome { answer, areas }
 }

@@ -38,6 +38,16 @@ impl<T: Copy, const K: usize> Local<T, K> {
         // SAFETY: all of `used` was set in the line above.
         unsafe { &mut *(used as *mut [MaybeUninit<T>] as *mut [T]) }
     }
+
+    /// The first entries, a copy of these.
+    fn copied(&mut self, from: &[T]) -> &mut [T] {
+        let used = &mut self.0[..from.len()];
+        for (entry, value) in used.iter_mut().zip(from) {
+            entry.write(*value);
+        }
+        // SAFETY: all of `used` was set in the loop above.
+        unsafe { &mut *(used as *mut [MaybeUninit<T>] as *mut [T]) }
+    }
 }
 
 fn refused<const A: usize>((number, place): Refused) -> [u32; A] {
@@ -505,23 +515,59 @@ fn find_driver(mapped: &[Bytes], n: usize, from: usize, drivers: &mut [u16]) -> 
     driver
 }
 
+/// The driver at which a fanin, traced back, ends.
+#[inline(always)]
+fn driver_of(mapped: &[Bytes], n: usize, fanin: usize, drivers: &mut [u16]) -> usize {
+    if fanin < n {
+        fanin
+    } else if drivers[fanin] != NONE {
+        drivers[fanin].into()
+    } else {
+        find_driver(mapped, n, fanin, drivers)
+    }
+}
+
 /// Check 16.
 fn check_traces(source: &[Bytes], mapped: &[Bytes], drivers: &mut [u16]) -> Result<(), Refused> {
     let n = source.len();
     for (k, (old, new)) in source.iter().zip(mapped).enumerate() {
         for j in 0..USED[usize::from(old[0])] {
-            let fanin = slot(new, j);
-            let driver = if fanin < n {
-                fanin
-            } else if drivers[fanin] != NONE {
-                drivers[fanin].into()
-            } else {
-                find_driver(mapped, n, fanin, drivers)
-            };
-            if driver != slot(old, j) {
+            if driver_of(mapped, n, slot(new, j), drivers) != slot(old, j) {
                 return Err((16, k as u32));
             }
         }
+    }
+    Ok(())
+}
+
+/// Checks 13 to 15 of each record from n on; its driver is kept where that of its fanin is known.
+#[inline(always)]
+fn check_buffers(
+    mapped: &[Bytes],
+    n: usize,
+    feeds: &mut [u8],
+    drivers: &mut [u16],
+) -> Result<(), Refused> {
+    for k in n..mapped.len() {
+        let r = &mapped[k];
+        if r[..2] != [BUFFER, 0] || r[6..] != [255; 4] || level(r) > MAX_LEVEL {
+            return Err((13, k as u32));
+        }
+        check_fanins::<1>(mapped, k, feeds)?;
+        let fanin = slot(r, 0);
+        drivers[k] = if fanin < n { fanin as u16 } else { drivers[fanin] };
+    }
+    Ok(())
+}
+
+/// Check 17.
+#[inline(always)]
+fn check_feeds<const S: usize>(n: usize, feeds: &[u8]) -> Result<(), Refused> {
+    if let Some(k) = feeds[..n].iter().position(|&fed| fed > 1) {
+        return Err((17, k as u32));
+    }
+    if let Some(k) = feeds[n..].iter().position(|&fed| fed > S as u8) {
+        return Err((17, (n + k) as u32));
     }
     Ok(())
 }
@@ -548,22 +594,9 @@ fn check_mapped<'a, const S: usize>(
     }
     let mut drivers = Local::<u16, MAX_MAPPED>::new();
     let drivers = drivers.first(m, NONE);
-    for k in n..m {
-        let r = &mapped[k];
-        if r[..2] != [BUFFER, 0] || r[6..] != [255; 4] || level(r) > MAX_LEVEL {
-            return Err((13, k as u32));
-        }
-        check_fanins::<1>(mapped, k, feeds)?;
-        let fanin = slot(r, 0);
-        drivers[k] = if fanin < n { fanin as u16 } else { drivers[fanin] };
-    }
+    check_buffers(mapped, n, feeds, drivers)?;
     check_traces(source, mapped, drivers)?;
-    if let Some(k) = feeds[..n].iter().position(|&fed| fed > 1) {
-        return Err((17, k as u32));
-    }
-    if let Some(k) = feeds[n..].iter().position(|&fed| fed > S as u8) {
-        return Err((17, (n + k) as u32));
-    }
+    check_feeds::<S>(n, feeds)?;
     Ok(mapped)
 }
 
@@ -871,6 +904,102 @@ pub fn levels(source: &[u8], capacity: u32, levelled: &mut [u8]) -> [u32; 2] {
         2 => levels_checked::<2>(source, levelled),
         3 => levels_checked::<3>(source, levelled),
         4 => levels_checked::<4>(source, levelled),
+        _ => Err((1, 0)),
+    };
+    answer.unwrap_or_else(refused)
+}
+
+/// Whatever keeps a mapped netlist from having a source.
+const NO_SOURCE: Refused = (24, 0);
+
+/// What the reader and the verifier ask of record k, which uses U slots, but for what its slots
+/// name in the source and for the levels of inputs and outputs.
+#[inline(always)]
+fn check_own<const U: usize>(mapped: &[Bytes], k: usize, feeds: &mut [u8]) -> Result<(), Refused> {
+    let r = &mapped[k];
+    let inverted = r[1] & !BITS[usize::from(r[0])] != 0;
+    if inverted || level(r) > MAX_LEVEL || r[4 + 2 * U..] != [0xFF; WIDTH][4 + 2 * U..] {
+        return Err(NO_SOURCE);
+    }
+    check_fanins::<U>(mapped, k, feeds)
+}
+
+/// The number of records before the first buffer, each checked.
+fn check_before_buffers(mapped: &[Bytes], feeds: &mut [u8]) -> Result<usize, Refused> {
+    let mut depth = NONE;
+    for (k, r) in mapped.iter().enumerate() {
+        match r[0] {
+            INPUT if level(r) == 0 => check_own::<0>(mapped, k, feeds)?,
+            AND | OR => check_own::<2>(mapped, k, feeds)?,
+            MAJ => check_own::<3>(mapped, k, feeds)?,
+            OUTPUT if depth == NONE || level(r) == depth => {
+                check_own::<1>(mapped, k, feeds)?;
+                depth = level(r);
+            }
+            BUFFER => return Ok(k),
+            _ => return Err(NO_SOURCE),
+        }
+    }
+    Ok(mapped.len())
+}
+
+/// Sets the used slots of the source's records to their drivers, which must be earlier records.
+fn set_drivers(source: &mut [Bytes], mapped: &[Bytes], drivers: &mut [u16]) -> Result<(), Refused> {
+    let n = source.len();
+    for (k, r) in source.iter_mut().enumerate() {
+        for j in 0..USED[usize::from(r[0])] {
+            let driver = driver_of(mapped, n, slot(r, j), drivers);
+            if driver >= k {
+                return Err(NO_SOURCE);
+            }
+            r[4 + 2 * j..6 + 2 * j].copy_from_slice(&(driver as u16).to_le_bytes());
+        }
+    }
+    Ok(())
+}
+
+/// Check 24: the source, made in a local array.
+fn source_of<'a, const S: usize>(
+    mapped: &[u8],
+    source: &'a mut Local<Bytes, MAX_SOURCE>,
+) -> Result<&'a [Bytes], Refused> {
+    let (mapped, rest) = mapped.as_chunks::<WIDTH>();
+    let m = mapped.len();
+    if !rest.is_empty() || m > MAX_MAPPED {
+        return Err(NO_SOURCE);
+    }
+    let mut feeds = Local::<u8, MAX_MAPPED>::new();
+    let feeds = feeds.first(m, 0);
+    let n = check_before_buffers(mapped, feeds)?;
+    if n > MAX_SOURCE {
+        return Err(NO_SOURCE);
+    }
+    let mut drivers = Local::<u16, MAX_MAPPED>::new();
+    let drivers = drivers.first(m, NONE);
+    check_buffers(mapped, n, feeds, drivers)?;
+    check_feeds::<S>(n, feeds)?;
+    let source = source.copied(&mapped[..n]);
+    set_drivers(source, mapped, drivers)?;
+    Ok(source)
+}
+
+fn strip_checked<const S: usize>(mapped: &[u8], area: &mut [u8]) -> Result<[u32; 3], Refused> {
+    let mut source = Local::new();
+    let source = source_of::<S>(mapped, &mut source).map_err(|_| NO_SOURCE)?;
+    let n = source.len();
+    match area.as_chunks_mut::<WIDTH>().0.get_mut(..n) {
+        Some(area) => area.copy_from_slice(source),
+        None => return Err((25, 0)),
+    }
+    Ok([0, 0, n as u32])
+}
+
+#[inline(never)]
+pub fn strip(capacity: u32, mapped: &[u8], source: &mut [u8]) -> [u32; 3] {
+    let answer = match capacity {
+        2 => strip_checked::<2>(mapped, source),
+        3 => strip_checked::<3>(mapped, source),
+        4 => strip_checked::<4>(mapped, source),
         _ => Err((1, 0)),
     };
     answer.unwrap_or_else(refused)

@@ -1,5 +1,7 @@
 //! Random sources, and legal mapped netlists that the mapper would not write.
 
+use std::ops::Range;
+
 use crate::levels::least_levels;
 use crate::net::{distances, fewest, sinks};
 use crate::random::Random;
@@ -252,22 +254,33 @@ fn add_dangling(random: &mut Random, records: &mut Vec<Record>, s: usize, tries:
     }
 }
 
-/// Puts the records from `n` on in another order.
-pub fn shuffle_buffers(random: &mut Random, records: &mut [Record], n: usize) {
-    let mut order: Vec<usize> = (n..records.len()).collect();
-    random.shuffle(&mut order);
+/// Puts the records from `first` on at these indices, with the slots that name them. A slot that
+/// names no record stays.
+pub fn reorder(records: &mut [Record], first: usize, order: &[usize]) {
     let old = records.to_vec();
     let mut moved: Vec<usize> = (0..records.len()).collect();
-    for (k, &to) in order.iter().enumerate() {
-        moved[n + k] = to;
-    }
+    moved[first..first + order.len()].copy_from_slice(order);
     for (k, record) in old.iter().enumerate() {
         let mut record = *record;
         for slot in &mut record.slots[..used_slots(record.kind)] {
-            *slot = moved[usize::from(*slot)] as u16;
+            *slot = moved.get(usize::from(*slot)).map_or(*slot, |&to| to as u16);
         }
         records[moved[k]] = record;
     }
+}
+
+/// Puts the records of a range in another order.
+pub fn shuffle(random: &mut Random, records: &mut [Record], range: Range<usize>) {
+    let first = range.start;
+    let mut order: Vec<usize> = range.collect();
+    random.shuffle(&mut order);
+    reorder(records, first, &order);
+}
+
+/// Puts the records from `n` on in another order.
+pub fn shuffle_buffers(random: &mut Random, records: &mut [Record], n: usize) {
+    let end = records.len();
+    shuffle(random, records, n..end);
 }
 
 /// A legal mapped netlist made by random splitting, with buffers that feed nothing and in any

@@ -20,6 +20,7 @@ pub mod search;
 pub mod shapes;
 pub mod simulator;
 pub mod source;
+pub mod strip;
 pub mod verifier;
 pub mod views;
 

@@ -81,6 +81,14 @@ extern "C" {
         levelled_len: usize,
         answer: *mut u8,
     ) -> u32;
+    fn aqfp_strip(
+        capacity: u32,
+        mapped: *const u8,
+        mapped_len: usize,
+        source: *mut u8,
+        source_len: usize,
+        answer: *mut u8,
+    ) -> u32;
 }
 
 /// The numbers of an answer area; the call's return value must be the first of them.
@@ -223,4 +231,20 @@ fn levels(source: &[u8], capacity: u32, levelled: &mut [u8]) -> [u32; 2] {
     numbers(&answer, returned)
 }
 
-pub const LINKED: Engine = Engine { map, count, count_nets, verify, evaluate, run, step, levels };
+fn strip(capacity: u32, mapped: &[u8], source: &mut [u8]) -> [u32; 3] {
+    let mut answer = [0xA5; 12];
+    let returned = unsafe {
+        aqfp_strip(
+            capacity,
+            mapped.as_ptr(),
+            mapped.len(),
+            source.as_mut_ptr(),
+            source.len(),
+            answer.as_mut_ptr(),
+        )
+    };
+    numbers(&answer, returned)
+}
+
+pub const LINKED: Engine =
+    Engine { map, count, count_nets, verify, evaluate, run, step, levels, strip };

@@ -2,7 +2,7 @@
 
 use std::collections::BTreeSet;
 
-use crate::generator::{fanouts, height, set_levels};
+use crate::generator::{fanouts, height, reorder, set_levels};
 use crate::net::{distances, fewest};
 use crate::random::Random;
 use crate::record::*;
@@ -17,6 +17,15 @@ pub fn worked() -> Vec<Record> {
         Record::new(OUTPUT, 0, 3, &[2]),
         Record::new(OUTPUT, 0, 3, &[0]),
     ]
+}
+
+/// What the mapper writes for the worked case with capacity 2.
+pub fn worked_mapped() -> Vec<Record> {
+    let mut records = worked();
+    records[2].slots[..2].copy_from_slice(&[5, 7]);
+    records[4].slots[0] = 6;
+    records.extend([Record::buffer(1, 0), Record::buffer(2, 5), Record::buffer(1, 1)]);
+    records
 }
 
 /// Record 0, an input, with a sink at each distance given: gates that name it once and another
@@ -231,4 +240,86 @@ pub fn padded(records: &[Record], s: usize, total: usize) -> Vec<Record> {
         records.push(Record::buffer(records[on].level + 1, on as u16));
     }
     records
+}
+
+/// A gate that names another one twice, on a buffer each; the other may come after it.
+pub fn two_gates(later: bool) -> Vec<Record> {
+    let mut records = vec![
+        Record::new(INPUT, 0, 0, &[]),
+        Record::new(AND, 1, 2, &[3, 3]),
+        Record::new(OR, 2, 4, &[4, 4]),
+        Record::buffer(1, 0),
+        Record::buffer(3, 1),
+    ];
+    if later {
+        reorder(&mut records, 1, &[2, 1]);
+    }
+    records
+}
+
+/// The worked case's mapped records after a change.
+fn changed(change: impl Fn(&mut Vec<Record>)) -> Vec<u8> {
+    let mut records = worked_mapped();
+    change(&mut records);
+    encode(&records)
+}
+
+/// Mapped netlists that have no source with capacity 2, by the cause named.
+pub fn without_source() -> Vec<(&'static str, Vec<u8>)> {
+    let input = Record::new(INPUT, 0, 0, &[]);
+    let legal = encode(&worked_mapped());
+    let mut all = Vec::new();
+    for len in [1, 9, 15, 49, 71, 79] {
+        all.push(("length", legal[..len].to_vec()));
+    }
+    all.push(("length", [&legal[..], &[5]].concat()));
+    for records in [3, 5, 6, 7] {
+        all.push(("too few records", legal[..WIDTH * records].to_vec()));
+    }
+    all.push(("no buffers", encode(&worked())));
+    for (k, level) in [(0, 1), (2, 1), (2, 3), (3, 2), (4, 4), (5, 0), (5, 2), (6, 3), (7, 65_535)]
+    {
+        all.push(("level", changed(|records| records[k].level = level)));
+    }
+    let raised = changed(|records| records.iter_mut().for_each(|record| record.level += 1));
+    all.push(("inputs above level 0", raised));
+    let wrapped = [Record::buffer(0, 9), Record::buffer(65_535, 0)];
+    all.push(("levels that wrap", changed(|records| records.extend(wrapped))));
+    for fanin in [Record::buffer(1, 0), Record::buffer(1, 1), Record::buffer(3, 2)] {
+        all.push(("two slots on a driver", changed(|records| records.push(fanin))));
+    }
+    let third = Record::buffer(2, 5);
+    all.push(("three slots on a buffer", changed(|records| records.push(third))));
+    all.push(("a buffer on an output", changed(|records| records.push(Record::buffer(4, 3)))));
+    for to in [2, 3, 4, 8, 256, 65_535] {
+        all.push(("a gate's fanin", changed(|records| records[2].slots[1] = to)));
+        all.push(("a buffer's fanin", changed(|records| records[6].slots[0] = to)));
+        all.push(("an output's fanin", changed(|records| records[4].slots[0] = to)));
+    }
+    all.push(("fanin two levels lower", changed(|records| records[2].slots[0] = 1)));
+    all.push(("fanin at its level", changed(|records| records[2].slots[0] = 6)));
+    all.push(("a buffer that names itself", changed(|records| records[5].slots[0] = 5)));
+    all.push(("a cycle of buffers", changed(|records| records[5].slots[0] = 6)));
+    all.push(("an input behind the buffers", changed(|records| records.push(input))));
+    let output = Record::new(OUTPUT, 0, 3, &[6]);
+    all.push(("an output behind the buffers", changed(|records| records.push(output))));
+    all.push(("a buffer before an output", changed(|records| reorder(records, 4, &[5, 4]))));
+    for kind in [6, 7, 128, 255] {
+        all.push(("kind", changed(|records| records[0].kind = kind)));
+        all.push(("kind", changed(|records| records[7].kind = kind)));
+        let last = Record { kind, ..input };
+        all.push(("kind", changed(|records| records.push(last))));
+    }
+    for (k, bits) in [(0, 1), (1, 128), (2, 4), (2, 8), (3, 1), (4, 2), (5, 1), (7, 128)] {
+        all.push(("inversion", changed(|records| records[k].inversion = bits)));
+    }
+    for (k, slot, to) in [(0, 0, 0), (1, 2, 0), (2, 2, 5), (3, 1, 2), (4, 2, 65_534), (5, 1, 0)] {
+        all.push(("unused slot", changed(|records| records[k].slots[slot] = to)));
+    }
+    all.push(("a gate before its fanin", encode(&two_gates(true))));
+    let mut apart = worked_mapped();
+    apart[4] = Record::new(OUTPUT, 0, 4, &[8]);
+    apart.push(Record::buffer(3, 6));
+    all.push(("outputs at two levels", encode(&apart)));
+    all
 }

@@ -27,7 +27,7 @@ fn fast_is_plain() {
             *met.entry(plain.answer[0]).or_default() += 1;
         }
     }
-    let missing: Vec<u32> = (0..=23).filter(|number| !met.contains_key(number)).collect();
+    let missing: Vec<u32> = (0..=25).filter(|number| !met.contains_key(number)).collect();
     assert_eq!(missing, [3, 9], "met: {met:?}");
 }
 

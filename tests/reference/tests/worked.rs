@@ -42,11 +42,7 @@ fn worked() -> Vec<u8> {
 }
 
 fn worked_mapped() -> Vec<u8> {
-    let mut records = shapes::worked();
-    records[2].slots = [5, 7, 65_535];
-    records[4].slots[0] = 6;
-    records.extend([Record::buffer(1, 0), Record::buffer(2, 5), Record::buffer(1, 1)]);
-    encode(&records)
+    encode(&shapes::worked_mapped())
 }
 
 #[test]

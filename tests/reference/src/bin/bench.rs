@@ -81,7 +81,7 @@ impl Subject {
             Name::Evaluate => vec![vec![0; self.n()]],
             Name::Run => vec![vec![0; 2 * self.m()], vec![0; rows * outputs]],
             Name::Step => vec![vec![0; 2 * self.m()]],
-            Name::Levels => vec![vec![0; self.source.len()]],
+            Name::Levels | Name::Strip => vec![vec![0; self.source.len()]],
             _ => Vec::new(),
         };
         Call {
@@ -131,6 +131,9 @@ fn make(engine: &Engine, call: &mut Call) {
         }
         Name::Levels => {
             black_box((engine.levels)(source, capacity, &mut areas[0]));
+        }
+        Name::Strip => {
+            black_box((engine.strip)(capacity, black_box(mapped), &mut areas[0]));
         }
     }
 }

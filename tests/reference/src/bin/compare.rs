@@ -2,9 +2,9 @@
 //!
 //!   compare COUNT SEED [FIRST]     COUNT netlists of the seed, from number FIRST on
 //!
-//! Every answer and every byte of every area is held to the plain implementation's, and every copy
-//! with least levels to checks 2 to 8. Prints one line; at the first difference prints the call, and
-//! exits with status 1.
+//! Every answer and every byte of every area is held to the plain implementation's, every copy with
+//! least levels to checks 2 to 8, and every source stripped to what mapping it again gives. Prints one
+//! line; at the first difference prints the call, and exits with status 1.
 
 use std::collections::BTreeMap;
 use std::env;
@@ -15,6 +15,7 @@ use reference::cases::calls_by_seed;
 use reference::engine::{perform, Call, Name, Outcome, NAMES, PLAIN};
 use reference::levels;
 use reference::linked::LINKED;
+use reference::record::WIDTH;
 
 /// Longer areas are shown by their first bytes.
 const SHOWN: usize = 1_000;
@@ -47,7 +48,7 @@ fn show_difference(expected: &Outcome, found: &Outcome) {
 #[derive(Default)]
 struct Tally {
     calls: [usize; NAMES.len()],
-    accepted: usize,
+    accepted: [usize; NAMES.len()],
     refused: BTreeMap<u32, usize>,
 }
 
@@ -55,21 +56,25 @@ impl Tally {
     fn add(&mut self, name: Name, number: u32) {
         self.calls[name as usize] += 1;
         match number {
-            0 => self.accepted += 1,
+            0 => self.accepted[name as usize] += 1,
             _ => *self.refused.entry(number).or_default() += 1,
         }
     }
 
     fn print(&self, netlists: u64, seed: u64) {
-        let calls: Vec<String> = (NAMES.iter())
-            .map(|&name| format!("{} {}", name.words(), self.calls[name as usize]))
-            .collect();
+        let by_name = |counts: &[usize]| {
+            let words = NAMES.iter().map(|&name| {
+                let count = counts[name as usize];
+                format!("{} {count}", name.words())
+            });
+            words.collect::<Vec<String>>().join(", ")
+        };
         let refused: Vec<String> =
             self.refused.iter().map(|(number, met)| format!("{number}:{met}")).collect();
         println!(
             "{netlists} netlists of seed {seed}: {}; accepted {}; refused {}; no difference",
-            calls.join(", "),
-            self.accepted,
+            by_name(&self.calls),
+            by_name(&self.accepted),
             refused.join(" ")
         );
     }
@@ -82,12 +87,26 @@ fn copy_passes(call: &Call, outcome: &Outcome) -> bool {
         || levels::passes(&outcome.areas[0], call.capacity as usize)
 }
 
+/// Whether the source of an accepted call for stripping is mapped again with no more buffers, in an
+/// area as long as the mapped netlist.
+fn maps_again(call: &Call, outcome: &Outcome) -> bool {
+    if call.name != Name::Strip || outcome.answer[0] != 0 {
+        return true;
+    }
+    let n = outcome.answer[2] as usize;
+    let source = &outcome.areas[0][..WIDTH * n];
+    let again = (LINKED.map)(source, call.capacity, &mut vec![0; call.mapped.len()]);
+    again[0] == 0 && n + again[3] as usize <= call.mapped.len() / WIDTH
+}
+
 /// The calls on one netlist; false at the first difference.
 fn same(seed: u64, index: u64, tally: &mut Tally) -> bool {
     for call in calls_by_seed(seed, index) {
         let expected = perform(&PLAIN, &call);
         let found = catch_unwind(|| perform(&LINKED, &call));
-        let same = |found: &Outcome| *found == expected && copy_passes(&call, found);
+        let same = |found: &Outcome| {
+            *found == expected && copy_passes(&call, found) && maps_again(&call, found)
+        };
         if found.as_ref().is_ok_and(same) {
             tally.add(call.name, expected.answer[0]);
             continue;

@@ -141,7 +141,10 @@ fn call_case(call: &Call) -> Case {
     let outcome = perform(&PLAIN, call);
     let capacity = answer_bytes(&[call.capacity]);
     let numbers = answer_bytes(&[call.capacity, call.number]);
-    let mut fields = vec![call.source.clone()];
+    let mut fields = Vec::new();
+    if call.name != Name::Strip {
+        fields.push(call.source.clone());
+    }
     match call.name {
         Name::Map => {
             assert!(call.areas[0].iter().all(|&byte| byte == FILL));
@@ -154,6 +157,7 @@ fn call_case(call: &Call) -> Case {
         Name::Run => fields.extend([numbers, call.mapped.clone(), call.rows.clone()]),
         Name::Step => fields.extend([capacity, call.mapped.clone(), call.rows.clone()]),
         Name::Levels => fields.push(capacity),
+        Name::Strip => fields.extend([capacity, call.mapped.clone()]),
     }
     if call.name != Name::Map {
         fields.extend(call.areas.clone());
