@@ -28,6 +28,8 @@ const COUNT_NETS: u8 = 9;
 
 const LEVELS: u8 = 10;
 
+const STRIP: u8 = 11;
+
 // An answer of two numbers, in bytes.
 const PAIR: usize = 8;
 
@@ -170,6 +172,28 @@ fn levels_agrees(file: &[u8], at: usize, area: &mut [u8]) -> bool {
     let capacity = cases::number(cases::field(file, numbers), 0);
     aqfp::aqfp_levels(cases::field(file, at), capacity, &mut area[0..n], &mut got);
     if is_two(got, cases::field(file, answer)) {
+        check::same(&area[0..n], cases::field(file, after))
+    } else {
+        false
+    }
+}
+
+// A case of stripping: numbers (capacity), mapped, area before; answer, area after.
+fn strip_agrees(file: &[u8], at: usize, area: &mut [u8]) -> bool {
+    let mapped = cases::skip(file, at);
+    let before = cases::skip(file, mapped);
+    let answer = cases::skip(file, before);
+    let after = cases::skip(file, answer);
+    let mut got = [0u8; 12];
+    let n = cases::copy(cases::field(file, before), area);
+    let capacity = cases::number(cases::field(file, at), 0);
+    aqfp::aqfp_strip(
+        capacity,
+        cases::field(file, mapped),
+        &mut area[0..n],
+        &mut got,
+    );
+    if is_three(got, cases::field(file, answer)) {
         check::same(&area[0..n], cases::field(file, after))
     } else {
         false
@@ -319,6 +343,7 @@ fn agrees(family: u8, file: &[u8], at: usize) -> bool {
         EVALUATE => evaluate_agrees(file, at, &mut area),
         COUNT_NETS => count_nets_agrees(file, at, &mut area),
         LEVELS => levels_agrees(file, at, &mut area),
+        STRIP => strip_agrees(file, at, &mut area),
         STEP => step_agrees(file, at, &mut area),
         RUN => run_agrees(file, at, &mut area, &mut outputs),
         BLOCK_VIEW => block_view_agrees(file, at),
@@ -435,6 +460,7 @@ fn main() {
     test_family(b"count", COUNT, 3);
     test_family(b"count_nets", COUNT_NETS, 6);
     test_family(b"levels", LEVELS, 5);
+    test_family(b"strip", STRIP, 5);
     test_family(b"verifier", VERIFIER, 4);
     test_family(b"evaluate", EVALUATE, 5);
     test_family(b"step", STEP, 7);

@@ -283,6 +283,12 @@ pub fn shuffle_buffers(random: &mut Random, records: &mut [Record], n: usize) {
     shuffle(random, records, n..end);
 }
 
+/// Puts the records from `n` on in falling order.
+pub fn reverse_buffers(records: &mut [Record], n: usize) {
+    let order: Vec<usize> = (n..records.len()).rev().collect();
+    reorder(records, n, &order);
+}
+
 /// A legal mapped netlist made by random splitting, with buffers that feed nothing and in any
 /// order; nothing if a net has no tree or there are too many records.
 pub fn foreign(random: &mut Random, source: &[Record], s: usize) -> Option<Vec<Record>> {

@@ -97,6 +97,13 @@ pub fn sinks(number: usize) -> Vec<Record> {
     records
 }
 
+/// The same with all sinks at one level.
+pub fn sinks_at(number: usize, level: u16) -> Vec<Record> {
+    let mut records = sinks(number);
+    records[1..].iter_mut().for_each(|record| record.level = level);
+    records
+}
+
 /// A chain of majorities that name the one before in all slots, three levels apart with capacity 2
 /// and two with others. An output may stand before it, on an input of its own, and one after it.
 pub fn climb(gates: usize, before: bool, after: bool) -> Vec<Record> {

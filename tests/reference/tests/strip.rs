@@ -5,7 +5,7 @@ use std::collections::BTreeMap;
 
 use reference::cases::{any_call, crowded_call, damaged, limit, sound};
 use reference::engine::{perform, Name, Outcome, FAST, PLAIN};
-use reference::generator::{foreign, reorder, source, Levels, ALL_LEVELS};
+use reference::generator::{foreign, reverse_buffers, source, Levels, ALL_LEVELS};
 use reference::mapper::mapping;
 use reference::random::Random;
 use reference::record::*;
@@ -276,8 +276,7 @@ fn falling_chains() {
     for pairs in [1, 14] {
         let source = encode(&shapes::lines(pairs, MAX_LEVEL));
         let mut records = mapping(&source, 2).expect("chains").records;
-        let order: Vec<usize> = (2 * pairs..records.len()).rev().collect();
-        reorder(&mut records, 2 * pairs, &order);
+        reverse_buffers(&mut records, 2 * pairs);
         hold_source(2, &encode(&records), &source);
         assert_eq!(hold_no_more(2, &records, &source), 0);
         // The chain's first buffer, now the last record, closes a cycle.

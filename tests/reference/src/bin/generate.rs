@@ -10,6 +10,7 @@ use std::{env, fs};
 use reference::calls::answer_bytes;
 use reference::cases::{any_call, damaged, sound, Subject, FILL};
 use reference::engine::{perform, Call, Name, PLAIN};
+use reference::generator::reverse_buffers;
 use reference::mapper::mapping;
 use reference::random::Random;
 use reference::record::*;
@@ -43,7 +44,7 @@ struct Family {
     by_chance: fn(&mut Random) -> Case,
 }
 
-const FAMILIES: [Family; 11] = [
+const FAMILIES: [Family; 12] = [
     Family {
         name: "reader",
         numbers: &[0, 2, 4, 5, 6, 7],
@@ -106,6 +107,13 @@ const FAMILIES: [Family; 11] = [
         refused: 10,
         worked: worked_levels,
         by_chance: |random| chance_case(random, Name::Levels),
+    },
+    Family {
+        name: "strip",
+        numbers: &[0, 1, 24, 25],
+        refused: 24,
+        worked: worked_strip,
+        by_chance: |random| chance_case(random, Name::Strip),
     },
     Family {
         name: "record_view",
@@ -542,6 +550,63 @@ fn worked_levels() -> Vec<Case> {
     calls.push(on(&shapes::climb(1366, false, false), 2, 0));
     calls.push(on(&shapes::climb(1365, false, true), 2, WIDTH));
     calls.push(on(&shapes::climb(1365, true, true), 2, 7));
+    calls.iter().map(call_case).collect()
+}
+
+/// A mapped netlist with its buffers in falling order.
+fn falling(source: &[Record], s: u32) -> Vec<Record> {
+    let mut records = mapped(source, s);
+    reverse_buffers(&mut records, source.len());
+    records
+}
+
+/// The worked case with every capacity, with areas of other lengths and changed in each of its bytes;
+/// netlists without a source, by each cause; nets of many sinks, long chains, buffers in falling order
+/// and buffers that feed nothing, with their own capacity and with one less.
+fn worked_strip() -> Vec<Case> {
+    let on = |mapped: &[u8], s: u32, len: usize| Call {
+        mapped: mapped.to_vec(),
+        areas: vec![vec![FILL; len]],
+        ..bare(Name::Strip, &[], s)
+    };
+    let worked = shapes::worked_mapped();
+    let legal = encode(&worked);
+    let mut calls: Vec<Call> = [0, 1, 2, 3, 4, 5, 258].map(|s| on(&legal, s, 50)).into();
+    calls.extend([0, 1, 40, 49, 51, 60, 80].map(|len| on(&legal, 2, len)));
+    calls.extend([0, 1, 10].map(|len| on(&[], 3, len)));
+    for at in 0..legal.len() {
+        let mut changed = legal.clone();
+        changed[at] = changed[at].wrapping_add(1);
+        calls.push(on(&changed, 2, 50));
+    }
+    for (_, mapped) in shapes::without_source() {
+        calls.push(on(&mapped, 2, 50));
+    }
+    calls.push(on(&encode(&shapes::two_gates(false)), 2, 30));
+    for s in 2..=4 {
+        let mut three = worked.clone();
+        three.push(Record::buffer(2, 5));
+        calls.push(on(&encode(&three), s, 50));
+        let sources = [
+            shapes::chains(12),
+            shapes::wide(30, s as usize),
+            shapes::wide_majorities(9, s as usize),
+            shapes::lines(2, 9),
+            shapes::net(&[2, 5, 5, 5]),
+            shapes::inputs(3),
+        ];
+        for source in sources {
+            let own = encode(&mapped(&source, s));
+            calls.push(on(&own, s, WIDTH * source.len()));
+            calls.push(on(&own, s - 1, 0));
+        }
+        calls.push(on(&encode(&falling(&shapes::lines(2, 9), s)), s, 40));
+        calls.push(on(&encode(&falling(&shapes::sinks_at(7, 5), s)), s, 45));
+        calls.push(on(&encode(&shapes::padded(&worked, s as usize, 30)), s, 52));
+    }
+    // Levels of two bytes, and indices above 255.
+    calls.push(on(&encode(&mapped(&shapes::lines(1, 300), 2)), 2, 20));
+    calls.push(on(&encode(&falling(&shapes::lines(1, 300), 2)), 2, 19));
     calls.iter().map(call_case).collect()
 }
 
