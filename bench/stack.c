@@ -20,6 +20,7 @@ enum { INPUT = 0, MAJORITY = 3, OUTPUT = 4, BUFFER = 5 };
 static uint8_t source[WIDTH * SOURCE_LIMIT], mapped[WIDTH * MAPPED_LIMIT];
 static uint8_t state[2 * MAPPED_LIMIT], rows[SOURCE_LIMIT], values[SOURCE_LIMIT], outputs[SOURCE_LIMIT];
 static uint8_t list[2 * LISTED], counts[4 * LISTED], levelled[WIDTH * SOURCE_LIMIT];
+static uint8_t stripped[WIDTH * SOURCE_LIMIT];
 static uint8_t answer[28];
 static size_t records, mapped_records, inputs, output_count;
 
@@ -65,7 +66,9 @@ static void chains(size_t pairs) {
 }
 
 static uint32_t map(void) {
-    return aqfp_map(source, WIDTH * records, 2, mapped, sizeof mapped, answer);
+    uint32_t returned = aqfp_map(source, WIDTH * records, 2, mapped, sizeof mapped, answer);
+    mapped_records = answer[8] + 256u * answer[9];
+    return returned;
 }
 static uint32_t count(void) {
     return aqfp_count(source, WIDTH * records, 2, 0, answer);
@@ -83,6 +86,9 @@ static uint32_t levels(void) {
 }
 static uint32_t verify(void) {
     return aqfp_verify(source, WIDTH * records, 2, mapped, WIDTH * mapped_records, answer);
+}
+static uint32_t strip(void) {
+    return aqfp_strip(2, mapped, WIDTH * mapped_records, stripped, sizeof stripped, answer);
 }
 static uint32_t evaluate(void) {
     return aqfp_evaluate(source, WIDTH * records, rows, inputs, values, records, answer);
@@ -134,6 +140,7 @@ int main(void) {
     puts("| call | input | number | bytes |\n|---|---|---|---|");
     wide();
     row("aqfp_map", map, "12,285 sinks");
+    row("aqfp_strip", strip, "12,285 sinks");
     row("aqfp_count", count, "12,285 sinks");
     row("aqfp_count_nets", count_nets, "12,285 sinks");
     row("aqfp_levels", levels, "12,285 sinks");
@@ -144,6 +151,7 @@ int main(void) {
         char input[64];
         snprintf(input, sizeof input, "chains of 4,094 buffers, M = %zu", mapped_records);
         row("aqfp_verify", verify, input);
+        row("aqfp_strip", strip, input);
         row("aqfp_step", step, input);
         row("aqfp_run", run, input);
     }

@@ -1,10 +1,11 @@
 //! Times the static library and the fast path on the same inputs in the same run, in turns.
 //!
-//! Four tables: for each call, shape and size the median time of both and the median of the samples'
+//! Five tables: for each call, shape and size the median time of both and the median of the samples'
 //! ratios; then how our time grows from N = 512 to N = 4,096, the two sizes in turns as well, since
 //! the machine's own speed drifts; then the time of the mapper and of least levels on sources that
 //! they refuse, in turns with the accepted one on which the call took longest; then the time of lists
-//! of counts in turns with the mapper's on the same sources. Both answers are compared before a row
+//! of counts in turns with the mapper's on the same sources; then the time of stripping in turns with
+//! the verifier's on the same mapped netlists, where the bar is 2.5. Both answers are compared before a row
 //! is timed. Areas that a call writes are touched once before and not cleared between calls. A row of
 //! layered netlists goes round as many of them as have 65,536 records together, so that no size is
 //! timed on inputs that the processor has learnt by heart.
@@ -14,7 +15,7 @@ use std::time::{Duration, Instant};
 
 use reference::engine::{perform, Call, Engine, Name, FAST};
 use reference::fast;
-use reference::generator::fanouts;
+use reference::generator::{fanouts, reverse_buffers};
 use reference::linked::LINKED;
 use reference::random::Random;
 use reference::record::*;
@@ -58,6 +59,19 @@ impl Subject {
         let answer = fast::map(&source, capacity, &mut mapped);
         mapped.truncate(WIDTH * answer[2] as usize);
         Subject { shape, source, mapped, capacity, driver }
+    }
+
+    /// The same source with the mapped netlist changed.
+    fn changed(&self, shape: &'static str, change: impl Fn(&mut Vec<Record>)) -> Subject {
+        let mut records = decode(&self.mapped);
+        change(&mut records);
+        let (source, mapped) = (self.source.clone(), encode(&records));
+        Subject { shape, source, mapped, ..*self }
+    }
+
+    /// The same with its buffers in falling order.
+    fn falling(&self, shape: &'static str) -> Subject {
+        self.changed(shape, |records| reverse_buffers(records, self.n()))
     }
 
     fn n(&self) -> usize {
@@ -218,14 +232,23 @@ fn compare(call: &Call, shape: &str) -> Vec<u32> {
     ours.answer
 }
 
+/// Compares all calls of a row, which have the same number. Answers it.
+fn compare_all(calls: &[Call], shape: &str) -> u32 {
+    let numbers: Vec<u32> = calls.iter().map(|call| compare(call, shape)[0]).collect();
+    assert!(numbers.iter().all(|&number| number == numbers[0]), "{shape}: {numbers:?}");
+    numbers[0]
+}
+
+fn average_m(subjects: &[Subject]) -> usize {
+    subjects.iter().map(Subject::m).sum::<usize>() / subjects.len()
+}
+
 /// One row of the first table: the subjects are of one shape and N. Answers our time.
 fn print_row(subjects: &[Subject], name: Name) -> f64 {
     let (shape, n) = (subjects[0].shape, subjects[0].n());
-    let m = subjects.iter().map(Subject::m).sum::<usize>() / subjects.len();
+    let m = average_m(subjects);
     let mut calls = calls_of(subjects, name);
-    for call in &calls {
-        compare(call, shape);
-    }
+    compare_all(&calls, shape);
     let rounds = rounds_in_a_sample(&FAST, &mut calls);
     let Measured { first, second, ratio } = measure(|side| match side {
         Side::First => time_of(&LINKED, &mut calls, rounds),
@@ -294,6 +317,46 @@ fn print_over_map(subjects: &[Subject], list: &str, call: impl Fn(&Subject) -> C
     println!("| {list} | {shape} | {n} | {indices} | {first:.2} | {second:.2} | {ratio:.2} |");
 }
 
+/// Stripping with an area one byte short.
+fn short_of_a_byte(subject: &Subject) -> Call {
+    Call { areas: vec![vec![0; subject.source.len() - 1]], ..subject.call(Name::Strip) }
+}
+
+/// One row of the fifth table: our time for stripping over that of the verifier.
+fn print_over_verify(subjects: &[Subject], call: impl Fn(&Subject) -> Call) {
+    let (shape, n, m) = (subjects[0].shape, subjects[0].n(), average_m(subjects));
+    let mut strips: Vec<Call> = subjects.iter().map(call).collect();
+    let mut verifies = calls_of(subjects, Name::Verify);
+    let [number, verified] = [&strips, &verifies].map(|calls| compare_all(calls, shape));
+    let (rounds, more) =
+        (rounds_in_a_sample(&LINKED, &mut strips), rounds_in_a_sample(&LINKED, &mut verifies));
+    let Measured { first, second, ratio } = measure(|side| match side {
+        Side::First => time_of(&LINKED, &mut strips, rounds),
+        Side::Second => time_of(&LINKED, &mut verifies, more),
+    });
+    println!(
+        "| {shape} | {n} | {m} | {number} | {first:.2} | {verified} | {second:.2} | {ratio:.2} |"
+    );
+}
+
+/// Mapped netlists of another order, and some without a source, found late.
+fn other_mapped(layered: &Subject, raised: &Subject) -> Vec<[Subject; 1]> {
+    let lines = Subject::new("lines", &shapes::lines(14, MAX_LEVEL), 0);
+    let last_bad = |records: &mut Vec<Record>| {
+        let last = records.len() - 1;
+        records[last].slots[2] = 0;
+    };
+    // The first buffer hangs on a driver.
+    let two_on_driver = |records: &mut Vec<Record>| records.push(records[layered.n()]);
+    vec![
+        [layered.falling("layered, buffers falling")],
+        [raised.falling("layered, raised, buffers falling")],
+        [lines.falling("chains of 4,094 buffers, falling")],
+        [layered.changed("layered, last buffer bad", last_bad)],
+        [layered.changed("layered, two slots on a driver", two_on_driver)],
+    ]
+}
+
 /// Sources that the mapper refuses by 8 or 9 after counting long nets.
 fn refused_shapes() -> [Subject; 4] {
     let far = shapes::three_far(MAX_SOURCE / 2);
@@ -352,7 +415,7 @@ fn main() {
             map(&shapes[shape]);
         }
     }
-    for name in [Name::Verify, Name::Count, Name::CountNets] {
+    for name in [Name::Verify, Name::Strip, Name::Count, Name::CountNets] {
         for shape in 0..3 {
             for shapes in &all {
                 print_row(&shapes[shape], name);
@@ -375,6 +438,7 @@ fn main() {
     }
     map(&sizes[3]);
     print_row(&sizes[3], Name::Verify);
+    print_row(&sizes[3], Name::Strip);
     let majorities = shapes::wide_majorities(MAX_SOURCE, S);
     let majorities = [Subject::new("12,285 sinks", &majorities, 0)];
     map(&majorities);
@@ -386,6 +450,7 @@ fn main() {
     let shared = [Subject::new("wide, one long chain below", &shared, 0)];
     map(&shared);
     print_row(&shared, Name::Verify);
+    print_row(&shared, Name::Strip);
     let refused = [Subject::new("refused by 9", &shapes::lines(2048, MAX_LEVEL), 0)];
     print_row(&refused, Name::Map);
     let long_chains = long_chains();
@@ -397,7 +462,8 @@ fn main() {
     println!("| call | shape | N = 512, us | N = 4096, us | growth |");
     println!("|---|---|---|---|---|");
     let (small, large) = (&all[0], &all[SIZES.len() - 1]);
-    for name in [Name::Map, Name::Verify, Name::Count, Name::CountNets, Name::Levels] {
+    let grown = [Name::Map, Name::Verify, Name::Strip, Name::Count, Name::CountNets, Name::Levels];
+    for name in grown {
         for (small, large) in small.iter().zip(large) {
             print_growth(small, large, name);
         }
@@ -421,4 +487,24 @@ fn main() {
         print_over_map(subjects, "all drivers", |subject| subject.call(Name::CountNets));
     }
     print_over_map(&large[2], "one driver each time", repeated);
+
+    println!();
+    println!(
+        "| shape | N | M | strip's number | strip, us | verify's number | verify, us | ratio |"
+    );
+    println!("|---|---|---|---|---|---|---|---|");
+    let strip = |subject: &Subject| subject.call(Name::Strip);
+    for shape in 0..3 {
+        for shapes in &all {
+            print_over_verify(&shapes[shape], strip);
+        }
+    }
+    for subjects in [&sizes[3], &shared] {
+        print_over_verify(subjects, strip);
+    }
+    for subjects in &other_mapped(&large[2][0], &sizes[3][0]) {
+        print_over_verify(subjects, strip);
+    }
+    print_over_verify(&large[2], short_of_a_byte);
+    print_over_verify(&sizes[3], short_of_a_byte);
 }
