@@ -437,6 +437,25 @@ fn strip_of(random: &mut Random, call: &Call) -> Call {
     }
 }
 
+/// Stripping chains of 4,094 buffers, in the mapper's order, falling or in any; once in 3 times with a
+/// bit changed.
+fn chains_call(random: &mut Random) -> Call {
+    let subject = Subject::new(shapes::lines(random.between(1, 14), MAX_LEVEL), 2);
+    let n = subject.records.len();
+    let mut records = mapping(&subject.source, 2).expect("chains").records;
+    match random.below(3) {
+        0 => generator::reverse_buffers(&mut records, n),
+        1 => generator::shuffle_buffers(random, &mut records, n),
+        _ => {}
+    }
+    let mut mapped = encode(&records);
+    if random.one_in(3) {
+        let at = random.below(mapped.len());
+        mapped[at] ^= 1 << random.below(8);
+    }
+    strip_of(random, &Call { mapped, ..call(Name::Strip, &subject) })
+}
+
 /// All calls made on netlist `index` of a seed: most are small, one in 250 is at a limit.
 pub fn calls_by_seed(seed: u64, index: u64) -> Vec<Call> {
     let mut random = Random::of(seed, index);
@@ -444,6 +463,7 @@ pub fn calls_by_seed(seed: u64, index: u64) -> Vec<Call> {
         let mut calls = vec![full_call(&mut random), crowded_call(&mut random)];
         let stripped: Vec<Call> = calls.iter().map(|call| strip_of(&mut random, call)).collect();
         calls.extend(stripped);
+        calls.push(chains_call(&mut random));
         return calls;
     }
     let subject = match index % 250 {
