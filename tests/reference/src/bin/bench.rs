@@ -5,10 +5,10 @@
 //! the machine's own speed drifts; then the time of the mapper and of least levels on sources that
 //! they refuse, in turns with the accepted one on which the call took longest; then the time of lists
 //! of counts in turns with the mapper's on the same sources; then the time of stripping in turns with
-//! the verifier's on the same mapped netlists, where the bar is 2.5. Both answers are compared before a row
-//! is timed. Areas that a call writes are touched once before and not cleared between calls. A row of
-//! layered netlists goes round as many of them as have 65,536 records together, so that no size is
-//! timed on inputs that the processor has learnt by heart.
+//! the verifier's on the same mapped netlists, where the bar is 2.5. Both answers are compared before
+//! a row is timed. Areas that a call writes are touched once before and not cleared between calls. A
+//! row of layered netlists goes round as many of them as have 65,536 records together, so that no size
+//! is timed on inputs that the processor has learnt by heart.
 
 use std::hint::black_box;
 use std::time::{Duration, Instant};
