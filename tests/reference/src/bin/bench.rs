@@ -339,22 +339,29 @@ fn print_over_verify(subjects: &[Subject], call: impl Fn(&Subject) -> Call) {
     );
 }
 
-/// Mapped netlists of another order, and some without a source, found late.
-fn other_mapped(layered: &Subject, raised: &Subject) -> Vec<[Subject; 1]> {
+/// Mapped netlists with their buffers in falling order.
+fn falling(layered: &[Subject], raised: &Subject, shared: &Subject) -> [Vec<Subject>; 4] {
     let lines = Subject::new("lines", &shapes::lines(14, MAX_LEVEL), 0);
+    [
+        layered.iter().map(|subject| subject.falling("layered, buffers falling")).collect(),
+        vec![raised.falling("layered, raised, buffers falling")],
+        vec![shared.falling("wide, one long chain below, buffers falling")],
+        vec![lines.falling("chains of 4,094 buffers, falling")],
+    ]
+}
+
+/// Mapped netlists without a source: the last buffer bad, or a driver with two slots.
+fn without_source(layered: &[Subject]) -> [Vec<Subject>; 2] {
     let last_bad = |records: &mut Vec<Record>| {
         let last = records.len() - 1;
         records[last].slots[2] = 0;
     };
     // The first buffer hangs on a driver.
-    let two_on_driver = |records: &mut Vec<Record>| records.push(records[layered.n()]);
-    vec![
-        [layered.falling("layered, buffers falling")],
-        [raised.falling("layered, raised, buffers falling")],
-        [lines.falling("chains of 4,094 buffers, falling")],
-        [layered.changed("layered, last buffer bad", last_bad)],
-        [layered.changed("layered, two slots on a driver", two_on_driver)],
-    ]
+    let two_on_driver = |records: &mut Vec<Record>| records.push(records[layered[0].n()]);
+    let last_bad = |subject: &Subject| subject.changed("layered, last buffer bad", last_bad);
+    let two_on_driver =
+        |subject: &Subject| subject.changed("layered, two slots on a driver", two_on_driver);
+    [layered.iter().map(last_bad).collect(), layered.iter().map(two_on_driver).collect()]
 }
 
 /// Sources that the mapper refuses by 8 or 9 after counting long nets.
@@ -502,7 +509,10 @@ fn main() {
     for subjects in [&sizes[3], &shared] {
         print_over_verify(subjects, strip);
     }
-    for subjects in &other_mapped(&large[2][0], &sizes[3][0]) {
+    for subjects in &falling(&large[2], &sizes[3][0], &shared[0]) {
+        print_over_verify(subjects, strip);
+    }
+    for subjects in &without_source(&large[2]) {
         print_over_verify(subjects, strip);
     }
     print_over_verify(&large[2], short_of_a_byte);
