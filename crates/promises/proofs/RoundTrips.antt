@@ -52,7 +52,7 @@ map-stripped caps mapped source size area e room =
     subst (λ (l : List ℕ). MapsNoWorse l caps area mapped) (sym same)
     (record {
       maps = maps;
-      answered = omega (arith, least .0, accepted-exactly (found .0) caps mapped (s .buffers) .0 (s .accepted) .1);
+      answered = omega (arith, accepted-exactly (found .0) caps mapped (s .buffers) .0 (s .accepted) .1);
       noMore = least .1;
     })
   where

@@ -157,11 +157,8 @@ module _ (m : Netlist) (n all : ℕ) (c : SizesFit m n all) where
             | yes a ↦ any-none (badFanins m) n .0 (sym e ∙ t) k a
             | no a ↦
                 (let good = buffer-good m (m .at k) (l .good u k (omega arith) h) in
-                rw (good .0) (go (badFanin m (m .at k) 0) (good .1)))
+                rw (good .0) (good .1))
           ]
-        where
-          go : (x : Bool) → x ≡ false → x ≡ false
-          go x h = h
 
       walkable : b ≡ true → Walkable n m
       walkable u =
