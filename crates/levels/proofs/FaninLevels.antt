@@ -22,7 +22,10 @@ use Rattle.netlist.specs.Source.{Structured, Unlevelled}
 use Rattle.netlist.proofs.Checks.{arity-slots}
 use Rattle.fanout.specs.Nets.{sinkLimit}
 use Rattle.levels.specs.Levels.{height, sinkLevel, lowest, outputLowest, leastLevel}
-use Rattle.levels.specs.PrivateLevels.{entries, entryPlace, faninEntry, EntriesInside, Raised, Unraised, WorkedOut, WithOutputs}
+use Rattle.levels.specs.HeightTable.{heightRow, heightIn}
+use Rattle.levels.specs.PrivateLevels.{Listed, entries, entryPlace, faninEntry, EntriesInside, Raised, Unraised, WorkedOut, WithOutputs}
+use Rattle.levels.proofs.Heights.{looked-up}
+use Rattle.levels.proofs.HeightRows.{row-lists}
 use Rattle.levels.proofs.Lowest.{lowest-over, sinks-few, sink-small}
 
 -- the entry of a slot stands within
@@ -101,6 +104,9 @@ pub record Levelling (source : List ℕ) (s n : ℕ) (reach₀ levels₀ reach l
   pub levels-long : length levels ≡ length levels₀
 
 module _ (source : List ℕ) (s n : ℕ) (reach₀ levels₀ : List ℕ) where
+  pub capacity-allowed : Unraised source s reach₀ levels₀ → (2 ≤ s) × (s ≤ 4)
+  capacity-allowed u = (u .unlevelled .low, u .unlevelled .high)
+
   pub levelling-start : Unraised source s reach₀ levels₀ → n ≡ recordCount source → Levelling source s n reach₀ levels₀ reach₀ levels₀ 0 0
   unfolding largest
   levelling-start u e =
@@ -150,30 +156,30 @@ module _ (source : List ℕ) (s n : ℕ) (reach₀ levels₀ : List ℕ) where
       pub levels-inside : k < length levels
       levels-inside = omega (arith, present, c .enough)
 
-      pub capacity-allowed : (2 ≤ s) × (s ≤ 4)
-      capacity-allowed = (c .unlevelled .low, c .unlevelled .high)
-
       sinks-are : getD reach k 0 ≡ feeds (netlist source) k
       sinks-are = c .raised .rest k (omega arith) reach-inside
 
-      pub sinks-within : getD reach k 0 ≤ sinkLimit
+      sinks-within : getD reach k 0 ≤ sinkLimit
       sinks-within = omega (arith, sinks-are, sinks-few s (netlist source) structured k)
 
-      module _ (r : Record) (e : r ≡ recordAt source k) (level : ℕ) (f : level ≡ largest (faninEntry reach n r) slots) where
+      pub sinks-listed : (row : List ℕ) → row ≡ heightRow s → Listed row (getD reach k 0)
+      sinks-listed row i = row-lists s (getD reach k 0) row (c .unlevelled .low) sinks-within i
+
+      module _ (row : List ℕ) (i : row ≡ heightRow s) (r : Record) (e : r ≡ recordAt source k) (level : ℕ) (f : level ≡ largest (faninEntry reach n r) slots) where
         level-is : level ≡ lowest s (netlist source) k
         level-is =
             f
             ∙ ap₂ (λ (a : ℕ) (x : Record). largest (faninEntry reach a x) slots) (c .all) e
             ∙ lowest-read s (netlist source) structured k reach (c .raised) (omega (arith, present)) k (omega arith) present
 
-        here : level + suc (height s (getD reach k 0)) ≡ sinkLevel s (netlist source) (lowest s (netlist source)) k
-        here = omega (arith, level-is, ap (height s) sinks-are)
+        here : level + suc (heightIn row (getD reach k 0)) ≡ sinkLevel s (netlist source) (lowest s (netlist source)) k
+        here = rw i (omega (arith, level-is, looked-up s (getD reach k 0) (c .unlevelled .low) sinks-within, ap (height s) sinks-are))
 
-        pub entry-fits : level + suc (height s (getD reach k 0)) < 65536
+        pub entry-fits : level + suc (heightIn row (getD reach k 0)) < 65536
         entry-fits = omega (arith, here, sink-small s (netlist source) structured k present)
 
         pub levelling-more : (own next entry : ℕ) → own ≡ cond (eqb (r .kind) output) level 0 → next ≡ max top own →
-            entry ≡ level + suc (height s (getD reach k 0)) →
+            entry ≡ level + suc (heightIn row (getD reach k 0)) →
             Levelling source s n reach₀ levels₀ (set reach k entry) (set levels k level) next (k + 1)
         unfolding largest
         levelling-more own next entry p q g =

@@ -1,18 +1,36 @@
--- Laws of heights: what is looked for is the height, and a power that grows with each turn finds it.
-use Prim.Native.Nat.{ℕ, zero, suc, _+_, _-_, _*_, _^_, _≤_, _<_}
+-- Laws of heights: what is looked for is the height, and so is what is looked up in a row of powers.
+use Prim.Native.Nat.{ℕ, zero, suc, _-_, _^_, _≤_, _<_}
 use native.Mathlib.Decide.{decLt}
-use native.Mathlib.Nat.{one-mul, mul-le-mul-left, pow-zero, pow-suc, pow-le-pow-right}
-use native.Mathlib.Numerals.{add-one}
+use native.Mathlib.Nat.{mul-le-mul-left, pow-zero, pow-suc, pow-le-pow-left, pow-le-pow-right}
 use native.Mathlib.Omega.{arith}
-use mathlib.Core.Path.{_≡_, sym, ap, subst, _∙_}
-use mathlib.Core.Bool.{cond}
+use mathlib.Core.Path.{_≡_, sym, subst}
+use mathlib.Core.Bool.{Bool}
+use mathlib.Core.List.{List}
 use lib.Dec.{leb}
-use borrow.Author.Tests.{leb-true, leb-false, le-leb, lt-leb}
+use lib.ListN.{getD}
+use borrow.Author.Tests.{leb-true, leb-false}
 use Rattle.facts.specs.Sums.{seek}
-use Rattle.facts.proofs.Loops.{Seeking, seek-start, seek-more, seek-here, seek-end, seek-within, seek-true, seek-before}
+use Rattle.facts.proofs.Lists.{getD-tabulate}
+use Rattle.facts.proofs.Loops.{seek-within, seek-true, seek-before}
 use Rattle.fanout.specs.Nets.{sinkLimit}
 use Rattle.levels.specs.Levels.{carries, height}
+use Rattle.levels.specs.HeightTable.{heights, mostSinks, heightRow, heightIn, MostExact, LookedUp}
 use Rattle.levels.specs.Promises.{HeightExact}
+
+-- the first of m values that is at least n
+module _ (f : ℕ → ℕ) (n m : ℕ) where
+  abbrev reaches : ℕ → Bool
+  reaches h = leb n (f h)
+
+  first-enough : seek reaches 0 m < m → n ≤ f (seek reaches 0 m)
+  first-enough l = leb-true n _ (seek-true reaches 0 m (omega arith))
+
+  first-least : (i : ℕ) → n ≤ f i → seek reaches 0 m ≤ i
+  first-least i l =
+      elim (decLt i (seek reaches 0 m)) [
+        | yes b ↦ absurd (omega (arith, leb-false n (f i) (seek-before reaches 0 m i (omega arith) b)))
+        | no g ↦ omega arith
+      ]
 
 -- a number is below the power of a base from 2 on with that exponent
 below-power : (s n : ℕ) → 2 ≤ s → n < s ^ n
@@ -29,7 +47,7 @@ height-enough : (s n : ℕ) → 2 ≤ s → n ≤ s ^ height s n
 unfolding height
 height-enough s n h =
     elim (decLt (seek (carries s n) 0 n) n) [
-      | yes l ↦ leb-true n _ (seek-true (carries s n) 0 n (omega arith))
+      | yes l ↦ first-enough (_^_ s) n n l
       | no g ↦
           let e : seek (carries s n) 0 n ≡ n = omega (arith, seek-within (carries s n) 0 n) in
           subst (λ (k : ℕ). n ≤ s ^ k) (sym e) (omega (arith, below-power s n h))
@@ -37,11 +55,7 @@ height-enough s n h =
 
 height-least : (s n i : ℕ) → n ≤ s ^ i → height s n ≤ i
 unfolding height
-height-least s n i l =
-    elim (decLt i (seek (carries s n) 0 n)) [
-      | yes b ↦ absurd (omega (arith, leb-false n (s ^ i) (seek-before (carries s n) 0 n i (omega arith) b)))
-      | no g ↦ omega arith
-    ]
+height-least s n = first-least (_^_ s) n n
 
 pub height-exact : HeightExact
 height-exact =
@@ -50,93 +64,44 @@ height-exact =
       one = λ s n a b x y. omega (arith, x .least b (y .enough), y .least a (x .enough));
     }
 
--- the height between two powers
-height-between : (s n i : ℕ) → 2 ≤ s → s ^ i < n → n ≤ s ^ suc i → height s n ≡ suc i
-height-between s n i two l h =
-    height-exact .one s n (height s n) (suc i) (height-exact .computed s n two) (record { enough = h; least = least })
-  where
-    least : (j : ℕ) → n ≤ s ^ j → suc i ≤ j
-    least j e =
-        elim (decLt i j) [ yes b ↦ b | no g ↦ absurd (omega (arith, pow-le-pow-right {n = s} (omega arith) {i = j} {j = i} (omega arith))) ]
+pub most-exact : MostExact
+most-exact s n h two few = (
+  λ l. height-least s n h (omega arith),
+  λ l. omega (arith, height-enough s n two, pow-le-pow-right {n = s} (omega arith) {i = height s n} {j = h} l),
+)
 
-height-of-one : (s n : ℕ) → n ≤ 1 → height s n ≡ 0
-height-of-one s n l = omega (arith, height-least s n 0 (omega (arith, pow-zero s)))
+-- what is looked up in a row
+pub looked-up-enough : (row : List ℕ) (n : ℕ) → heightIn row n < heights → n ≤ getD row (heightIn row n) 0
+unfolding heightIn
+looked-up-enough row n = first-enough (λ h. getD row h 0) n heights
 
--- one more than the height of few sinks, by comparisons with the first powers
-module _ (s n : ℕ) (cap : (2 ≤ s) × (s ≤ 4)) where
-  pub rise-fits : (h : ℕ) → h ≡ height s n → n ≤ sinkLimit → h + 1 < 2 ^ 64
-  rise-fits h e l = omega (arith, height-small s n)
+pub looked-up-least : (row : List ℕ) (n h : ℕ) → n ≤ getD row h 0 → heightIn row n ≤ h
+unfolding heightIn
+looked-up-least row n = first-least (λ h. getD row h 0) n heights
 
-  pub square-fits : s * s < 2 ^ 64
-  square-fits = omega (arith, mul-le-mul-left {m = s} {n = 4} s (cap .1), cap .1)
+module _ (s n : ℕ) (two : 2 ≤ s) (few : n ≤ sinkLimit) where
+  entry : (h : ℕ) → h < heights → getD (heightRow s) h 0 ≡ mostSinks s h
+  entry h l = getD-tabulate (mostSinks s) heights h 0 l
 
-  module _ (square : ℕ) (e : square ≡ s * s) where
-    pub cube-fits : square * s < 2 ^ 64
-    cube-fits = omega (arith, mul-le-mul-left {m = s} {n = 4} s (cap .1), mul-le-mul-left {m = s} {n = 4} square (cap .1), cap .1)
+  -- the last entry is the most sinks of a source, so the height is in the row
+  pub in-row : heightIn (heightRow s) n < heights
+  in-row =
+      let last : n ≤ getD (heightRow s) (heights - 1) 0 = omega (arith, entry (heights - 1) (omega arith), pow-le-pow-left {n = 2} {m = s} two (heights - 1)) in
+      omega (arith, looked-up-least (heightRow s) n (heights - 1) last)
 
-    first-power : s ^ 1 ≡ s
-    first-power = pow-suc s 0 ∙ ap (λ (x : ℕ). x * s) (pow-zero s) ∙ one-mul s
+  not-lower : height s n ≤ heightIn (heightRow s) n
+  not-lower =
+      most-exact s n (heightIn (heightRow s) n) two few .0
+      (omega (arith, looked-up-enough (heightRow s) n in-row, entry (heightIn (heightRow s) n) in-row))
 
-    second-power : s ^ 2 ≡ square
-    second-power = pow-suc s 1 ∙ ap (λ (x : ℕ). x * s) first-power ∙ sym e
+  not-higher : heightIn (heightRow s) n ≤ height s n
+  not-higher =
+      elim (decLt (height s n) heights) [
+        | yes b ↦
+            looked-up-least (heightRow s) n (height s n)
+            (omega (arith, entry (height s n) b, most-exact s n (height s n) two few .1 (omega arith)))
+        | no g ↦ omega (arith, in-row)
+      ]
 
-    few-sinks : n ≤ square * s → cond (leb n 1) 1 (cond (leb n s) 2 (cond (leb n square) 3 4)) ≡ suc (height s n)
-    few-sinks l =
-        elim (decLt 1 n) [
-          | yes b ↦ rw (lt-leb n 1 b) (elim (decLt s n) [
-            | yes c ↦ rw (lt-leb n s c) (elim (decLt square n) [
-              | yes d ↦
-                  rw (lt-leb n square d)
-                  (sym (ap suc (height-between s n 2 (cap .0) (omega (arith, second-power)) (omega (arith, pow-suc s 2, ap (λ (x : ℕ). x * s) second-power)))))
-              | no d ↦
-                  rw (le-leb n square (omega arith))
-                  (sym (ap suc (height-between s n 1 (cap .0) (omega (arith, first-power)) (omega (arith, second-power)))))
-            ])
-            | no c ↦
-                rw (le-leb n s (omega arith))
-                (sym (ap suc (height-between s n 0 (cap .0) (omega (arith, pow-zero s)) (omega (arith, first-power)))))
-          ])
-          | no b ↦ rw (le-leb n 1 (omega arith)) (sym (ap suc (height-of-one s n (omega arith))))
-        ]
-
-    pub rise-of-few : (x y z : ℕ) → n ≤ square * s → z ≡ cond (leb n square) 3 4 → y ≡ cond (leb n s) 2 z → x ≡ cond (leb n 1) 1 y →
-        x ≡ suc (height s n)
-    rise-of-few x y z l p q r = r ∙ rw (q, p) (few-sinks l)
-
--- as the loop finds it: the power of the exponent so far, and the search from there on
-pub record Powers (s n power h : ℕ) : Type 0 where
-  pub is : power ≡ s ^ h
-  pub rest : Seeking (carries s n) n h
-
-module _ (s n : ℕ) where
-  pub powers-start : Powers s n 1 0
-  powers-start = record { is = sym (pow-zero s); rest = seek-start (carries s n) n }
-
-  module _ (cap : (2 ≤ s) × (s ≤ 4)) (power h : ℕ) (p : Powers s n power h) where
-    -- while the power is below the number of sinks, so is the exponent
-    exponent-below : power < n → h < n
-    exponent-below l = omega (arith, p .is, below-power s h (cap .0))
-
-    pub powers-less : power < n → n - (h + 1) < n - h
-    powers-less l = omega (arith, exponent-below l)
-
-    pub power-fits : power < n → n ≤ sinkLimit → power * s < 2 ^ 64
-    power-fits l few = omega (arith, mul-le-mul-left {m = s} {n = 4} power (cap .1))
-
-    pub exponent-fits : power < n → n ≤ sinkLimit → h + 1 < 2 ^ 64
-    exponent-fits l few = omega (arith, exponent-below l)
-
-    pub powers-more : power < n → Powers s n (power * s) (h + 1)
-    powers-more l =
-        record {
-          is = ap (λ (x : ℕ). x * s) (p .is) ∙ sym (pow-suc s h) ∙ ap (λ (x : ℕ). s ^ x) (sym (add-one h));
-          rest = seek-more (carries s n) n h (p .rest) (exponent-below l) (lt-leb n (s ^ h) (omega (arith, p .is)));
-        }
-
-    pub powers-end : n ≤ power → h ≡ height s n
-    unfolding height
-    powers-end l =
-        elim (decLt h n) [
-          | yes b ↦ sym (seek-here (carries s n) n h (p .rest) b (le-leb n (s ^ h) (omega (arith, p .is))))
-          | no g ↦ omega (arith, seek-end (carries s n) n h (p .rest) (omega arith), p .rest .within)
-        ]
+pub looked-up : LookedUp
+looked-up s n two few = omega (arith, not-lower s n two few, not-higher s n two few)

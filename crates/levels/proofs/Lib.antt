@@ -1,3 +1,4 @@
+pub mod HeightRows
 pub mod Heights
 pub mod Lowest
 pub mod Copies

@@ -9,6 +9,7 @@ use facts::Checked;
 use netlist::SOURCE_LIMIT;
 
 mod counting;
+mod height_table;
 mod raising;
 mod writing;
 

@@ -1,4 +1,4 @@
-// Levels worked out (specification 2.7): the heights of nets, and how low each record may stand over its fanins.
+// Levels worked out (specification 2.7): how low each record may stand over its fanins.
 ghost use mathlib.Core.Path.{_≡_};
 ghost use mathlib.Core.Bool.{cond};
 ghost use Prim.Native.Nat.{suc, _+_, max, _≤_, _<_};
@@ -7,9 +7,10 @@ ghost use lib.ListN.{length};
 ghost use Rattle.facts.specs.Sums.{largest};
 ghost use Rattle.netlist.specs.Kinds.{slots, output};
 ghost use Rattle.netlist.specs.Records.{netlist, recordCount};
-ghost use Rattle.fanout.specs.Nets.{sinkLimit};
-ghost use Rattle.levels.specs.Levels.{height};
-ghost use Rattle.levels.specs.PrivateLevels.{entryPlace, faninEntry, EntriesInside, Unraised, WorkedOut, WithOutputs};
+ghost use Rattle.levels.specs.HeightTable.{heightIn};
+ghost use Rattle.levels.specs.PrivateLevels.{Listed, entryPlace, faninEntry, EntriesInside, Unraised, WorkedOut, WithOutputs};
+use crate::height_table;
+use crate::height_table::HEIGHTS;
 use netlist::OUTPUT;
 use netlist::Record;
 use netlist::SLOTS;
@@ -22,53 +23,13 @@ pub(crate) fn larger(a: u16, b: u16) -> u16
     if a < b { b } else { a }
 }
 
-// The height of any number of sinks: the least h for which the capacity to the power h is at least as large.
-fn height_of_many(capacity: usize, sinks: usize) -> usize
-    requires { ⌜ (2 ≤ capacity) × (capacity ≤ 4) ⌝ }
-    requires { ⌜ sinks ≤ sinkLimit ⌝ }
-    ensures { λ h. ⌜ h ≡ height capacity sinks ⌝ }
-{
-    let mut power: usize = 1;
-    let mut h: usize = 0;
-    while power < sinks {
-        power *= capacity;
-        h += 1;
-    }
-    h
-}
-
-// One of two numbers.
-fn pick(first: bool, a: usize, b: usize) -> usize
-    ensures { λ r. ⌜ r ≡ cond first a b ⌝ }
-{
-    if first { a } else { b }
-}
-
-// One more than the height of a number of sinks. Most nets are small: theirs is picked by comparisons, without a branch.
-fn rise(capacity: usize, sinks: usize) -> usize
-    requires { ⌜ (2 ≤ capacity) × (capacity ≤ 4) ⌝ }
-    requires { ⌜ sinks ≤ sinkLimit ⌝ }
-    ensures { λ h. ⌜ h ≡ suc (height capacity sinks) ⌝ }
-{
-    let square = capacity * capacity;
-    if square * capacity < sinks {
-        return height_of_many(capacity, sinks) + 1;
-    }
-    pick(
-        sinks <= 1,
-        1,
-        pick(sinks <= capacity, 2, pick(sinks <= square, 3, 4)),
-    )
-}
-
 // How low the sinks of a record may stand, by its own level and their number.
-fn sink_level(capacity: usize, level: u16, sinks: u16) -> u16
-    requires { ⌜ (2 ≤ capacity) × (capacity ≤ 4) ⌝ }
-    requires { ⌜ sinks ≤ sinkLimit ⌝ }
-    requires { ⌜ level + suc (height capacity sinks) < 65536 ⌝ }
-    ensures { λ r. ⌜ r ≡ level + suc (height capacity sinks) ⌝ }
+fn sink_level(row: &[u16; HEIGHTS], level: u16, sinks: u16) -> u16
+    requires { ⌜ Listed (now row) sinks ⌝ }
+    requires { ⌜ level + suc (heightIn (now row) sinks) < 65536 ⌝ }
+    ensures { λ r. ⌜ r ≡ level + suc (heightIn (now (row .entry)) sinks) ⌝ }
 {
-    (level as usize + rise(capacity, sinks as usize)) as u16
+    (level as usize + height_table::rise(row, sinks)) as u16
 }
 
 // Where a slot's fanin has its entry: an unused slot has entry n.
@@ -122,13 +83,14 @@ pub(crate) fn raise(
     requires { ⌜ n ≡ recordCount (now source) ⌝ }
     ensures { λ top. ⌜ WorkedOut (now (source .entry)) capacity (now (levels .entry)) (now (levels .exit)) top ⌝ }
 {
+    let row = height_table::row_of(capacity);
     let mut top: u16 = 0;
     let mut k: usize = 0;
     while k < n {
         let r = netlist::record_reader::read_at(source, k);
         let level = level_of(reach, n, r);
         top = larger(top, by_kind(r.kind, level, 0));
-        reach[k] = sink_level(capacity, level, reach[k]);
+        reach[k] = sink_level(&row, level, reach[k]);
         levels[k] = level;
         k += 1;
     }

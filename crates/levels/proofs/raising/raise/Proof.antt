@@ -1,15 +1,18 @@
 -- `raise` meets its contract: levels are worked out below k.
 use Prim.Native.Nat.{_-_}
 use borrow.Author.Needs.{needs}
-use Rattle.levels.proofs.FaninLevels.{Levelling, levelling-start, slots-inside, reach-inside, levels-inside, capacity-allowed, sinks-within, entry-fits, levelling-more, reach-same, levels-same, levelling-end}
+use Rattle.levels.proofs.FaninLevels.{Levelling, levelling-start, slots-inside, reach-inside, levels-inside, capacity-allowed, sinks-listed, entry-fits, levelling-more, reach-same, levels-same, levelling-end}
 use Rattle.levels.proofs.raising.raise.Statement.{statement}
 use Rattle.levels.proofs.raising.raise.Tie as tie
 
 abbrev Inv-loop : tie.InvT-loop
-Inv-loop source capacity n reach₀ levels₀ top₀ k₀ reach levels top k = Levelling source capacity n reach₀ levels₀ reach levels top k
+Inv-loop source capacity n reach₀ levels₀ row top₀ k₀ reach levels top k = Levelling source capacity n reach₀ levels₀ reach levels top k
 
 abbrev μ-loop : tie.MeasureT-loop
-μ-loop source capacity n reach₀ levels₀ top₀ k₀ reach levels top k = n - k
+μ-loop source capacity n reach₀ levels₀ row top₀ k₀ reach levels top k = n - k
+
+row-of-requires : tie.Need-row-of-requires Inv-loop μ-loop
+row-of-requires c κs = search capacity-allowed
 
 loop-holds : tie.Need-loop-holds Inv-loop μ-loop
 loop-holds c = search levelling-start
@@ -33,7 +36,7 @@ slice-read-sink-level : tie.Need-slice-read-sink-level Inv-loop μ-loop
 slice-read-sink-level c = search (needs, reach-inside)
 
 sink-level-requires : tie.Need-sink-level-requires Inv-loop μ-loop
-sink-level-requires c κs = (search capacity-allowed, (search sinks-within, search entry-fits))
+sink-level-requires c κs = (search sinks-listed, search entry-fits)
 
 mul-reach : tie.Need-mul-reach Inv-loop μ-loop
 mul-reach c = search needs
@@ -71,6 +74,7 @@ raise-spec =
     (tie.spec
     Inv-loop
     μ-loop
+    row-of-requires
     loop-holds
     read-at-requires
     level-of-requires
