@@ -1103,13 +1103,17 @@ static void test_levels_worked(void)
     end();
 }
 
-/* An input and a net of so many sinks on it: outputs, or majorities and at most two outputs. */
+/* An input and a net of so many sinks on it: outputs, or majorities and then an AND or an output. */
 static void make_sinks(unsigned sinks, int outputs)
 {
     clear();
     add_input();
     for (; !outputs && sinks >= 3; sinks -= 3)
         add(MAJ, sinks % 8, sinks, 0, 0, 0);
+    if (!outputs && sinks == 2) {
+        add(AND, 3, 0, 0, 0, UNUSED);
+        sinks = 0;
+    }
     for (; sinks > 0; sinks--)
         add_one(OUTPUT, sinks, 0);
 }
@@ -1169,6 +1173,22 @@ static void test_levels_heights(void)
         do_levels(made(), s, fill(netlist_len));
         check(all_at(0), "4,096 inputs, brought at many levels");
         check(number_of(INPUT, part(levelled_area.at, netlist_len)) == MAX_SOURCE, "4,096 records");
+    }
+    end();
+}
+
+/* Every number of sinks that a net may have. */
+static void test_levels_every_height(void)
+{
+    uint32_t s;
+    unsigned sinks;
+    begin("aqfp_levels, every number of sinks");
+    for (sinks = 0; sinks <= 12285; sinks++) {
+        make_sinks(sinks, 0);
+        for (s = 2; s <= 4; s++) {
+            do_levels(made(), s, fill(netlist_len));
+            check(all_at(1 + height(sinks, s)), "1 + height above the input");
+        }
     }
     end();
 }
@@ -3171,9 +3191,9 @@ static void test_all(void)
 {
     static void (*const tests[])(void) = {
         test_map_worked, test_shares, test_count_worked, test_count_limits, test_lists_worked,
-        test_list_limits, test_levels_worked, test_levels_heights, test_levels_limits,
-        test_strip_worked, test_run_worked, test_run_limits, test_capacities, test_source_lengths,
-        test_source_records, test_source_order, test_map_sizes, test_count_record,
+        test_list_limits, test_levels_worked, test_levels_heights, test_levels_every_height,
+        test_levels_limits, test_strip_worked, test_run_worked, test_run_limits, test_capacities,
+        test_source_lengths, test_source_records, test_source_order, test_map_sizes, test_count_record,
         test_list_lengths, test_list_records, test_mapped_length, test_mapped_records,
         test_mapped_nets, test_mapped_accepted, test_rows, test_random_bytes, test_random_sources,
         test_random_strips, test_random_levels, test_array_sizes,
