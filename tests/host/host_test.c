@@ -1103,7 +1103,8 @@ static void test_levels_worked(void)
     end();
 }
 
-/* An input and a net of so many sinks on it: outputs, or majorities and then an AND or an output. */
+/* An input and a net of so many sinks on it: outputs, or majorities and what is left of three: an
+ * AND for two sinks, an output for one. */
 static void make_sinks(unsigned sinks, int outputs)
 {
     clear();

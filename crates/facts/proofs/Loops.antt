@@ -2,7 +2,7 @@
 use Prim.Native.Nat.{ℕ, zero, suc, _+_, _-_, max, _<_, _≤_}
 use native.Mathlib.Numerals.{add-one}
 use native.Mathlib.Nat.{add-sub-of-le, add-zero, zero-add, suc-add, add-suc}
-use native.Mathlib.Decide.{ℕ-discrete}
+use native.Mathlib.Decide.{decLt, ℕ-discrete}
 use native.Mathlib.Omega.{arith}
 use mathlib.Core.Path.{_≡_, refl, sym, ap, ap₂, subst, _∙_}
 use mathlib.Core.Bool.{Bool, true, false, cond}
@@ -10,6 +10,7 @@ use Rattle.facts.specs.declared.Checked.{Checked}
 use Rattle.facts.specs.declared.Checked.the-variants.{Passed, Refused}
 use Rattle.facts.specs.Checks.{_andThen_, scan}
 use Rattle.facts.specs.Sums.{any, seek, largest}
+use Rattle.facts.proofs.Bools.{true-false}
 use Rattle.facts.proofs.Sums.{any-some}
 use Rattle.facts.proofs.Reflect.{then-assoc}
 
@@ -107,6 +108,14 @@ seek-before p y (suc m) k a b = go (p y) refl b (seek-before p (suc y) m k)
           | yes s ↦ subst (λ (i : ℕ). p i ≡ false) s e
           | no n ↦ r (omega arith) l
         ]
+
+-- so a search has ended where p holds
+pub seek-least : (p : ℕ → Bool) (y m k : ℕ) → y ≤ k → p k ≡ true → seek p y m ≤ k
+seek-least p y m k a t =
+    elim (decLt k (seek p y m)) [
+      | yes b ↦ absurd (true-false (p k) t (seek-before p y m k a b))
+      | no g ↦ omega arith
+    ]
 
 -- the largest of the values so far
 pub record LargestSoFar (f : ℕ → ℕ) (n v k : ℕ) : Type 0 where

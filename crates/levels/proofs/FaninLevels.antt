@@ -22,10 +22,9 @@ use Rattle.netlist.specs.Source.{Structured, Unlevelled}
 use Rattle.netlist.proofs.Checks.{arity-slots}
 use Rattle.fanout.specs.Nets.{sinkLimit}
 use Rattle.levels.specs.Levels.{height, sinkLevel, lowest, outputLowest, leastLevel}
-use Rattle.levels.specs.HeightTable.{heightRow, heightIn}
-use Rattle.levels.specs.PrivateLevels.{Listed, entries, entryPlace, faninEntry, EntriesInside, Raised, Unraised, WorkedOut, WithOutputs}
-use Rattle.levels.proofs.Heights.{looked-up}
-use Rattle.levels.proofs.HeightRows.{row-lists}
+use Rattle.levels.specs.HeightTable.{heights, heightRow, heightIn}
+use Rattle.levels.specs.PrivateLevels.{entries, entryPlace, faninEntry, EntriesInside, Raised, Unraised, WorkedOut, WithOutputs}
+use Rattle.levels.proofs.HeightRows.{looked-up, row-has}
 use Rattle.levels.proofs.Lowest.{lowest-over, sinks-few, sink-small}
 
 -- the entry of a slot stands within
@@ -162,8 +161,8 @@ module _ (source : List ℕ) (s n : ℕ) (reach₀ levels₀ : List ℕ) where
       sinks-within : getD reach k 0 ≤ sinkLimit
       sinks-within = omega (arith, sinks-are, sinks-few s (netlist source) structured k)
 
-      pub sinks-listed : (row : List ℕ) → row ≡ heightRow s → Listed row (getD reach k 0)
-      sinks-listed row i = row-lists s (getD reach k 0) row (c .unlevelled .low) sinks-within i
+      pub sinks-listed : (row : List ℕ) → row ≡ heightRow s → heightIn row (getD reach k 0) < heights
+      sinks-listed row i = row-has s (getD reach k 0) (c .unlevelled .low) sinks-within row i
 
       module _ (row : List ℕ) (i : row ≡ heightRow s) (r : Record) (e : r ≡ recordAt source k) (level : ℕ) (f : level ≡ largest (faninEntry reach n r) slots) where
         level-is : level ≡ lowest s (netlist source) k

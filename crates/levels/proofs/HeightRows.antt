@@ -1,6 +1,7 @@
--- Laws of the height table's rows, with premises as the code has them: one test of the whole table gives each row, and a row is looked through from 0 on.
+-- Laws of the table of heights: one test of the whole table gives each row, and what is looked up in a row of the table is the height. Those at the end have premises as the code has them.
 use Prim.Native.Nat.{ℕ, suc, _+_, _-_, _≤_, _<_}
 use native.Mathlib.Decide.{decLt}
+use native.Mathlib.Nat.{pow-le-pow-left, pow-le-pow-right}
 use native.Mathlib.Omega.{arith}
 use mathlib.Core.Path.{_≡_, sym, ap, subst, _∙_}
 use mathlib.Core.Bool.{Bool, false, cond, not, _||_}
@@ -8,15 +9,16 @@ use mathlib.Core.List.{List, []}
 use lib.Dec.{leb, eqb}
 use lib.ListN.{length, getD}
 use lib.Seq.{ext-getD}
-use borrow.Author.Tests.{le-leb, lt-leb}
+use borrow.Author.Tests.{leb-true, le-leb, lt-leb}
 use Rattle.facts.specs.Sums.{any}
 use Rattle.facts.proofs.Sums.{any-none}
 use Rattle.facts.proofs.Lists.{length-tabulate, getD-tabulate}
+use Rattle.facts.proofs.Loops.{seek-true, seek-least}
 use Rattle.facts.proofs.Reflect.{or-none, unlike-none}
 use Rattle.fanout.specs.Nets.{sinkLimit}
-use Rattle.levels.specs.HeightTable.{heights, mostSinks, heightRow, heightIn}
-use Rattle.levels.specs.PrivateLevels.{Listed}
-use Rattle.levels.proofs.Heights.{looked-up-enough, looked-up-least, in-row}
+use Rattle.levels.specs.Levels.{height}
+use Rattle.levels.specs.HeightTable.{heights, mostSinks, heightRow, heightIn, MostExact, LookedUp}
+use Rattle.levels.proofs.Heights.{height-exact}
 
 -- entry h of row r is not the largest number of sinks of height at most h; row 0 is that of capacity 2
 abbrev wrongEntry : List (List ℕ) → ℕ → ℕ → Bool
@@ -35,21 +37,65 @@ row-right table r e =
     unlike-none _ _ .0 (any-none (wrongEntry table r) heights .0 (tested .1) h (omega (arith, long)))
     ∙ sym (getD-tabulate (mostSinks (2 + r)) heights h 0 (omega (arith, long))))
 
--- where the test finds no wrong row, each is the row of its capacity
-pub row-is : (table : List (List ℕ)) (s : ℕ) → (2 ≤ s) × (s ≤ 4) → any (wrongRow table) 3 ≡ false → getD table (s - 2) [] ≡ heightRow s
-row-is table s cap e =
+-- where the test finds no wrong row in the whole table, each is the row of its capacity
+pub row-is : (table : List (List ℕ)) (s : ℕ) → (2 ≤ s) × (s ≤ 4) → length table ≡ 3 → any (wrongRow table) (length table) ≡ false →
+    getD table (s - 2) [] ≡ heightRow s
+row-is table s cap three e =
     subst (λ (x : ℕ). getD table (s - 2) [] ≡ heightRow x) (omega (arith, cap .0))
-    (row-right table (s - 2) (any-none (wrongRow table) 3 .0 e (s - 2) (omega (arith, cap .1))))
+    (row-right table (s - 2) (any-none (wrongRow table) (length table) .0 e (s - 2) (omega (arith, cap .1))))
 
--- such a row has the height of every number of sinks that a source may have
-pub row-lists : (s n : ℕ) (row : List ℕ) → 2 ≤ s → n ≤ sinkLimit → row ≡ heightRow s → Listed row n
-row-lists s n row two few e = rw e (record { long = length-tabulate (mostSinks s) heights; found = in-row s n two few })
+pub most-exact : MostExact
+most-exact s n h two few =
+    let is = height-exact .computed s n two in (
+      λ l. is .least h (omega arith),
+      λ l. omega (arith, is .enough, pow-le-pow-right {n = s} (omega arith) {i = height s n} {j = h} l),
+    )
 
-module _ (row : List ℕ) (n : ℕ) (t : Listed row n) where
-  -- the height is at least h
+-- what is looked up in a row has an entry of at least n, and is the first
+looked-up-enough : (row : List ℕ) (n : ℕ) → heightIn row n < heights → n ≤ getD row (heightIn row n) 0
+unfolding heightIn
+looked-up-enough row n l = leb-true n _ (seek-true _ 0 heights l)
+
+looked-up-least : (row : List ℕ) (n h : ℕ) → n ≤ getD row h 0 → heightIn row n ≤ h
+unfolding heightIn
+looked-up-least row n h l = seek-least _ 0 heights h (omega arith) (le-leb n (getD row h 0) l)
+
+module _ (s n : ℕ) (two : 2 ≤ s) (few : n ≤ sinkLimit) where
+  entry : (h : ℕ) → h < heights → getD (heightRow s) h 0 ≡ mostSinks s h
+  entry h l = getD-tabulate (mostSinks s) heights h 0 l
+
+  -- the last entry is the cap
+  in-row : heightIn (heightRow s) n < heights
+  in-row =
+      let last : n ≤ getD (heightRow s) (heights - 1) 0 = omega (arith, entry (heights - 1) (omega arith), pow-le-pow-left {n = 2} {m = s} two (heights - 1)) in
+      omega (arith, looked-up-least (heightRow s) n (heights - 1) last)
+
+  not-lower : height s n ≤ heightIn (heightRow s) n
+  not-lower =
+      most-exact s n (heightIn (heightRow s) n) two few .0
+      (omega (arith, looked-up-enough (heightRow s) n in-row, entry (heightIn (heightRow s) n) in-row))
+
+  not-higher : heightIn (heightRow s) n ≤ height s n
+  not-higher =
+      elim (decLt (height s n) heights) [
+        | yes b ↦
+            looked-up-least (heightRow s) n (height s n)
+            (omega (arith, entry (height s n) b, most-exact s n (height s n) two few .1 (omega arith)))
+        | no g ↦ omega (arith, in-row)
+      ]
+
+  pub row-has : (row : List ℕ) → row ≡ heightRow s → heightIn row n < heights
+  row-has row e = rw e in-row
+
+pub looked-up : LookedUp
+looked-up s n two few = omega (arith, not-lower s n two few, not-higher s n two few)
+
+-- a row in which some entry is at least n
+module _ (row : List ℕ) (n : ℕ) (has : heightIn row n < heights) where
+  -- no height below h is the one
   module _ (h : ℕ) (low : h ≤ heightIn row n) where
-    pub entry-inside : h < length row
-    entry-inside = omega (arith, t .long, t .found)
+    pub height-inside : h < heights
+    height-inside = omega arith
 
     above : getD row h 0 < n → h < heightIn row n
     above l =
@@ -57,7 +103,7 @@ module _ (row : List ℕ) (n : ℕ) (t : Listed row n) where
           | yes b ↦ b
           | no g ↦
               let e : heightIn row n ≡ h = omega arith in
-              absurd (omega (arith, subst (λ (i : ℕ). n ≤ getD row i 0) e (looked-up-enough row n (t .found))))
+              absurd (omega (arith, subst (λ (i : ℕ). n ≤ getD row i 0) e (looked-up-enough row n has)))
         ]
 
     pub look-on : getD row h 0 < n → h + 1 ≤ heightIn row n
@@ -69,7 +115,7 @@ module _ (row : List ℕ) (n : ℕ) (t : Listed row n) where
     pub look-end : n ≤ getD row h 0 → h ≡ heightIn row n
     look-end l = omega (arith, low, looked-up-least row n h l)
 
-    -- one more than the height, where h is compared and y stands for what is picked after it
+    -- what is picked at h, of which y need be right only if the height is above h
     picked : (y : ℕ) → (h < heightIn row n → y ≡ suc (heightIn row n)) → cond (leb n (getD row h 0)) (suc h) y ≡ suc (heightIn row n)
     picked y rest =
         elim (decLt (getD row h 0) n) [

@@ -1,5 +1,5 @@
-pub mod HeightRows
 pub mod Heights
+pub mod HeightRows
 pub mod Lowest
 pub mod Copies
 pub mod Promises

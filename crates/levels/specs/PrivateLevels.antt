@@ -10,16 +10,10 @@ use Rattle.netlist.specs.Kinds.{slots, unused, sourceLimit, arity}
 use Rattle.netlist.specs.Records.{Netlist, netlist, recordCount, slot, feeds, isOutput}
 use Rattle.netlist.specs.Source.{Unlevelled}
 use Rattle.levels.specs.Levels.{sinkLevel, lowest, outputLevel}
-use Rattle.levels.specs.HeightTable.{heights, heightIn}
 
 -- an array's entries, by index
 abbrev pub entries : List ℕ → ℕ → ℕ
 entries array k = getD array k 0
-
--- a row with an entry for every height, one of them at least n
-pub record Listed (row : List ℕ) (n : ℕ) : Type 0 where
-  pub long : length row ≡ heights
-  pub found : heightIn row n < heights
 
 -- where a slot's fanin has its entry: an unused slot has entry n
 abbrev pub entryPlace : ℕ → ℕ → ℕ

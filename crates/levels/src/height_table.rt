@@ -1,15 +1,14 @@
 // The height of a number of sinks (specification 2.7), looked up in a table.
 ghost use mathlib.Core.Path.{_≡_};
 ghost use mathlib.Core.Bool.{cond};
-ghost use Prim.Native.Nat.{suc, _≤_};
-ghost use Rattle.levels.specs.HeightTable.{heightRow, heightIn};
-ghost use Rattle.levels.specs.PrivateLevels.{Listed};
+ghost use Prim.Native.Nat.{suc, _≤_, _<_};
+ghost use Rattle.levels.specs.HeightTable.{heights, heightRow, heightIn};
 use netlist::LEAST_CAPACITY;
 use netlist::MOST_CAPACITY;
 use netlist::SLOTS;
 use netlist::SOURCE_LIMIT;
 
-// The most sinks of a source.
+// The slots of the largest source: no net has more sinks.
 const SINK_LIMIT: u16 = (SLOTS * SOURCE_LIMIT) as u16;
 
 // Rows of the table: one for each capacity, from the least on.
@@ -18,7 +17,7 @@ const ROWS: usize = (MOST_CAPACITY - LEAST_CAPACITY) as usize + 1;
 // Entries of a row: heights 0 to 14.
 pub(crate) const HEIGHTS: usize = 15;
 
-// For each height the largest number of sinks that has it or less: the capacity to the power of the height, capped at the most sinks of a source.
+// For each height the largest number of sinks that has it or less: the capacity to the power of the height, capped at the slots of the largest source.
 const HEIGHT_TABLE: [[u16; HEIGHTS]; ROWS] = [
     [
         1,
@@ -81,9 +80,9 @@ pub(crate) fn row_of(capacity: usize) -> [u16; HEIGHTS]
     HEIGHT_TABLE[capacity - LEAST_CAPACITY as usize]
 }
 
-// The height of any number of sinks: the first, from 0 on, whose entry is at least as large.
+// The height of any number of sinks that the row has: the first, from 0 on, whose entry is at least as large.
 fn height_of_many(row: &[u16; HEIGHTS], sinks: u16) -> usize
-    requires { ⌜ Listed (now row) sinks ⌝ }
+    requires { ⌜ heightIn (now row) sinks < heights ⌝ }
     ensures { λ h. ⌜ h ≡ heightIn (now (row .entry)) sinks ⌝ }
 {
     let mut h: usize = 0;
@@ -100,9 +99,9 @@ fn pick(first: bool, a: usize, b: usize) -> usize
     if first { a } else { b }
 }
 
-// One more than the height of a number of sinks. Most nets are small: theirs is picked by comparisons, without a branch.
+// One more than the height of a number of sinks. Most nets are small: theirs is picked by comparisons, with no branch among them.
 pub(crate) fn rise(row: &[u16; HEIGHTS], sinks: u16) -> usize
-    requires { ⌜ Listed (now row) sinks ⌝ }
+    requires { ⌜ heightIn (now row) sinks < heights ⌝ }
     ensures { λ h. ⌜ h ≡ suc (heightIn (now (row .entry)) sinks) ⌝ }
 {
     if row[3] < sinks {

@@ -7,8 +7,8 @@ ghost use lib.ListN.{length};
 ghost use Rattle.facts.specs.Sums.{largest};
 ghost use Rattle.netlist.specs.Kinds.{slots, output};
 ghost use Rattle.netlist.specs.Records.{netlist, recordCount};
-ghost use Rattle.levels.specs.HeightTable.{heightIn};
-ghost use Rattle.levels.specs.PrivateLevels.{Listed, entryPlace, faninEntry, EntriesInside, Unraised, WorkedOut, WithOutputs};
+ghost use Rattle.levels.specs.HeightTable.{heights, heightIn};
+ghost use Rattle.levels.specs.PrivateLevels.{entryPlace, faninEntry, EntriesInside, Unraised, WorkedOut, WithOutputs};
 use crate::height_table;
 use crate::height_table::HEIGHTS;
 use netlist::OUTPUT;
@@ -25,7 +25,7 @@ pub(crate) fn larger(a: u16, b: u16) -> u16
 
 // How low the sinks of a record may stand, by its own level and their number.
 fn sink_level(row: &[u16; HEIGHTS], level: u16, sinks: u16) -> u16
-    requires { ⌜ Listed (now row) sinks ⌝ }
+    requires { ⌜ heightIn (now row) sinks < heights ⌝ }
     requires { ⌜ level + suc (heightIn (now row) sinks) < 65536 ⌝ }
     ensures { λ r. ⌜ r ≡ level + suc (heightIn (now (row .entry)) sinks) ⌝ }
 {

@@ -1,4 +1,4 @@
--- `row_of` meets its contract: one test is computed over all rows and columns of the table.
+-- `row_of` meets its contract: a test of the whole table, all rows and columns, is computed, and `row-is` turns it into each row.
 use borrow.Author.Needs.{needs}
 use Rattle.facts.specs.Sums.{any}
 use Rattle.levels.proofs.HeightRows.{row-is}
