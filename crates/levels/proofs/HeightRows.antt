@@ -6,10 +6,10 @@ use native.Mathlib.Omega.{arith}
 use mathlib.Core.Path.{_≡_, sym, ap, subst, _∙_}
 use mathlib.Core.Bool.{Bool, false, cond, not, _||_}
 use mathlib.Core.List.{List, []}
-use lib.Dec.{leb, eqb}
+use lib.Dec.{ltb, eqb}
 use lib.ListN.{length, getD}
 use lib.Seq.{ext-getD}
-use borrow.Author.Tests.{leb-true, le-leb, lt-leb}
+use borrow.Author.Tests.{leb-true, le-leb, lt-ltb, le-ltb}
 use Rattle.facts.specs.Sums.{any}
 use Rattle.facts.proofs.Sums.{any-none}
 use Rattle.facts.proofs.Lists.{length-tabulate, getD-tabulate}
@@ -116,14 +116,14 @@ module _ (row : List ℕ) (n : ℕ) (has : heightIn row n < heights) where
     look-end l = omega (arith, low, looked-up-least row n h l)
 
     -- what is picked at h, of which y need be right only if the height is above h
-    picked : (y : ℕ) → (h < heightIn row n → y ≡ suc (heightIn row n)) → cond (leb n (getD row h 0)) (suc h) y ≡ suc (heightIn row n)
+    picked : (y : ℕ) → (h < heightIn row n → y ≡ suc (heightIn row n)) → cond (ltb (getD row h 0) n) y (suc h) ≡ suc (heightIn row n)
     picked y rest =
         elim (decLt (getD row h 0) n) [
-          | yes b ↦ rw (lt-leb n (getD row h 0) b) (rest (above b))
-          | no g ↦ rw (le-leb n (getD row h 0) (omega arith)) (ap suc (look-end (omega arith)))
+          | yes b ↦ rw (lt-ltb (getD row h 0) n b) (rest (above b))
+          | no g ↦ rw (le-ltb (getD row h 0) n (omega arith)) (ap suc (look-end (omega arith)))
         ]
 
-  pub rise-of-few : (x y z : ℕ) → n ≤ getD row 3 0 → z ≡ cond (leb n (getD row 2 0)) 3 4 → y ≡ cond (leb n (getD row 1 0)) 2 z →
-      x ≡ cond (leb n (getD row 0 0)) 1 y → x ≡ suc (heightIn row n)
+  pub rise-of-few : (x y z : ℕ) → n ≤ getD row 3 0 → z ≡ cond (ltb (getD row 2 0) n) 4 3 → y ≡ cond (ltb (getD row 1 0) n) z 2 →
+      x ≡ cond (ltb (getD row 0 0) n) y 1 → x ≡ suc (heightIn row n)
   rise-of-few x y z l p q r =
       r ∙ rw (q, p) (picked 0 (omega arith) _ (λ a. picked 1 a _ (λ b. picked 2 b _ (λ c. omega (arith, looked-up-least row n 3 l)))))

@@ -108,8 +108,8 @@ pub(crate) fn rise(row: &[u16; HEIGHTS], sinks: u16) -> usize
         return height_of_many(row, sinks) + 1;
     }
     pick(
-        sinks <= row[0],
+        row[0] < sinks,
+        pick(row[1] < sinks, pick(row[2] < sinks, 4, 3), 2),
         1,
-        pick(sinks <= row[1], 2, pick(sinks <= row[2], 3, 4)),
     )
 }
