@@ -1,6 +1,5 @@
 -- A source with its least levels: it is a source, it differs in level fields alone, and each of its nets has a tree.
 use Prim.Native.Nat.{ℕ, suc, _+_, _*_, _/_, _%_, _≤_, _<_}
-use native.Mathlib.Decide.{decLt}
 use native.Mathlib.Omega.{arith}
 use mathlib.Core.Path.{_≡_, sym, ap, ap₂, _∙_}
 use mathlib.Core.Bool.{_&&_}
@@ -9,8 +8,8 @@ use lib.ListN.{length}
 use lib.Dec.{ltb, eqb}
 use borrow.Author.Tests.{ltb-true, eqb-true, eq-eqb}
 use Rattle.facts.specs.Sums.{count₂, seek}
-use Rattle.facts.proofs.Bools.{and-l, and-r, true-false}
-use Rattle.facts.proofs.Loops.{seek-true, seek-before}
+use Rattle.facts.proofs.Bools.{and-l, and-r}
+use Rattle.facts.proofs.Loops.{seek-true, seek-least}
 use Rattle.facts.proofs.Sums.{count₂-flat, count₂-cong}
 use Rattle.netlist.specs.declared.Record.{Record}
 use Rattle.netlist.specs.Kinds.{width, slots, topLevel, output, arity}
@@ -127,10 +126,9 @@ module _ (source : List ℕ) (s : ℕ) (u : Unlevelled source s)
   unfolding depth
   output-depth k l e =
       let first = seek (isOutput (netlist copy)) 0 (recordCount copy) in
-      let found : first < recordCount copy = elim (decLt k first) [
-        | yes g ↦ absurd (true-false _ (eq-eqb (recordAt copy k .kind) output e) (seek-before (isOutput (netlist copy)) 0 (recordCount copy) k (omega arith) g))
-        | no g ↦ omega arith
-      ] in
+      let found : first < recordCount copy =
+      omega (arith, seek-least (isOutput (netlist copy)) 0 (recordCount copy) k (omega arith) (eq-eqb (recordAt copy k .kind) output e))
+      in
       copy-rules .outputs k first l found e
       (eqb-true (recordAt copy first .kind) output (seek-true (isOutput (netlist copy)) 0 (recordCount copy) (omega arith)))
 

@@ -94,9 +94,6 @@ looked-up s n two few = omega (arith, not-lower s n two few, not-higher s n two 
 module _ (row : List ℕ) (n : ℕ) (has : heightIn row n < heights) where
   -- no height below h is the one
   module _ (h : ℕ) (low : h ≤ heightIn row n) where
-    pub height-inside : h < heights
-    height-inside = omega arith
-
     above : getD row h 0 < n → h < heightIn row n
     above l =
         elim (decLt h (heightIn row n)) [

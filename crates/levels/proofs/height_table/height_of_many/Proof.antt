@@ -2,7 +2,7 @@
 use borrow.Author.Needs.{needs}
 use Prim.Native.Nat.{_-_, _≤_}
 use Rattle.levels.specs.HeightTable.{heightIn}
-use Rattle.levels.proofs.HeightRows.{height-inside, look-on, look-less, look-end}
+use Rattle.levels.proofs.HeightRows.{look-on, look-less, look-end}
 use Rattle.levels.proofs.height_table.height_of_many.Statement.{statement}
 use Rattle.levels.proofs.height_table.height_of_many.Tie as tie
 
@@ -19,7 +19,7 @@ mul-if1 : tie.Need-mul-if1 Inv-loop μ-loop
 mul-if1 c = search needs
 
 element-copy-out-if1 : tie.Need-element-copy-out-if1 Inv-loop μ-loop
-element-copy-out-if1 c = search (needs, height-inside)
+element-copy-out-if1 c = search needs
 
 add-h : tie.Need-add-h Inv-loop μ-loop
 add-h c = search needs
