@@ -3194,10 +3194,10 @@ static void test_all(void)
         test_map_worked, test_shares, test_count_worked, test_count_limits, test_lists_worked,
         test_list_limits, test_levels_worked, test_levels_heights, test_levels_every_height,
         test_levels_limits, test_strip_worked, test_run_worked, test_run_limits, test_capacities,
-        test_source_lengths, test_source_records, test_source_order, test_map_sizes, test_count_record,
-        test_list_lengths, test_list_records, test_mapped_length, test_mapped_records,
-        test_mapped_nets, test_mapped_accepted, test_rows, test_random_bytes, test_random_sources,
-        test_random_strips, test_random_levels, test_array_sizes,
+        test_source_lengths, test_source_records, test_source_order, test_map_sizes,
+        test_count_record, test_list_lengths, test_list_records, test_mapped_length,
+        test_mapped_records, test_mapped_nets, test_mapped_accepted, test_rows, test_random_bytes,
+        test_random_sources, test_random_strips, test_random_levels, test_array_sizes,
         test_strip_lengths, test_strip_records, test_strip_slots, test_strip_order,
         test_strip_levels, test_strip_branches, test_strip_sizes, test_strip_small
     };
