@@ -1,13 +1,16 @@
--- Laws of lists by index: entries within the length and past it, lists made of a function's values, and parts joined.
+-- Laws of lists by index: entries within the length and past it, one entry raised, lists made of a function's values, and parts joined.
 use Prim.Native.Nat.{ℕ, zero, suc, _+_, _*_, _<_, _≤_}
-use mathlib.Core.Path.{_≡_, refl, sym, ap, _∙_}
+use mathlib.Core.Path.{_≡_, refl, sym, ap, subst, _∙_}
 use mathlib.Core.List.{List, [], _∷_, _++_, append-nil, append-assoc}
 use native.Mathlib.Omega.{arith}
 use native.Mathlib.Nat.{add-zero, add-suc, mul-zero, mul-suc, mul-le-mul-left}
-use native.Mathlib.Decide.{decLt}
-use lib.ListN.{length, getD, take, drop, replicate, length-append, length-drop, length-replicate, List·getD-append, List·getD-eq-default}
-use lib.Seq.{getD-at, take-append-le, drop-append-le, drop-at, take-all, take-add, getD-drop, getD-take, ext-getD}
+use native.Mathlib.Decide.{decLt, ℕ-discrete}
+use lib.ListN.{length, getD, take, drop, set, replicate, length-append, length-drop, length-replicate, List·getD-append, List·getD-eq-default}
+use lib.Seq.{getD-at, take-append-le, drop-append-le, drop-at, take-all, take-add, getD-drop, getD-take, getD-set-same, getD-set-other, ext-getD}
+use lib.Dec.{eqb}
+use borrow.Author.Tests.{eq-eqb, ne-eqb}
 use Rattle.facts.specs.Lists.{tabulate, joined}
+use Rattle.facts.specs.Sums.{bit}
 
 -- an entry below the length does not depend on the default
 pub getD-any : (l : List ℕ) (i d e : ℕ) → i < length l → getD l i d ≡ getD l i e
@@ -32,6 +35,17 @@ zeros n l e h =
 
 pub zeros-at : (n : ℕ) (l : List ℕ) → l ≡ replicate n 0 → (x : ℕ) → getD l x 0 ≡ 0
 zeros-at n l e x = ap (λ (l : List ℕ). getD l x 0) e ∙ getD-replicated n x 0
+
+-- one more at x, and the other entries as they were
+pub added-at : (l : List ℕ) (x k : ℕ) → x < length l → getD (set l x (getD l x 0 + 1)) k 0 ≡ getD l k 0 + bit (eqb x k)
+added-at l x k h =
+    elim (ℕ-discrete x k) [
+      | yes e ↦ subst (λ (k : ℕ). getD (set l x (getD l x 0 + 1)) k 0 ≡ getD l k 0 + bit (eqb x k)) e same
+      | no g ↦ getD-set-other l x k _ 0 (λ e. g (sym e)) ∙ rw (ne-eqb x k g) (omega arith)
+    ]
+  where
+    same : getD (set l x (getD l x 0 + 1)) x 0 ≡ getD l x 0 + bit (eqb x x)
+    same = getD-set-same l x _ 0 h ∙ rw (eq-eqb x x refl) refl
 
 pub length-tabulate : (f : ℕ → ℕ) (n : ℕ) → length (tabulate f n) ≡ n
 length-tabulate f zero = refl

@@ -11,11 +11,11 @@ use lib.ListN.{length, getD}
 use lib.Bits.{bitAnd, bitOr, or-shr, or-step, and-mask}
 use lib.Count.{leadingZeros, leading-top}
 use lib.Pow.{pow-pos, shl-exact, ones-split, ones-lt, high, field, mod-mod-pow}
+use Rattle.facts.proofs.Lists.{added-at}
 use Rattle.facts.proofs.Sums.{bit-other}
 use Rattle.netlist.specs.Kinds.{topLevel}
 use Rattle.fanout.specs.Nets.{added}
 use Rattle.fanout.specs.PrivateStretches.{stretch, bitAt, InStretches, NextByStretch, NextSinks}
-use Rattle.fanout.proofs.Rows.{added-at}
 
 -- 1 shifted by n, as the code has it
 shifted-one : (n : ℕ) → n < 64 → (1 * 2 ^ n) % 2 ^ 64 ≡ 2 ^ n

@@ -11,12 +11,12 @@ use native.Mathlib.Numerals.{add-one}
 use lib.Dec.{ltb, eqb}
 use borrow.Author.Tests.{eq-eqb, ne-eqb, lt-ltb, le-ltb, ltb-true, ltb-false, eqb-true}
 use Rattle.facts.proofs.Bools.{and-i}
-use Rattle.facts.proofs.Lists.{zeros-at}
+use Rattle.facts.proofs.Lists.{zeros-at, added-at}
 use Rattle.facts.specs.Sums.{bit, sum, count, count₂}
 use Rattle.facts.proofs.Sums.{count-suc, count-false, count-le, count₂-le}
 use Rattle.fanout.specs.PrivateWalk.{Filled}
 use Rattle.fanout.proofs.Nets.{row-length, row-at}
-use Rattle.fanout.proofs.Rows.{added-at, level-test, sink-above}
+use Rattle.fanout.proofs.Rows.{level-test, sink-above}
 use Rattle.netlist.specs.declared.Record.{Record}
 use Rattle.netlist.specs.Kinds.{slots, topLevel, arity}
 use Rattle.netlist.specs.Records.{Netlist, slot, used, fanin}

@@ -7,12 +7,11 @@ use native.Mathlib.Omega.{arith}
 use native.Mathlib.Nat.{zero-add}
 use native.Mathlib.Decide.{decLe, ℕ-discrete}
 use lib.ListN.{length, getD, replicate, length-set, length-replicate, List·getD-eq-default}
-use lib.Seq.{getD-set-same, getD-set-other}
 use lib.Dec.{eqb, ltb, leb}
 use borrow.Author.Tests.{eqb-true, eq-eqb, ne-eqb, ltb-true, leb-true}
 use Rattle.facts.specs.Sums.{bit, sum, count}
 use Rattle.facts.proofs.Bools.{and-l, and-r}
-use Rattle.facts.proofs.Lists.{getD-replicated}
+use Rattle.facts.proofs.Lists.{getD-replicated, added-at}
 use Rattle.facts.proofs.Sums.{sum-first, count-cong, count-none, count₂-flat, count₂-le, count₂-none}
 use Rattle.netlist.specs.Kinds.{slots, topLevel, arity, isDriver}
 use Rattle.netlist.specs.Records.{Netlist, names, used, fanin}
@@ -22,17 +21,6 @@ use Rattle.fanout.specs.Nets.{sinkLimit, sinkAt, sinks, row, added}
 use Rattle.fanout.specs.Trees.{RowOf, netOf, netAt, sinksAt}
 use Rattle.fanout.specs.Worked.{addedAll, rowAt}
 use Rattle.fanout.proofs.Nets.{row-length, row-at}
-
--- one more sink at x, and the others as they were
-pub added-at : (r : List ℕ) (x k : ℕ) → x < length r → getD (added r x) k 0 ≡ getD r k 0 + bit (eqb x k)
-added-at r x k l =
-    elim (ℕ-discrete x k) [
-      | yes e ↦ subst (λ (k : ℕ). getD (added r x) k 0 ≡ getD r k 0 + bit (eqb x k)) e same
-      | no g ↦ getD-set-other r x k _ 0 (λ e. g (sym e)) ∙ rw (ne-eqb x k g) (omega arith)
-    ]
-  where
-    same : getD (added r x) x 0 ≡ getD r x 0 + bit (eqb x x)
-    same = getD-set-same r x _ 0 l ∙ rw (eq-eqb x x refl) refl
 
 -- every distance of a list lies from 1 to 4,095
 abbrev pub within : List ℕ → Bool

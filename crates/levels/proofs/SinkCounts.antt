@@ -11,6 +11,7 @@ use Rattle.facts.specs.declared.Checked.{Checked}
 use Rattle.facts.specs.declared.Checked.the-variants.{Passed, Refused}
 use Rattle.facts.specs.Checks.{scan}
 use Rattle.facts.specs.Sums.{bit, sum, count, count₂}
+use Rattle.facts.proofs.Lists.{added-at}
 use Rattle.facts.proofs.Loops.{Scanning, scan-start, scan-more, scan-stop, scan-end}
 use Rattle.facts.proofs.Reflect.{then-go, then-stop}
 use Rattle.facts.proofs.Refusals.{passed-refused}
@@ -21,7 +22,6 @@ use Rattle.netlist.specs.Records.{netlist, recordCount, recordAt, slot, names}
 use Rattle.netlist.specs.Checks.{sizeChecks, structureOf, structureAt, structureChecks}
 use Rattle.netlist.proofs.Checks.{arity-slots, slots-good, fanin-inside}
 use Rattle.netlist.proofs.Source.{size-passed}
-use Rattle.fanout.proofs.Rows.{added-at}
 use Rattle.levels.specs.PrivateSinks.{SlotsFit, SinksAdded, SinksSoFar, Counting, RecordCounted, Uncounted, RecordsCounted, Zeros, SourceCounted}
 
 -- the first j slots are counted, of those that fit

@@ -10,12 +10,12 @@ use lib.ListN.{length, getD, set, length-set}
 use borrow.Author.Tests.{ltb-true, eqb-true}
 use Rattle.facts.specs.Sums.{count}
 use Rattle.facts.proofs.Bools.{and-l, and-r}
+use Rattle.facts.proofs.Lists.{added-at}
 use Rattle.facts.proofs.Sums.{bit-same, count-append, count-cong, count₂-flat}
 use Rattle.netlist.specs.declared.Capacities.{Capacities}
 use Rattle.netlist.specs.Kinds.{slots, topLevel, arity}
 use Rattle.netlist.specs.Records.{Netlist}
 use Rattle.fanout.specs.Nets.{sinks, sinkAt, treeSize}
-use Rattle.fanout.proofs.Rows.{added-at}
 use Rattle.mapper.specs.Mapped.{buffersOf, parent, rank, sinkNumber, sinkParent}
 use Rattle.mapper.specs.PrivateWriting.{Ready, behind, onParent, ParentsDue, NodeCounts}
 use Rattle.nets.specs.PrivateChains.{slotEnd, usedSlot, faninSlot, namesSlot, nextSink, slotDistance, sinksBelow}

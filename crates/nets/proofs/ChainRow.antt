@@ -8,12 +8,11 @@ use mir.Syntax.{w32}
 use lib.Bits.{bitOr}
 use lib.ListN.{length, getD, set, replicate, length-set, length-replicate}
 use lib.Seq.{getD-set-other, ext-getD}
-use Rattle.facts.proofs.Lists.{zeros-at}
+use Rattle.facts.proofs.Lists.{zeros-at, added-at}
 use Rattle.netlist.specs.Kinds.{topLevel}
 use Rattle.netlist.specs.Records.{Netlist}
 use Rattle.fanout.specs.Nets.{row}
 use Rattle.fanout.proofs.Nets.{row-length, row-at}
-use Rattle.fanout.proofs.Rows.{added-at}
 use Rattle.nets.specs.PrivateChains.{nextSink, slotDistance, sinksBelow, Chained}
 use Rattle.fanout.specs.PrivateStretches.{stretch, InStretches}
 use Rattle.fanout.specs.PrivateWalk.{Filled}
