@@ -5,6 +5,7 @@ pub mod Bools
 pub mod Bytes
 pub mod Lists
 pub mod Loops
+pub mod Powers
 pub mod Reflect
 pub mod Refusals
 pub mod Rounding

@@ -104,6 +104,13 @@ module _ (f : ℕ → List ℕ) (w : ℕ) (each : (i : ℕ) → length (f i) ≡
       ∙ sym (getD-take w (drop (w * i) (joined f n)) b d h)
       ∙ ap (λ (p : List ℕ). getD p b d) (part-joined n i l)
 
+-- n parts of at most w elements
+pub joined-short : (f : ℕ → List ℕ) (w n : ℕ) → ((i : ℕ) → i < n → length (f i) ≤ w) → length (joined f n) ≤ w * n
+unfolding joined
+joined-short f w zero h = omega arith
+joined-short f w (suc n) h =
+    omega (arith, length-append (joined f n) (f n), joined-short f w n (λ i l. h i (omega arith)), h n (omega arith), mul-suc w n)
+
 pub joined-cong : (f g : ℕ → List ℕ) (n : ℕ) → ((i : ℕ) → i < n → f i ≡ g i) → joined f n ≡ joined g n
 unfolding joined
 joined-cong f g zero h = refl

@@ -432,6 +432,16 @@ unfolding largest
 largest-le f zero b h = omega arith
 largest-le f (suc n) b h = omega (arith, largest-le f n b (λ i l. h i (omega arith)), h n (omega arith))
 
+-- below the largest, one value is above
+pub largest-some : (f : ℕ → ℕ) (n b : ℕ) → b < largest f n → (i : ℕ) × (i < n) × (b < f i)
+unfolding largest
+largest-some f zero b l = absurd (omega arith)
+largest-some f (suc n) b l =
+    elim (decLt b (f n)) [
+      | yes h ↦ (n, omega arith, h)
+      | no g ↦ (let s = largest-some f n b (omega arith) in (s .0, omega (arith, s .1), s .2))
+    ]
+
 pub largest-cong : (f g : ℕ → ℕ) (n : ℕ) → ((i : ℕ) → i < n → f i ≡ g i) → largest f n ≡ largest g n
 unfolding largest
 largest-cong f g zero h = refl

@@ -1,6 +1,6 @@
-// What every call shares and no netlist is needed for: the answer of a list of checks, a byte as a wider number, a bool as one, a fraction rounded, an area copied, and a number written in four bytes.
+// What every call shares and no netlist is needed for: the answer of a list of checks, a byte as a wider number, a bool as one, the larger of two numbers, a fraction rounded, an area copied, and a number written in four bytes.
 ghost use mathlib.Core.Path.{_≡_};
-ghost use Prim.Native.Nat.{_+_, _*_, _<_, _≤_};
+ghost use Prim.Native.Nat.{_+_, _*_, _<_, _≤_, max};
 ghost use lib.ListN.{length};
 ghost use Rattle.facts.specs.Areas.{put};
 ghost use Rattle.facts.specs.Bytes.{four};
@@ -25,6 +25,13 @@ pub fn one_if(b: bool) -> usize
     ensures { λ r. ⌜ r ≡ bit b ⌝ }
 {
     if b { 1 } else { 0 }
+}
+
+// The larger of two numbers.
+pub fn larger(a: usize, b: usize) -> usize
+    ensures { λ r. ⌜ r ≡ max a b ⌝ }
+{
+    if a < b { b } else { a }
 }
 
 // A fraction rounded to the nearest whole number, an exact half to the even neighbour; 0 where the whole is 0.

@@ -1,20 +1,14 @@
 -- Laws of heights: what is looked for is the height.
-use Prim.Native.Nat.{ℕ, zero, suc, _^_, _≤_, _<_}
+use Prim.Native.Nat.{ℕ, _^_, _≤_}
 use native.Mathlib.Decide.{decLt}
-use native.Mathlib.Nat.{mul-le-mul-left, pow-zero, pow-suc}
 use native.Mathlib.Omega.{arith}
 use mathlib.Core.Path.{_≡_, sym, subst}
 use borrow.Author.Tests.{leb-true, le-leb}
 use Rattle.facts.specs.Sums.{seek}
 use Rattle.facts.proofs.Loops.{seek-within, seek-true, seek-least}
+use Rattle.facts.proofs.Powers.{below-power}
 use Rattle.levels.specs.Levels.{carries, height}
 use Rattle.levels.specs.Promises.{HeightExact}
-
--- a number is below the power of a base from 2 on with that exponent
-below-power : (s n : ℕ) → 2 ≤ s → n < s ^ n
-below-power s zero h = omega (arith, pow-zero s)
-below-power s (suc n) h =
-    omega (arith, below-power s n h, pow-suc s n, mul-le-mul-left {m = 2} {n = s} (s ^ n) h)
 
 -- no number of sinks has a height above itself
 pub height-small : (s n : ℕ) → height s n ≤ n

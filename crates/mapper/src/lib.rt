@@ -76,7 +76,7 @@ fn accept(source: &[u8], n: usize, buffers: u32) -> Mapping
     requires { ⌜ buffers ≤ mappedLimit ⌝ }
     ensures { λ r. ⌜ r ≡ figures (netlist (now (source .entry))) buffers ⌝ }
 {
-    let gates = netlist::count_kinds(source, netlist::AND, netlist::MAJORITY) as u32;
+    let gates = netlist::count_gates(source) as u32;
     let junctions = GATE_PRICE * gates + BUFFER_PRICE * buffers;
     Mapping {
         number: 0,

@@ -4,7 +4,7 @@ ghost use Rattle.netlist.specs.Kinds.{among, isGate, isDriver};
 ghost use Rattle.netlist.specs.Kinds;
 ghost use Rattle.netlist.specs.Records.{recordAt, recordCount, netlist};
 ghost use Rattle.netlist.specs.Records;
-ghost use Rattle.netlist.specs.Counts.{countKind, countOf};
+ghost use Rattle.netlist.specs.Counts.{countKind, countOf, gates};
 ghost use Rattle.netlist.specs.Capacities.{capacityOf};
 ghost use Rattle.netlist.specs.Checks.{capacityCheck, capacityChecks, sourceChecks, inputChecks};
 ghost use Rattle.netlist.specs.View.{viewOf};
@@ -184,6 +184,13 @@ pub fn count_kind(bytes: &[u8], kind: u8) -> usize
     ensures { λ r. ⌜ r ≡ countOf (netlist (now (bytes .entry))) kind ⌝ }
 {
     count_kinds(bytes, kind, kind)
+}
+
+// How many records are gates.
+pub fn count_gates(bytes: &[u8]) -> usize
+    ensures { λ r. ⌜ r ≡ gates (netlist (now (bytes .entry))) ⌝ }
+{
+    count_kinds(bytes, AND, MAJORITY)
 }
 
 // D: the level of the first output, 0 without outputs.

@@ -1,6 +1,6 @@
 // Small numbers: stored ones as indices, bits, one of two.
 ghost use mathlib.Core.Path.{_≡_};
-ghost use Prim.Native.Nat.{max, _<_};
+ghost use Prim.Native.Nat.{_<_};
 ghost use mathlib.Core.Bool.{cond};
 ghost use Rattle.facts.specs.Sums.{bit};
 
@@ -9,13 +9,6 @@ pub fn index(x: u16) -> usize
     ensures { λ r. ⌜ r ≡ x ⌝ }
 {
     x as usize
-}
-
-// The larger of two numbers.
-pub fn larger(a: usize, b: usize) -> usize
-    ensures { λ r. ⌜ r ≡ max a b ⌝ }
-{
-    if a < b { b } else { a }
 }
 
 // One of two numbers.

@@ -148,7 +148,7 @@ pub fn fill_row(
         let k = distance(source, low, p);
         p = numbers::index(next[p]);
         row[k] += 1;
-        far = numbers::larger(far, k);
+        far = facts::larger(far, k);
         stretches = stretches::with_stretch(stretches, k);
     }
     Reach { far, stretches }
@@ -173,7 +173,7 @@ pub fn chain_of(source: &[u8], end: usize, first: &[u16], next: &[u16], d: usize
     if end <= numbers::index(next[q]) {
         let b = distance(source, low, q);
         return Chain::Short(
-            numbers::larger(a, b),
+            facts::larger(a, b),
             numbers::one_if(a == 1) + numbers::one_if(b == 1),
         );
     }

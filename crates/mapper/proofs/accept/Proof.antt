@@ -1,24 +1,23 @@
 -- `accept` meets its contract: the prices fit, and the numbers are those of the definition.
-use Rattle.netlist.proofs.Counts.{gates-counted}
 use Rattle.mapper.proofs.Answering.{gates-fit, gates-price, all-price, accepted}
 use borrow.Author.Needs.{needs}
 use Rattle.mapper.proofs.accept.Statement.{statement}
 use Rattle.mapper.proofs.accept.Tie as tie
 
-count-kinds-requires : tie.Need-count-kinds-requires
-count-kinds-requires c κs = search needs
+count-gates-requires : tie.Need-count-gates-requires
+count-gates-requires c κs = search needs
 
 cast-gates : tie.Need-cast-gates
-cast-gates c = search (gates-fit, gates-counted)
+cast-gates c = search gates-fit
 
 mul-junctions : tie.Need-mul-junctions
-mul-junctions c = search (gates-price, gates-counted)
+mul-junctions c = search gates-price
 
 mul-junctions-2 : tie.Need-mul-junctions-2
 mul-junctions-2 c = search needs
 
 add-junctions : tie.Need-add-junctions
-add-junctions c = search (all-price, gates-counted)
+add-junctions c = search all-price
 
 cast-t7 : tie.Need-cast-t7
 cast-t7 c = search needs
@@ -42,13 +41,13 @@ round-requires : tie.Need-round-requires
 round-requires c κs = search needs
 
 returns : tie.Need-returns
-returns c = search (accepted, gates-counted)
+returns c = search accepted
 
 pub accept-spec : {M : Type 1} → statement M
 accept-spec =
     tie.close
     (tie.spec
-    count-kinds-requires
+    count-gates-requires
     cast-gates
     mul-junctions
     mul-junctions-2
