@@ -1,0 +1,5 @@
+pub mod Promises
+pub mod Table
+pub mod Decimals
+pub mod Lines
+pub mod Sheets

@@ -1,0 +1,46 @@
+-- `put_sum_word` meets its contract: the part of the text comes back into it.
+use borrow.Author.Needs.{needs}
+use Rattle.level_sheet.proofs.Lines.{sum-word-put}
+use Rattle.level_sheet.proofs.writing.put_sum_word.Statement.{statement}
+use Rattle.level_sheet.proofs.writing.put_sum_word.Tie as tie
+
+slice-aggregate-copy : tie.Need-slice-aggregate-copy
+slice-aggregate-copy c = search needs
+
+add-copy : tie.Need-add-copy
+add-copy c = search needs
+
+sub-copy : tie.Need-sub-copy
+sub-copy c = search needs
+
+part-copy-start : tie.Need-part-copy-start
+part-copy-start c = search needs
+
+part-copy-end : tie.Need-part-copy-end
+part-copy-end c = search needs
+
+copy-requires : tie.Need-copy-requires
+copy-requires c κs = search needs
+
+add-result : tie.Need-add-result
+add-result c = search needs
+
+same-length : tie.Need-same-length
+same-length c = search needs
+
+returns : tie.Need-returns
+returns c = search (needs, sum-word-put)
+
+pub put-sum-word-spec : {M : Type 1} → statement M
+put-sum-word-spec =
+    tie.close
+    (tie.spec
+    slice-aggregate-copy
+    add-copy
+    sub-copy
+    part-copy-start
+    part-copy-end
+    copy-requires
+    add-result
+    same-length
+    returns)

@@ -1,0 +1,4 @@
+pub mod Counts
+pub mod Text
+pub mod Promises
+pub mod PrivateTable
