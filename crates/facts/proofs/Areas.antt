@@ -4,11 +4,11 @@ use mathlib.Core.Path.{_≡_, refl, sym, _∙_, ap, ap₂}
 use mathlib.Core.List.{List, [], _∷_, _++_, append-assoc, append-nil}
 use native.Mathlib.Decide.{ℕ-discrete}
 use native.Mathlib.Omega.{arith}
-use native.Mathlib.Nat.{add-sub-of-le, add-sub-cancel-left, add-zero}
+use native.Mathlib.Nat.{add-sub-of-le, add-sub-cancel-left, add-zero, zero-add}
 use lib.ListN.{length, getD, take, drop, set, replicate, length-append, length-take, length-set, length-drop, take-append-drop, drop-of-length-le}
 use lib.Seq.{sets, sets-eq, drop-cons, set-at, append-snoc, take-at, drop-at, drop-drop, drop-append-add, length-take-le, take-append-le, take-take, getD-set-same, getD-set-other, ext-getD}
 use borrow.Author.Fill.{fill-more}
-use Rattle.facts.specs.Areas.{put}
+use Rattle.facts.specs.Areas.{put, onto}
 
 pub put-none : (xs : List ℕ) (a : ℕ) → put xs a [] ≡ xs
 put-none xs a = ap (λ (k : ℕ). take a xs ++ drop k xs) (add-zero a) ∙ take-append-drop a xs
@@ -56,6 +56,14 @@ module _ (xs : List ℕ) (a : ℕ) (bs : List ℕ) where
 -- bytes that were stored one by one
 pub sets-put : (bs xs : List ℕ) (at : ℕ) → at + length bs ≤ length xs → sets xs at bs ≡ put xs at bs
 sets-put bs xs at l = sets-eq bs xs at l ∙ append-assoc (take at xs) bs (drop (at + length bs) xs)
+
+-- one byte stored
+pub set-put : (xs : List ℕ) (at b : ℕ) → at < length xs → set xs at b ≡ put xs at (b ∷ [])
+set-put xs at b l = sets-put (b ∷ []) xs at (omega arith)
+
+-- bytes put from the start on
+pub put-start : (xs bytes : List ℕ) → put xs 0 bytes ≡ onto bytes xs
+put-start xs bytes = ap (λ (k : ℕ). bytes ++ drop k xs) (zero-add (length bytes))
 
 -- a part that was stored whole
 pub stored-whole : (part bytes : List ℕ) (w : ℕ) → length part ≡ w → length bytes ≡ w → sets part 0 bytes ≡ bytes

@@ -17,6 +17,10 @@ and-r false b e = cc
 pub and-i : (a b : Bool) → a ≡ true → b ≡ true → (a && b) ≡ true
 and-i a b e f = rw (e, f) refl
 
+pub and-true : (a b : Bool) → b ≡ true → (a && b) ≡ a
+and-true true b e = e
+and-true false b e = refl
+
 pub or-l : (a b : Bool) → a ≡ true → (a || b) ≡ true
 or-l a b e = rw e refl
 

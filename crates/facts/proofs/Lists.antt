@@ -2,6 +2,7 @@
 use Prim.Native.Nat.{ℕ, zero, suc, _+_, _*_, _<_, _≤_}
 use mathlib.Core.Path.{_≡_, refl, sym, ap, subst, _∙_}
 use mathlib.Core.List.{List, [], _∷_, _++_, append-nil, append-assoc}
+use native.Mathlib.Numerals.{add-one}
 use native.Mathlib.Omega.{arith}
 use native.Mathlib.Nat.{add-zero, add-suc, mul-zero, mul-suc, mul-le-mul-left}
 use native.Mathlib.Decide.{decLt, ℕ-discrete}
@@ -103,6 +104,11 @@ module _ (f : ℕ → List ℕ) (w : ℕ) (each : (i : ℕ) → length (f i) ≡
       sym (getD-drop (w * i) (joined f n) b d)
       ∙ sym (getD-take w (drop (w * i) (joined f n)) b d h)
       ∙ ap (λ (p : List ℕ). getD p b d) (part-joined n i l)
+
+-- one part more
+pub joined-last : (f : ℕ → List ℕ) (n : ℕ) → joined f (n + 1) ≡ joined f n ++ f n
+unfolding joined
+joined-last f n = ap (joined f) (add-one n)
 
 -- n parts of at most w elements
 pub joined-short : (f : ℕ → List ℕ) (w n : ℕ) → ((i : ℕ) → i < n → length (f i) ≤ w) → length (joined f n) ≤ w * n

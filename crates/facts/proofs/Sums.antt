@@ -432,7 +432,7 @@ unfolding largest
 largest-le f zero b h = omega arith
 largest-le f (suc n) b h = omega (arith, largest-le f n b (λ i l. h i (omega arith)), h n (omega arith))
 
--- below the largest, one value is above
+-- a number below the largest is below one of the values
 pub largest-some : (f : ℕ → ℕ) (n b : ℕ) → b < largest f n → (i : ℕ) × (i < n) × (b < f i)
 unfolding largest
 largest-some f zero b l = absurd (omega arith)

@@ -6,6 +6,7 @@ use mathlib.Core.Path.{_≡_, refl, sym, ap, ap₂, subst, _∙_}
 use mathlib.Core.Logic.{_≢_}
 use mathlib.Core.List.{List, [], _∷_, _++_}
 use lib.ListN.{length, getD, take, drop, length-append, List·getD-append}
+use lib.Seq.{getD-at}
 use borrow.Author.Tests.{lt-ltb, le-ltb}
 use native.Mathlib.Decide.{decLt}
 use Rattle.facts.specs.Areas.{put}
@@ -53,7 +54,7 @@ fewest-in (suc (suc k)) (suc most) n f l =
     ap₂ (λ (l : List ℕ) (d : ℕ). l ++ (d ∷ [])) (fewest-in (suc k) most (n / 10) rest (omega arith)) (glyph-digit (n % 10) (omega arith))
     ∙ sym (more-digits most n high)
 
-pub fewest-decimal : (k n : ℕ) → Fewest 10 1 n k → digits 10 k n ≡ decimal n
+fewest-decimal : (k n : ℕ) → Fewest 10 1 n k → digits 10 k n ≡ decimal n
 fewest-decimal k n f = fewest-in k (suc n) n f (few k f)
   where
     few : (k : ℕ) → Fewest 10 1 n k → k ≤ suc n
@@ -96,24 +97,67 @@ read-in (suc most) n l =
           ∙ omega (arith, read-in most (n / 10) (omega arith))
     ]
 
--- of a number above 0 the first digit is not 0
-first-in : (most n : ℕ) → n < most → 0 < n → (0 < length (decimalIn most n)) × (getD (decimalIn most n) 0 0 ≢ digitZero)
-first-in zero n l p = absurd (omega arith)
-first-in (suc most) n l p =
+some-in : (most n : ℕ) → 0 < length (decimalIn (suc most) n)
+some-in most n =
     elim (decLt n 10) [
-      | yes h ↦ rw (one-digit most n h) (omega arith, λ e. omega arith)
+      | yes h ↦ rw (one-digit most n h) (omega arith)
       | no g ↦
-          let d : List ℕ = (digitZero + n % 10) ∷ [] in
-          let before = first-in most (n / 10) (omega arith) (omega arith) in
-          rw (more-digits most n (omega arith)) (
-            omega (arith, before .0, length-append (decimalIn most (n / 10)) d),
-            λ e. before .1 (sym (List·getD-append (decimalIn most (n / 10)) d 0 0 (before .0)) ∙ e),
-          )
+          rw (more-digits most n (omega arith), length-append (decimalIn most (n / 10)) ((digitZero + n % 10) ∷ []))
+          (omega arith)
+    ]
+
+-- every byte is a digit
+abbrev Digit : ℕ → Type 0
+Digit x = (digitZero ≤ x) × (x < digitZero + 10)
+
+digits-more : (ds : List ℕ) (d : ℕ) → ((i : ℕ) → i < length ds → Digit (getD ds i 0)) → Digit d →
+    (i : ℕ) → i < length (ds ++ (d ∷ [])) → Digit (getD (ds ++ (d ∷ [])) i 0)
+digits-more ds d h p i l =
+    elim (decLt i (length ds)) [
+      | yes b ↦ rw (List·getD-append ds (d ∷ []) 0 i b) (h i b)
+      | no g ↦
+          (let e : i ≡ length ds = omega (arith, length-append ds (d ∷ [])) in
+          rw (e, getD-at ds d [] 0 (length ds) refl) p)
+    ]
+
+digits-in : (most n i : ℕ) → i < length (decimalIn most n) → Digit (getD (decimalIn most n) i 0)
+unfolding decimalIn
+digits-in zero n i l = absurd (omega arith)
+digits-in (suc most) n i l =
+    elim (decLt n 10) [
+      | yes h ↦
+          (let e = one-digit most n h in
+          rw e (digits-more [] (digitZero + n) (λ j b. absurd (omega arith)) (omega arith) i (subst (λ (ds : List ℕ). i < length ds) e l)))
+      | no g ↦
+          (let e = more-digits most n (omega arith) in
+          rw e (
+          digits-more (decimalIn most (n / 10)) (digitZero + n % 10) (digits-in most (n / 10)) (omega arith) i
+          (subst (λ (ds : List ℕ). i < length ds) e l)
+          ))
+    ]
+
+-- of a number above 0 the first digit is not 0
+first-in : (most n : ℕ) → n < most → 0 < n → getD (decimalIn most n) 0 0 ≢ digitZero
+first-in zero n l p = absurd (omega arith)
+first-in (suc zero) n l p = absurd (omega arith)
+first-in (suc (suc most)) n l p =
+    elim (decLt n 10) [
+      | yes h ↦ rw (one-digit (suc most) n h) (λ e. omega arith)
+      | no g ↦
+          rw (more-digits (suc most) n (omega arith))
+          (λ e.
+          first-in (suc most) (n / 10) (omega arith) (omega arith)
+          (sym (List·getD-append (decimalIn (suc most) (n / 10)) ((digitZero + n % 10) ∷ []) 0 0 (some-in most (n / 10))) ∙ e))
     ]
 
 pub decimal-exact : DecimalExact
 decimal-exact =
-    record { read = λ n. read-in (suc n) n (omega arith); first = λ n p. first-in (suc n) n (omega arith) p .1 }
+    record {
+      some = λ n. some-in n n;
+      digits = λ n i l. digits-in (suc n) n i l;
+      read = λ n. read-in (suc n) n (omega arith);
+      first = λ n p. first-in (suc n) n (omega arith) p;
+    }
 
 -- the digits of a number as they are made, then copied into a text
 module _ (n k : ℕ) (out : List ℕ) (counted : (k ≤ length out) × (k ≡ length (take k out))) (f : Fewest 10 1 n k) (e : take k out ≡ digits 10 k n) where

@@ -9,14 +9,11 @@ use lib.ListN.{length, getD, take, drop, set, length-append, drop-of-length-le}
 use lib.Seq.{drop-cons}
 use Rattle.facts.specs.Areas.{put}
 use Rattle.facts.specs.Lists.{joined}
-use Rattle.facts.proofs.Areas.{put-none, length-put, put-behind, sets-put, part-back}
-use Rattle.facts.proofs.Lists.{joined-short}
+use Rattle.facts.proofs.Areas.{put-none, length-put, put-behind, set-put, part-back}
+use Rattle.facts.proofs.Lists.{joined-last, joined-short}
+use Rattle.level_sheet.specs.Counts.{columns}
 use Rattle.level_sheet.specs.Text.{lineEnd, space, decimal, spaced, numbersBehind, line, sumWord, lineLimit}
-use Rattle.level_sheet.specs.PrivateTable.{columns, tableLine, LinesFit}
-
--- one byte
-set-put : (text : List ℕ) (at b : ℕ) → at < length text → set text at b ≡ put text at (b ∷ [])
-set-put text at b l = sets-put (b ∷ []) text at (omega arith)
+use Rattle.level_sheet.specs.PrivateTable.{tableLine, LinesFit}
 
 -- a space and a number
 module _ (n : ℕ) (text : List ℕ) (at : ℕ) (room : at + length (spaced n) ≤ length text) where
@@ -143,10 +140,6 @@ module _ (word tail text : List ℕ) (at : ℕ) (room : at + length (word ++ tai
 -- the word sum, copied into a part of the text
 pub sum-word-put : (text part : List ℕ) (at : ℕ) → part ≡ sumWord → take at text ++ (part ++ drop (at + 3 - at) (drop at text)) ≡ put text at sumWord
 sum-word-put text part at e = part-back text part sumWord at 3 e refl
-
-joined-last : (f : ℕ → List ℕ) (n : ℕ) → joined f (n + 1) ≡ joined f n ++ f n
-unfolding joined
-joined-last f n = ap (joined f) (add-one n)
 
 -- the lines of the levels below one are put
 pub record PuttingLevels (table : List ℕ) (lines : ℕ) (old text : List ℕ) (at level : ℕ) : Type 0 where

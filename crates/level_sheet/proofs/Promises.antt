@@ -3,29 +3,33 @@ use Prim.Native.Nat.{ℕ, zero, suc, _+_, _-_, _%_, _≤_, _<_}
 use native.Mathlib.Decide.{decLt}
 use native.Mathlib.Omega.{arith}
 use mathlib.Core.Path.{_≡_, refl, sym, ap}
-use mathlib.Core.Bool.{Bool, true, false, not, _&&_}
+use mathlib.Core.Bool.{Bool, true, not, _&&_}
+use mathlib.Core.Logic.{_≢_}
 use mathlib.Core.List.{List}
 use lib.Dec.{eqb}
 use lib.ListN.{length}
 use lib.Seq.{take-all, length-take-le}
-use borrow.Author.Tests.{lt-ltb, le-ltb, ne-eqb, eqb-false}
+use borrow.Author.Tests.{eq-eqb, eqb-true}
 use Rattle.facts.specs.declared.Checked.the-variants.{Refused}
 use Rattle.facts.specs.Checks.{_andThen_}
 use Rattle.facts.specs.Sums.{bit, sum, count, any}
+use Rattle.facts.proofs.Bools.{and-r, and-true}
 use Rattle.facts.proofs.Reflect.{unlike-none}
-use Rattle.facts.proofs.Sums.{fibres₁, le-largest, largest-some, sum-zero, sum-add, sum-const, sum-cong, any-none}
+use Rattle.facts.proofs.Sums.{fibres₁, le-largest, largest-some, sum-zero, sum-add, sum-const, sum-cong, term-le, count-none, any-none}
 use Rattle.netlist.specs.declared.Capacities.{Capacities}
 use Rattle.netlist.specs.Kinds.{width, input, output, buffer, arity, isGate}
 use Rattle.netlist.specs.Records.{Netlist, netlist, recordAt, fanin}
 use Rattle.netlist.specs.Balance.{Named, PathBalanced}
 use Rattle.netlist.specs.Counts.{countKind, gates, bufferCount}
 use Rattle.netlist.specs.Checks.{ragged, inputChecks}
+use Rattle.netlist.proofs.Checks.{fanin-arity}
 use Rattle.verifier.specs.Accepted.{Accepted}
 use Rattle.verifier.specs.Checks.{mappedChecks, verifyChecks}
 use Rattle.verifier.proofs.Accepted.{accepted-exactly}
 use Rattle.verifier.proofs.Balance.{accepted-balanced}
 use Rattle.level_sheet.specs.Counts.{countAt, lineCount}
-use Rattle.level_sheet.specs.Promises.{LinesExactly, ColumnsAdd, AllCounted, NoEmptyLine, FileJudged, fileLimit, partRead}
+use Rattle.level_sheet.specs.Text.{refusalLine, sheetText}
+use Rattle.level_sheet.specs.Promises.{LinesExactly, ColumnsAdd, EmptyLevel, AllCounted, NoEmptyLine, FileJudged, fileLimit, partRead}
 use Rattle.level_sheet.specs.PrivateTable.{Countable}
 
 pub lines-exactly : LinesExactly
@@ -75,7 +79,7 @@ unfolding any
 one-sort kind l = unlike-none _ _ .0 (any-none (λ k. not (eqb (sortsOf k) 1)) (suc buffer) .0 refl kind (omega arith))
 
 pub all-counted : AllCounted
-unfolding count gates bufferCount
+unfolding count sum gates bufferCount
 all-counted source caps mapped buffers e =
     let m = netlist mapped in
     let c = countable source caps mapped (accepted-exactly source caps mapped buffers .0 e .0) in
@@ -88,28 +92,55 @@ all-counted source caps mapped buffers e =
       sum-const 1 (m .size),
     )
 
--- every kind but an input uses a slot
-uses-slot : (kind : ℕ) → kind ≤ buffer → (kind ≡ input → ⊥) → 0 < arity kind
-unfolding any
-uses-slot kind l h =
-    let e = any-none (λ k. not (eqb k input) && eqb (arity k) 0) (suc buffer) .0 refl kind (omega arith) in
-    let none : eqb (arity kind) 0 ≡ false = rw (ne-eqb kind input h) at e in
-    omega (arith, eqb-false (arity kind) 0 none)
-
 -- a record that stands above a level has one below it: its fanin, then its fanin's, down to that level
 reached : (m : Netlist) → Countable m → Named m → PathBalanced m → (level gap k : ℕ) → k < m .size → m .at k .level ≡ level + gap →
     (i : ℕ) × (i < m .size) × (m .at i .level ≡ level)
 reached m c named p level zero k l e = (k, l, omega arith)
 reached m c named p level (suc gap) k l e =
-    let used : 0 < arity (m .at k .kind) = uses-slot (m .at k .kind) (c .kinds k l) (λ i. omega (arith, p .inputs k l i)) in
+    let used : 0 < arity (m .at k .kind) = fanin-arity (m .at k .kind) (λ i. omega (arith, p .inputs k l i)) (c .kinds k l) in
     reached m c named p level gap (fanin m k 0) (named k 0 l used) (omega (arith, p .fanins k 0 l used))
 
+-- a record is counted at its level
+at-least : (m : Netlist) (test : ℕ → Bool) (level k : ℕ) → k < m .size → m .at k .level ≡ level → bit (test (m .at k .kind)) ≤ countAt m test level
+unfolding countAt count
+at-least m test level k l e =
+    omega (
+      arith,
+      term-le (λ i. bit (test (m .at i .kind) && eqb (m .at i .level) level)) k (m .size) l,
+      ap bit (and-true (test (m .at k .kind)) (eqb (m .at k .level) level) (eq-eqb (m .at k .level) level e)),
+    )
+
 pub no-empty-line : NoEmptyLine
+unfolding sum
 no-empty-line source caps mapped buffers level e l =
+    let m = netlist mapped in
     let a = accepted-exactly source caps mapped buffers .0 e .0 in
+    let c = countable source caps mapped a in
     let top = lines-exactly mapped level .0 l in
-    reached (netlist mapped) (countable source caps mapped a) (a .legal .named) (accepted-balanced source caps mapped buffers e .0) level
-    (recordAt mapped (top .0) .level - level) (top .0) (top .1) (omega (arith, top .2))
+    let here =
+    reached m c (a .legal .named) (accepted-balanced source caps mapped buffers e .0) level (recordAt mapped (top .0) .level - level) (top .0) (top .1)
+    (omega (arith, top .2)) in
+    omega (
+      arith,
+      at-least m (λ k. eqb k input) level (here .0) (here .1) (here .2),
+      at-least m isGate level (here .0) (here .1) (here .2),
+      at-least m (λ k. eqb k buffer) level (here .0) (here .1) (here .2),
+      at-least m (λ k. eqb k output) level (here .0) (here .1) (here .2),
+      one-sort (m .at (here .0) .kind) (c .kinds (here .0) (here .1)),
+    )
+
+-- nothing is counted where no record stands
+none-at : (m : Netlist) (test : ℕ → Bool) (level : ℕ) → ((k : ℕ) → k < m .size → m .at k .level ≢ level) → countAt m test level ≡ 0
+unfolding countAt
+none-at m test level h =
+    count-none _ (m .size) (λ k l e. h k l (eqb-true (m .at k .level) level (and-r (test (m .at k .kind)) (eqb (m .at k .level) level) e)))
+
+pub empty-level : EmptyLevel
+empty-level mapped level zero h = none-at (netlist mapped) _ level h
+empty-level mapped level (suc zero) h = none-at (netlist mapped) _ level h
+empty-level mapped level (suc (suc zero)) h = none-at (netlist mapped) _ level h
+empty-level mapped level (suc (suc (suc zero))) h = none-at (netlist mapped) _ level h
+empty-level mapped level (suc (suc (suc (suc column)))) h = refl
 
 -- a part of 60,001 bytes is no whole number of records
 module _ (source : List ℕ) (caps : Capacities) (file : List ℕ) (l : fileLimit < length file) where
@@ -120,9 +151,13 @@ module _ (source : List ℕ) (caps : Capacities) (file : List ℕ) (l : fileLimi
   unfolding verifyChecks mappedChecks
   part-refused = rw part-ragged
 
+  part-text : (number place : ℕ) → (inputChecks source caps andThen Refused 11 0) ≡ Refused number place → sheetText source caps (partRead file) ≡ refusalLine number place
+  part-text number place e = rw (part-refused, e)
+
 pub file-judged : FileJudged
-file-judged source caps file =
-    elim (decLt fileLimit (length file)) [
-      | yes l ↦ rw (lt-ltb fileLimit (length file) l) (part-refused source caps file l)
-      | no g ↦ rw (le-ltb fileLimit (length file) (omega arith)) (ap (verifyChecks source caps) (take-all (suc fileLimit) file (omega arith)))
-    ]
+file-judged =
+    record {
+      long = λ source caps file l e. part-text source caps file l 11 0 (rw e);
+      first = λ source caps file number place l e. part-text source caps file l number place (rw e);
+      whole = λ file l. take-all (suc fileLimit) file (omega arith);
+    }

@@ -5,12 +5,12 @@ use native.Mathlib.Omega.{arith}
 use mathlib.Core.Path.{_≡_, refl, sym, ap, ap₂, _∙_}
 use mathlib.Core.List.{List, [], _∷_, _++_}
 use lib.Dec.{eqb}
-use lib.ListN.{length, getD, drop, length-append}
+use lib.ListN.{length, getD, length-append}
 use Rattle.facts.specs.declared.Checked.{Checked}
 use Rattle.facts.specs.declared.Checked.the-variants.{Passed, Refused}
 use Rattle.facts.specs.Areas.{put, onto}
 use Rattle.facts.specs.Lists.{joined}
-use Rattle.facts.proofs.Areas.{length-put, put-behind}
+use Rattle.facts.proofs.Areas.{length-put, put-behind, put-start}
 use Rattle.facts.proofs.Lists.{length-joined, part-joined, joined-cong, joined-short}
 use Rattle.facts.proofs.Sums.{count-le, largest-le}
 use Rattle.netlist.specs.declared.Capacities.{Capacities}
@@ -19,9 +19,9 @@ use Rattle.netlist.specs.Records.{Netlist, netlist}
 use Rattle.netlist.specs.Counts.{gates, bufferCount}
 use Rattle.verifier.specs.Checks.{verifyChecks}
 use Rattle.verifier.proofs.Accepted.{checks-passed}
-use Rattle.level_sheet.specs.Counts.{countsAt, totals, lineCount}
+use Rattle.level_sheet.specs.Counts.{columns, countsAt, totals, lineCount}
 use Rattle.level_sheet.specs.Text.{decimal, spaced, numbersBehind, line, levelLine, sumWord, sumLine, sheetOf, refusalLine, sheetText, lineLimit, textLimit}
-use Rattle.level_sheet.specs.PrivateTable.{columns, levels, cells, cellOf, tableOf, tableLine, Countable, LinesFit}
+use Rattle.level_sheet.specs.PrivateTable.{levels, tableSize, tableIndex, tableOf, tableLine, Countable, LinesFit}
 use Rattle.level_sheet.proofs.Promises.{countable}
 use Rattle.level_sheet.proofs.Table.{line-counts}
 use Rattle.level_sheet.proofs.Decimals.{decimal-short}
@@ -45,7 +45,7 @@ module _ (m : Netlist) (c : Countable m) where
 
   -- all numbers of a sheet have up to five digits
   counts-low : (level i : ℕ) → i < columns → getD (countsAt m level) i 0 < 10 ^ 5
-  counts-low level i l = omega (arith, line-counts m c level i l, count-le (λ k. eqb (cellOf (m .at k)) (columns * level + i)) (m .size), c .few)
+  counts-low level i l = omega (arith, line-counts m c level i l, count-le (λ k. eqb (tableIndex (m .at k)) (columns * level + i)) (m .size), c .few)
 
   totals-low : (i : ℕ) → i < columns → getD (totals m) i 0 < 10 ^ 5
   unfolding gates bufferCount
@@ -75,7 +75,7 @@ module _ (m : Netlist) (c : Countable m) where
         ap (λ (t : List ℕ). tableLine t level) e
         ∙ ap (line level) (part-joined (countsAt m) columns (λ i. refl) levels level l)
 
-    table-long : length table ≡ cells
+    table-long : length table ≡ tableSize
     unfolding tableOf
     table-long = ap length e ∙ length-joined (countsAt m) columns (λ i. refl) levels
 
@@ -127,10 +127,6 @@ module _ (m : Netlist) (c : Countable m) where
 
             pub sheet-same : length last ≡ length text
             sheet-same = ap length p ∙ length-put new at (sumWord ++ numbersBehind sorts) sum-room ∙ same
-
--- a text from its start on
-put-start : (text bytes : List ℕ) → put text 0 bytes ≡ onto bytes text
-put-start text bytes = ap (λ (k : ℕ). bytes ++ drop k text) (zero-add (length bytes))
 
 -- what is printed, by the verifier's checks
 module _ (source : List ℕ) (caps : Capacities) (mapped : List ℕ) (checked : Checked) (e : checked ≡ verifyChecks source caps mapped) where

@@ -1,9 +1,9 @@
--- Laws of the table and of the number of lines: a record is counted in one cell, and once all are, the table holds the counts of every level.
+-- Laws of the table, of the number of lines and of the totals: a record is counted in one entry of the table, which holds the counts of every level once all are.
 use Prim.Native.Nat.{ℕ, zero, suc, _+_, _*_, _/_, _%_, _^_, max, _≤_, _<_}
 use native.Mathlib.Decide.{ℕ-discrete}
 use native.Mathlib.Numerals.{add-one}
 use native.Mathlib.Omega.{arith}
-use mathlib.Core.Path.{_≡_, refl, sym, ap, _∙_}
+use mathlib.Core.Path.{_≡_, refl, sym, ap, ap₂, _∙_}
 use mathlib.Core.Bool.{Bool, true, false, cond, not, _&&_}
 use mathlib.Core.List.{List, [], _∷_}
 use lib.Dec.{eqb}
@@ -19,8 +19,8 @@ use Rattle.netlist.specs.declared.Record.{Record}
 use Rattle.netlist.specs.Kinds.{topLevel, mappedLimit, input, output, buffer, isGate}
 use Rattle.netlist.specs.Records.{Netlist, netlist, recordCount, recordAt}
 use Rattle.netlist.specs.Counts.{countKind, countOf, gates, bufferCount}
-use Rattle.level_sheet.specs.Counts.{countAt, countsAt, totals, lineCount}
-use Rattle.level_sheet.specs.PrivateTable.{columns, levels, cells, columnOf, cellOf, tableOf, Countable}
+use Rattle.level_sheet.specs.Counts.{columns, countAt, countsAt, totals, lineCount}
+use Rattle.level_sheet.specs.PrivateTable.{levels, tableSize, columnOf, tableIndex, tableOf, Countable}
 
 -- whether two tests differ
 abbrev differ : Bool → Bool → Bool
@@ -56,21 +56,21 @@ module _ (kind : ℕ) (gate : Bool) (h : kind ≡ input → ⊥) (e : gate ≡ i
   pub output-column : gate ≡ false → (kind ≡ buffer → ⊥) → 3 ≡ columnOf kind
   output-column t f = rw (ne-eqb kind input h, ← e, t, ne-eqb kind buffer f)
 
--- a record up to the highest level has a cell
-module _ (r : Record) (l : r .level ≤ topLevel) (column : ℕ) (e : column ≡ columnOf (r .kind)) where
-  pub cell-fits : columns * r .level + column < 2 ^ 64
-  cell-fits = omega (arith, column-inside (r .kind))
+-- a record up to the highest level has an entry
+module _ (r : Record) (l : r .level ≤ topLevel) (level column : ℕ) (f : level ≡ r .level) (e : column ≡ columnOf (r .kind)) where
+  pub index-fits : columns * level + column < 2 ^ 64
+  index-fits = omega (arith, column-inside (r .kind))
 
-  pub cell-is : columns * r .level + column ≡ cellOf r
-  cell-is = ap (λ (x : ℕ). columns * r .level + x) e
+  pub index-is : columns * level + column ≡ tableIndex r
+  index-is = ap₂ (λ (x y : ℕ). columns * x + y) f e
 
-  pub cell-low : columns * r .level + column < cells
-  cell-low = omega (arith, column-inside (r .kind))
+  pub index-low : columns * level + column < tableSize
+  index-low = omega (arith, column-inside (r .kind))
 
--- two cells are the same in column and level alone
-same-cell : (level column k j : ℕ) → column < columns → j < columns →
+-- two entries are the same exactly if column and level are
+same-index : (level column k j : ℕ) → column < columns → j < columns →
     (eqb column j && eqb level k) ≡ eqb (columns * level + column) (columns * k + j)
-same-cell level column k j a b =
+same-index level column k j a b =
     elim (ℕ-discrete column j) [
       | yes e ↦ elim (ℕ-discrete level k) [
         | yes f ↦ rw (eq-eqb column j e, eq-eqb level k f) (sym (eq-eqb (columns * level + column) (columns * k + j) (omega arith)))
@@ -80,52 +80,52 @@ same-cell level column k j a b =
     ]
 
 module _ (m : Netlist) (c : Countable m) where
-  -- the records of one sort at a level are those counted in its cell
+  -- the records of one sort at a level are those counted in its entry
   module _ (test : ℕ → Bool) (j level : ℕ) (h : j < columns) where
-    cell-counts : any (λ kind. differ (test kind) (eqb (columnOf kind) j)) (suc buffer) ≡ false →
-        countAt m test level ≡ count (λ i. eqb (cellOf (m .at i)) (columns * level + j)) (m .size)
+    sort-counts : any (λ kind. differ (test kind) (eqb (columnOf kind) j)) (suc buffer) ≡ false →
+        countAt m test level ≡ count (λ i. eqb (tableIndex (m .at i)) (columns * level + j)) (m .size)
     unfolding countAt
-    cell-counts e =
+    sort-counts e =
         count-cong _ _ (m .size) (λ i l.
         ap (λ (b : Bool). b && eqb (m .at i .level) level) (by-kind test (λ kind. eqb (columnOf kind) j) (m .at i .kind) (c .kinds i l) e)
-        ∙ same-cell (m .at i .level) (columnOf (m .at i .kind)) level j (column-inside (m .at i .kind)) h)
+        ∙ same-index (m .at i .level) (columnOf (m .at i .kind)) level j (column-inside (m .at i .kind)) h)
 
   pub line-counts : (level j : ℕ) → j < columns →
-      getD (countsAt m level) j 0 ≡ count (λ i. eqb (cellOf (m .at i)) (columns * level + j)) (m .size)
+      getD (countsAt m level) j 0 ≡ count (λ i. eqb (tableIndex (m .at i)) (columns * level + j)) (m .size)
   unfolding any
-  line-counts level zero h = cell-counts (λ k. eqb k input) 0 level h refl
-  line-counts level (suc zero) h = cell-counts isGate 1 level h refl
-  line-counts level (suc (suc zero)) h = cell-counts (λ k. eqb k buffer) 2 level h refl
-  line-counts level (suc (suc (suc zero))) h = cell-counts (λ k. eqb k output) 3 level h refl
+  line-counts level zero h = sort-counts (λ k. eqb k input) 0 level h refl
+  line-counts level (suc zero) h = sort-counts isGate 1 level h refl
+  line-counts level (suc (suc zero)) h = sort-counts (λ k. eqb k buffer) 2 level h refl
+  line-counts level (suc (suc (suc zero))) h = sort-counts (λ k. eqb k output) 3 level h refl
   line-counts level (suc (suc (suc (suc j)))) h = absurd (omega arith)
 
 -- the records below k are counted
 pub record Counting (m : Netlist) (all : ℕ) (table : List ℕ) (k : ℕ) : Type 0 where
   pub within : k ≤ all
   pub size : all ≡ m .size
-  pub long : length table ≡ cells
-  pub so-far : (x : ℕ) → getD table x 0 ≡ count (λ i. eqb (cellOf (m .at i)) x) k
+  pub long : length table ≡ tableSize
+  pub so-far : (x : ℕ) → getD table x 0 ≡ count (λ i. eqb (tableIndex (m .at i)) x) k
 
 module _ (m : Netlist) (all : ℕ) where
-  pub counting-start : (table : List ℕ) → all ≡ m .size → table ≡ replicate cells 0 → Counting m all table 0
+  pub counting-start : (table : List ℕ) → all ≡ m .size → table ≡ replicate tableSize 0 → Counting m all table 0
   unfolding count sum
   counting-start table e z =
-      record { within = omega arith; size = e; long = ap length z ∙ length-replicate {A = ℕ} cells 0; so-far = zeros-at cells table z }
+      record { within = omega arith; size = e; long = ap length z ∙ length-replicate {A = ℕ} tableSize 0; so-far = zeros-at tableSize table z }
 
   module _ (c : Countable m) (table : List ℕ) (k : ℕ) (s : Counting m all table k) where
-    pub table-same : (old : List ℕ) → old ≡ replicate cells 0 → length table ≡ length old
-    table-same old z = s .long ∙ sym (ap length z ∙ length-replicate {A = ℕ} cells 0)
+    pub table-same : (old : List ℕ) → old ≡ replicate tableSize 0 → length table ≡ length old
+    table-same old z = s .long ∙ sym (ap length z ∙ length-replicate {A = ℕ} tableSize 0)
 
     module _ (h : k < all) (r : Record) (e : r ≡ m .at k) where
       pub level-low : r .level ≤ topLevel
       level-low = rw e (c .low k (omega (arith, s .size)))
 
-      module _ (x : ℕ) (f : (x ≡ cellOf r) × (x < cells)) where
-        pub cell-inside : x < length table
-        cell-inside = omega (arith, f .1, s .long)
+      module _ (x : ℕ) (f : (x ≡ tableIndex r) × (x < tableSize)) where
+        pub index-inside : x < length table
+        index-inside = omega (arith, f .1, s .long)
 
         pub more-fits : getD table x 0 + 1 < 2 ^ 32
-        more-fits = omega (arith, s .so-far x, count-le (λ i. eqb (cellOf (m .at i)) x) k, c .few, s .size)
+        more-fits = omega (arith, s .so-far x, count-le (λ i. eqb (tableIndex (m .at i)) x) k, c .few, s .size)
 
         pub counting-more : Counting m all (set table x (getD table x 0 + 1)) (k + 1)
         counting-more =
@@ -134,13 +134,13 @@ module _ (m : Netlist) (all : ℕ) where
               size = s .size;
               long = length-set table x _ ∙ s .long;
               so-far = λ y.
-                  added-at table x y cell-inside
+                  added-at table x y index-inside
                   ∙ omega (
                     arith,
                     s .so-far y,
-                    ap (count (λ i. eqb (cellOf (m .at i)) y)) (add-one k),
-                    count-suc (λ i. eqb (cellOf (m .at i)) y) k,
-                    ap (λ (z : ℕ). bit (eqb z y)) (f .0 ∙ ap cellOf e),
+                    ap (count (λ i. eqb (tableIndex (m .at i)) y)) (add-one k),
+                    count-suc (λ i. eqb (tableIndex (m .at i)) y) k,
+                    ap (λ (z : ℕ). bit (eqb z y)) (f .0 ∙ ap tableIndex e),
                   );
             }
 
@@ -150,13 +150,13 @@ module _ (m : Netlist) (all : ℕ) where
     counting-end h =
         ext-getD 0 table (joined (countsAt m) levels) (s .long ∙ sym (length-joined (countsAt m) columns (λ i. refl) levels)) (λ x l. entry x (omega (arith, s .long)))
       where
-        entry : (x : ℕ) → x < cells → getD table x 0 ≡ getD (joined (countsAt m) levels) x 0
+        entry : (x : ℕ) → x < tableSize → getD table x 0 ≡ getD (joined (countsAt m) levels) x 0
         entry x l =
             let parts : columns * (x / columns) + x % columns ≡ x = omega arith in
             let k-all : k ≡ m .size = omega (arith, s .size, s .within) in
             s .so-far x
-            ∙ ap (count (λ i. eqb (cellOf (m .at i)) x)) k-all
-            ∙ ap (λ (y : ℕ). count (λ i. eqb (cellOf (m .at i)) y) (m .size)) (sym parts)
+            ∙ ap (count (λ i. eqb (tableIndex (m .at i)) x)) k-all
+            ∙ ap (λ (y : ℕ). count (λ i. eqb (tableIndex (m .at i)) y) (m .size)) (sym parts)
             ∙ sym (line-counts m c (x / columns) (x % columns) (omega arith))
             ∙ sym (getD-joined (countsAt m) columns (λ i. refl) levels (x / columns) (x % columns) 0 (omega arith) (omega arith))
             ∙ ap (λ (y : ℕ). getD (joined (countsAt m) levels) y 0) parts

@@ -8,6 +8,10 @@ use Rattle.netlist.specs.Kinds.{input, output, buffer, isGate}
 use Rattle.netlist.specs.Records.{Netlist}
 use Rattle.netlist.specs.Counts.{inputs, outputs, gates, bufferCount}
 
+-- columns of a sheet: inputs, gates, buffers, outputs
+abbrev pub columns : ℕ
+columns = 4
+
 -- how many records at a level are of a kind that passes a test
 unfoldable pub countAt : Netlist → (ℕ → Bool) → ℕ → ℕ
 countAt m test level = count (λ k. test (m .at k .kind) && eqb (m .at k .level) level) (m .size)
@@ -16,11 +20,11 @@ countAt m test level = count (λ k. test (m .at k .kind) && eqb (m .at k .level)
 abbrev pub countOfAt : Netlist → ℕ → ℕ → ℕ
 countOfAt m kind = countAt m (λ k. eqb k kind)
 
--- the counts of one level: inputs, gates, buffers, outputs
+-- the columns of one level: inputs, gates, buffers, outputs
 abbrev pub countsAt : Netlist → ℕ → List ℕ
 countsAt m level = countOfAt m input level ∷ countAt m isGate level ∷ countOfAt m buffer level ∷ countOfAt m output level ∷ []
 
--- the counts of all records: inputs, gates, buffers, outputs
+-- the columns of all records: inputs, gates, buffers, outputs
 abbrev pub totals : Netlist → List ℕ
 totals m = inputs m ∷ gates m ∷ bufferCount m ∷ outputs m ∷ []
 

@@ -21,7 +21,7 @@ space = 32
 abbrev pub lineEnd : ℕ
 lineEnd = 10
 
--- the last digits of a number, at most so many, without zeros before it
+-- a number in decimal; of one with more digits than so many, its last ones
 unfoldable pub decimalIn : ℕ → ℕ → List ℕ
 decimalIn zero n = []
 decimalIn (suc most) n =

@@ -5,7 +5,7 @@ ghost use lib.ListN.{replicate};
 ghost use Rattle.netlist.specs.Kinds.{topLevel, mappedLimit};
 ghost use Rattle.netlist.specs.Records.{netlist, recordCount};
 ghost use Rattle.level_sheet.specs.Counts.{totals, lineCount};
-ghost use Rattle.level_sheet.specs.PrivateTable.{columnOf, cellOf, cells, tableOf, Countable};
+ghost use Rattle.level_sheet.specs.PrivateTable.{tableSize, columnOf, tableIndex, tableOf, Countable};
 use netlist::BUFFER;
 use netlist::INPUT;
 use netlist::OUTPUT;
@@ -19,7 +19,7 @@ pub(crate) const COLUMNS: usize = 4;
 pub(crate) const LEVELS: usize = netlist::TOP_LEVEL as usize + 1;
 
 // Entries of the table.
-pub(crate) const CELLS: usize = COLUMNS * LEVELS;
+pub(crate) const TABLE_SIZE: usize = COLUMNS * LEVELS;
 
 // The column in which a kind is counted.
 fn column_of(kind: u8) -> usize
@@ -37,35 +37,35 @@ fn column_of(kind: u8) -> usize
     3
 }
 
-// The entry of the table in which a record is counted.
-fn cell_of(r: Record) -> usize
-    requires { ⌜ r .level ≤ topLevel ⌝ }
-    ensures { λ x. ⌜ (x ≡ cellOf r) × (x < cells) ⌝ }
-{
-    COLUMNS * r.level as usize + column_of(r.kind)
-}
-
-// Every record, counted at its level and in its column.
-pub(crate) fn count_records(mapped: &[u8], m: usize, table: &mut [u32])
-    requires { ⌜ Countable (netlist (now mapped)) ⌝ }
-    requires { ⌜ m ≡ recordCount (now mapped) ⌝ }
-    requires { ⌜ now table ≡ replicate cells 0 ⌝ }
-    ensures { λ _. ⌜ now (table .exit) ≡ tableOf (netlist (now (mapped .entry))) ⌝ }
-{
-    let mut k: usize = 0;
-    while k < m {
-        let r = record_reader::read_at(mapped, k);
-        let cell = cell_of(r);
-        table[cell] += 1;
-        k += 1;
-    }
-}
-
-// A level, as a number to count with.
+// A level as a wider number; its contract tells callers that it is small.
 fn wide_level(level: u16) -> usize
     ensures { λ r. ⌜ (r ≡ level) × (r < 65536) ⌝ }
 {
     level as usize
+}
+
+// Where in the table a record is counted.
+fn index_of(r: Record) -> usize
+    requires { ⌜ r .level ≤ topLevel ⌝ }
+    ensures { λ x. ⌜ (x ≡ tableIndex r) × (x < tableSize) ⌝ }
+{
+    COLUMNS * wide_level(r.level) + column_of(r.kind)
+}
+
+// Every record, counted at its level and in its column.
+pub(crate) fn count_records(mapped: &[u8], table: &mut [u32])
+    requires { ⌜ Countable (netlist (now mapped)) ⌝ }
+    requires { ⌜ now table ≡ replicate tableSize 0 ⌝ }
+    ensures { λ _. ⌜ now (table .exit) ≡ tableOf (netlist (now (mapped .entry))) ⌝ }
+{
+    let m = netlist::record_count(mapped);
+    let mut k: usize = 0;
+    while k < m {
+        let r = record_reader::read_at(mapped, k);
+        let x = index_of(r);
+        table[x] += 1;
+        k += 1;
+    }
 }
 
 // How many levels have a line.

@@ -6,18 +6,22 @@ ghost use Rattle.facts.specs.Areas.{onto, put};
 ghost use Rattle.netlist.specs.Records.{netlist};
 ghost use Rattle.level_sheet.specs.Text.{sheetOf, sheetText, textLimit};
 ghost use Rattle.level_sheet.specs.PrivateTable.{Countable};
-use counting::CELLS;
 use counting::LEVELS;
+use counting::TABLE_SIZE;
 use facts::Checked;
 use netlist::Capacities;
 
 mod counting;
 mod writing;
 
-// The most bytes of a line, and room for a line of each level and the last line.
-const LINE: usize = 30;
+// The most bytes of a mapped file.
+pub const FILE_LIMIT: usize = 60000;
 
-pub const TEXT: usize = LINE * (LEVELS + 1);
+// The most bytes of a line.
+const LINE_LIMIT: usize = 30;
+
+// Room for a line of each level and the last line.
+pub const TEXT_LIMIT: usize = LINE_LIMIT * (LEVELS + 1);
 
 // The sheet of a netlist, from the start of the text on. Answers its length.
 fn put_sheet(mapped: &[u8], text: &mut [u8]) -> usize
@@ -26,8 +30,8 @@ fn put_sheet(mapped: &[u8], text: &mut [u8]) -> usize
     ensures { λ r. ⌜ r ≡ length (sheetOf (netlist (now (mapped .entry)))) ⌝ }
     ensures { λ _. ⌜ now (text .exit) ≡ put (now (text .entry)) 0 (sheetOf (netlist (now (mapped .entry)))) ⌝ }
 {
-    let mut table = [0u32; CELLS];
-    counting::count_records(mapped, netlist::record_count(mapped), &mut table);
+    let mut table = [0u32; TABLE_SIZE];
+    counting::count_records(mapped, &mut table);
     let at = writing::put_levels(&table, counting::line_count(mapped), text);
     let totals = counting::count_sorts(mapped);
     writing::put_sum(&totals, text, at)

@@ -14,6 +14,9 @@ const SPACE: u8 = 32;
 
 const LINE_END: u8 = 10;
 
+// Bytes of the word sum.
+const SUM_LENGTH: usize = 3;
+
 // The most digits of a number of 64 bits.
 const DIGITS: usize = 20;
 
@@ -88,8 +91,9 @@ fn put_sum_word(text: &mut [u8], at: usize) -> usize
     ensures { λ r. ⌜ r ≡ at + length sumWord ⌝ }
     ensures { λ _. ⌜ now (text .exit) ≡ put (now (text .entry)) at sumWord ⌝ }
 {
-    facts::copy(b"sum", &mut text[at..at + 3]);
-    at + 3
+    let end = at + SUM_LENGTH;
+    facts::copy(b"sum", &mut text[at..end]);
+    end
 }
 
 // The last line: the word sum and the totals. Answers where it ends.

@@ -23,7 +23,7 @@ use Rattle.facts.proofs.Sums.{any-none}
 use Rattle.facts.proofs.Reflect.{check-passed, then-passed, or-none, most-none, side-is}
 use Rattle.facts.proofs.Loops.{Seeking, seek-start, seek-more, seek-here, seek-end}
 use Rattle.netlist.specs.declared.Record.{Record}
-use Rattle.netlist.specs.Kinds.{width, slots, unused, topLevel, sourceLimit, input, and, majority, output, arities, arity, isGate, invertible}
+use Rattle.netlist.specs.Kinds.{width, slots, unused, topLevel, sourceLimit, input, and, majority, output, buffer, arities, arity, isGate, invertible}
 use Rattle.netlist.specs.Records.{Netlist, netlist, recordCount, recordBytes, recordAt, slot, isOutput, depth}
 use Rattle.netlist.specs.Checks.{ragged, tooMany, badLevel, sizeChecks, badKind, badInversion, badSlot, badSlots, notBelow, misplaced, structureOf, levelOf, recordChecks, sourceChecks}
 use Rattle.netlist.specs.View.{viewOf}
@@ -49,7 +49,7 @@ invertible-slots kind = go (isGate kind)
     go true = arity-slots kind
     go false = omega arith
 
--- a kind that is no gate uses at most one slot, a gate at least two, and a kind of a source that is no input at least one
+-- a kind that is no gate uses at most one slot, a gate at least two, and a kind that is no input at least one
 several : ℕ → Bool
 several kind = not (isGate kind) && ltb 1 (arity kind)
 
@@ -74,9 +74,9 @@ gate-arity kind g is f =
     let h = any-none single 6 .0 refl kind (omega arith) in
     omega (arith, ltb-false (arity kind) 2 (rw (← is, f) at h))
 
-pub source-arity : (kind : ℕ) → (kind ≡ input → ⊥) → kind ≤ output → 0 < arity kind
+pub fanin-arity : (kind : ℕ) → (kind ≡ input → ⊥) → kind ≤ buffer → 0 < arity kind
 unfolding any none
-source-arity kind o l =
+fanin-arity kind o l =
     let h = any-none none 6 .0 refl kind (omega arith) in
     omega (arith, ltb-false (arity kind) 1 (rw (ne-eqb kind input o) at h))
 

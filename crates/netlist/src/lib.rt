@@ -166,7 +166,7 @@ pub fn slot_at(bytes: &[u8], k: usize, j: usize) -> u16
 }
 
 // How many records are of the kinds from the first to the last of a range.
-pub fn count_kinds(bytes: &[u8], first: u8, last: u8) -> usize
+fn count_kinds(bytes: &[u8], first: u8, last: u8) -> usize
     ensures { λ r. ⌜ r ≡ countKind (netlist (now (bytes .entry))) (among first last) ⌝ }
 {
     let n = record_count(bytes);

@@ -21,7 +21,7 @@ use Rattle.netlist.specs.declared.Record.{Record}
 use Rattle.netlist.specs.Kinds.{slots, unused, sourceLimit, input, arity, isGate}
 use Rattle.netlist.specs.Records.{Netlist, slot, used, fanin}
 use Rattle.netlist.specs.Source.{IsSource}
-use Rattle.netlist.proofs.Checks.{other-arity, gate-arity, source-arity}
+use Rattle.netlist.proofs.Checks.{other-arity, gate-arity, fanin-arity}
 use Rattle.nets.specs.PrivateChains.{slotEnd, usedSlot, faninSlot, namesSlot, nextSink, Emptied, AllUnused, Linked, Chained}
 
 -- what holds only where p does is counted nowhere on the way to the first p
@@ -257,7 +257,7 @@ module _ (n : Netlist) (i : ℕ) (first next : List ℕ) (s : IsSource n) (l : i
 
   -- all but inputs use slot 0
   pub first-used : (r .kind ≡ input → ⊥) → 0 < arity (r .kind)
-  first-used o = source-arity (r .kind) o (omega (arith, s .kinds i l, ap (λ (r : Record). r .kind) q))
+  first-used o = fanin-arity (r .kind) o (omega (arith, s .kinds i l, ap (λ (r : Record). r .kind) q))
 
   -- an input: slot 0 too
   pub first-unused : r .kind ≡ input → Linked n first next (slots * i + 1) → Linked n first next (slots * i)

@@ -12,10 +12,10 @@ use netlist::Capacities;
 // One record more than the longest source.
 const SOURCE_READ: usize = netlist::WIDTH * (netlist::SOURCE_LIMIT + 1);
 
-// One byte more than a mapped file may have: a file of so many is refused by 11.
-const MAPPED_READ: usize = 60001;
+// One byte more than a mapped file may have, which is no whole number of records.
+const MAPPED_READ: usize = level_sheet::FILE_LIMIT + 1;
 
-// The first bytes of a file; none where it cannot be opened or read.
+// The first bytes of a file; none where it cannot be opened, or read from its start.
 fn read_file(name: &[u8], bytes: &mut [u8]) -> usize
     ensures { λ r. ⌜ Counts r (now (bytes .exit)) ⌝ }
 {
@@ -55,7 +55,7 @@ fn main() {
     let mut s = [0u8; 1];
     let mut source = [0u8; SOURCE_READ];
     let mut mapped = [0u8; MAPPED_READ];
-    let mut text = [0u8; level_sheet::TEXT];
+    let mut text = [0u8; level_sheet::TEXT_LIMIT];
     let a = read_file(b"s", &mut s);
     let n = read_file(b"source", &mut source);
     let m = read_file(b"mapped", &mut mapped);

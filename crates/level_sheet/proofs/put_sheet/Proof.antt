@@ -4,9 +4,6 @@ use Rattle.level_sheet.proofs.Sheets.{lines-fit, sum-room, sheet-end, s
 use Rattle.level_sheet.proofs.put_sheet.Statement.{statement}
 use Rattle.level_sheet.proofs.put_sheet.Tie as tie
 
-record-count-requires : tie.Need-record-count-requires
-record-count-requires c κs = search needs
-
 slice-aggregate-count-records : tie.Need-slice-aggregate-count-records
 slice-aggregate-count-records c = search needs
 
@@ -41,7 +38,6 @@ pub put-sheet-spec : {M : Type 1} → statement M
 put-sheet-spec =
     tie.close
     (tie.spec
-    record-count-requires
     slice-aggregate-count-records
     count-records-requires
     slice-aggregate-put-levels

@@ -2,7 +2,6 @@
 use Prim.Native.Nat.{_-_}
 use borrow.Author.Needs.{needs}
 use Rattle.level_sheet.proofs.Lines.{Putting, putting-start, putting-same, number-room, putting-more, end-inside, end-fits, line-ends, line-put}
-use Prim.Native.Nat.{_-_}
 use Rattle.level_sheet.proofs.writing.put_numbers.Statement.{statement}
 use Rattle.level_sheet.proofs.writing.put_numbers.Tie as tie
 

@@ -4,11 +4,11 @@ use Rattle.level_sheet.proofs.Lines.{sum-word-put}
 use Rattle.level_sheet.proofs.writing.put_sum_word.Statement.{statement}
 use Rattle.level_sheet.proofs.writing.put_sum_word.Tie as tie
 
+add-end : tie.Need-add-end
+add-end c = search needs
+
 slice-aggregate-copy : tie.Need-slice-aggregate-copy
 slice-aggregate-copy c = search needs
-
-add-copy : tie.Need-add-copy
-add-copy c = search needs
 
 sub-copy : tie.Need-sub-copy
 sub-copy c = search needs
@@ -22,9 +22,6 @@ part-copy-end c = search needs
 copy-requires : tie.Need-copy-requires
 copy-requires c κs = search needs
 
-add-result : tie.Need-add-result
-add-result c = search needs
-
 same-length : tie.Need-same-length
 same-length c = search needs
 
@@ -35,12 +32,11 @@ pub put-sum-word-spec : {M : Type 1} → statement M
 put-sum-word-spec =
     tie.close
     (tie.spec
+    add-end
     slice-aggregate-copy
-    add-copy
     sub-copy
     part-copy-start
     part-copy-end
     copy-requires
-    add-result
     same-length
     returns)
