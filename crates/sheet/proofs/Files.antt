@@ -13,6 +13,14 @@ pub no-first : (bytes : List ℕ) → length bytes ≡ 0 → 0 ≡ getD bytes 0 
 no-first [] e = refl
 no-first (x ∷ bytes) e = absurd (omega arith)
 
+-- bytes at the start of an area, and how many they are
+module _ (bytes old new : List ℕ) (end : ℕ) (f : end ≡ length bytes) (g : new ≡ onto bytes old) where
+  inside : end ≤ length new
+  inside = omega (arith, ap length g, length-append bytes (drop (length bytes) old))
+
+  counted : end ≡ length (take end new)
+  counted = f ∙ sym (ap length (ap (take end) g ∙ take-at bytes (drop (length bytes) old) end (sym f)))
+
 module _ (s source mapped old new : List ℕ) (capacity end : ℕ) (e : capacity ≡ getD s 0 0)
     (f : end ≡ length (sheetText source (capacitiesOf capacity) mapped)) (g : new ≡ onto (sheetText source (capacitiesOf capacity) mapped) old) where
   text-is : sheetText source (capacitiesOf capacity) mapped ≡ sheetText source (capacitiesOf (getD s 0 0)) mapped
@@ -25,7 +33,7 @@ module _ (s source mapped old new : List ℕ) (capacity end : ℕ) (e : capacity
   printed-onto = g ∙ ap (λ (l : List ℕ). onto l old) text-is
 
   pub printed-inside : end ≤ length new
-  printed-inside = omega (arith, f, ap length g, length-append (sheetText source (capacitiesOf capacity) mapped) (drop (length (sheetText source (capacitiesOf capacity) mapped)) old))
+  printed-inside = inside (sheetText source (capacitiesOf capacity) mapped) old new end f g
 
   pub printed-count : end ≡ length (take end new)
-  printed-count = f ∙ ap length (sym (take-at (sheetText source (capacitiesOf capacity) mapped) (drop (length (sheetText source (capacitiesOf capacity) mapped)) old) end (sym f))) ∙ ap (λ (l : List ℕ). length (take end l)) (sym g)
+  printed-count = counted (sheetText source (capacitiesOf capacity) mapped) old new end f g
