@@ -1,4 +1,5 @@
-//! The program `sheet`: what it prints of the three files in its working directory.
+//! The program `sheet` (specification 7.2): what it prints of the three files in its working
+//! directory.
 
 use std::fmt::Display;
 
@@ -33,7 +34,7 @@ fn line(first: impl Display, records: &[Record]) -> String {
 }
 
 /// A line for each level up to the highest, then the totals.
-fn lines(records: &[Record]) -> String {
+pub fn lines(records: &[Record]) -> String {
     let levels = records.iter().map(|record| record.level + 1).max().unwrap_or(0);
     let mut text = String::new();
     for level in 0..levels {

@@ -7,7 +7,7 @@ use reference::files::{files_by_seed, File};
 use reference::mapper::mapping;
 use reference::record::*;
 use reference::shapes;
-use reference::sheet::sheet;
+use reference::sheet::{lines, sheet};
 use reference::verifier::verify;
 
 const WORKED: &str = "0 2 0 0 0\n1 0 0 2 0\n2 0 1 1 0\n3 0 0 0 2\nsum 2 1 3 2\n";
@@ -47,6 +47,15 @@ fn empty_files() {
         assert_eq!(sheet(&[s], &source, &[]), "11 0\n");
         assert_eq!(sheet(&[s], &[], &mapped), "13 0\n");
     }
+}
+
+/// Four zeros; of such a netlist the program prints a refusal.
+#[test]
+fn level_without_records() {
+    let input = shapes::inputs(1);
+    let records = [&input[..], &[Record::buffer(2, 0)]].concat();
+    assert_eq!(lines(&records), "0 1 0 0 0\n1 0 0 0 0\n2 0 0 1 0\nsum 1 0 1 0\n");
+    assert_eq!(sheet(&[2], &encode(&input), &encode(&records)), "15 1\n");
 }
 
 /// The worked case changed for each number from 4 on, with its place.
