@@ -17,7 +17,7 @@ use Rattle.level_sheet.specs.PrivateTable.{tableLine, LinesFit}
 
 -- a space and a number
 module _ (n : ℕ) (text : List ℕ) (at : ℕ) (room : at + length (spaced n) ≤ length text) where
-  pub space-inside : at < length text
+  space-inside : at < length text
   space-inside = omega arith
 
   pub behind-space : at + 1 + length (decimal n) ≤ length (set text at space)
@@ -141,7 +141,7 @@ module _ (word tail text : List ℕ) (at : ℕ) (room : at + length (word ++ tai
 pub sum-word-put : (text part : List ℕ) (at : ℕ) → part ≡ sumWord → take at text ++ (part ++ drop (at + 3 - at) (drop at text)) ≡ put text at sumWord
 sum-word-put text part at e = part-back text part sumWord at 3 e refl
 
--- the lines of the levels below one are put
+-- the lines of the levels below `level` are put
 pub record PuttingLevels (table : List ℕ) (lines : ℕ) (old text : List ℕ) (at level : ℕ) : Type 0 where
   pub within : level ≤ lines
   pub fit : LinesFit table lines old

@@ -92,7 +92,7 @@ all-counted source caps mapped buffers e =
       sum-const 1 (m .size),
     )
 
--- a record that stands above a level has one below it: its fanin, then its fanin's, down to that level
+-- where a record stands at a level or above it, one stands at that level: the record, its fanin, its fanin's fanin, and so on
 reached : (m : Netlist) → Countable m → Named m → PathBalanced m → (level gap k : ℕ) → k < m .size → m .at k .level ≡ level + gap →
     (i : ℕ) × (i < m .size) × (m .at i .level ≡ level)
 reached m c named p level zero k l e = (k, l, omega arith)

@@ -56,7 +56,7 @@ module _ (kind : ℕ) (gate : Bool) (h : kind ≡ input → ⊥) (e : gate ≡ i
   pub output-column : gate ≡ false → (kind ≡ buffer → ⊥) → 3 ≡ columnOf kind
   output-column t f = rw (ne-eqb kind input h, ← e, t, ne-eqb kind buffer f)
 
--- a record up to the highest level has an entry
+-- a record at a level of at most 4,095 has an entry
 module _ (r : Record) (l : r .level ≤ topLevel) (level column : ℕ) (f : level ≡ r .level) (e : column ≡ columnOf (r .kind)) where
   pub index-fits : columns * level + column < 2 ^ 64
   index-fits = omega (arith, column-inside (r .kind))

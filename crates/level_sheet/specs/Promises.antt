@@ -40,7 +40,7 @@ AllCounted =
     verifyAnswer source caps mapped ≡ Buffers buffers →
     sum (λ column. getD (totals (netlist mapped)) column 0) columns ≡ recordCount mapped
 
--- and no line has zeros in every column
+-- where the verifier accepts, no line has zeros in every column
 abbrev pub NoEmptyLine : Type 0
 NoEmptyLine =
     (source : List ℕ) (caps : Capacities) (mapped : List ℕ) (buffers level : ℕ) →
@@ -70,9 +70,9 @@ fileLimit = 60000
 abbrev pub partRead : List ℕ → List ℕ
 partRead file = take (suc fileLimit) file
 
--- what is printed of a part that is read
+-- what is printed of the part of a mapped file that is read
 pub record FileJudged : Type 0 where
-  -- of a longer file: 11, where 1 to 7 pass
+  -- of a file of more than 60,000 bytes: 11, where 1 to 7 pass
   pub long : (source : List ℕ) (caps : Capacities) (file : List ℕ) → fileLimit < length file →
       inputChecks source caps ≡ Passed → sheetText source caps (partRead file) ≡ refusalLine 11 0
   -- and else the first of these

@@ -21,7 +21,7 @@ space = 32
 abbrev pub lineEnd : ℕ
 lineEnd = 10
 
--- a number in decimal; of one with more digits than so many, its last ones
+-- the last digits of a number in decimal, as many as the first argument allows
 unfoldable pub decimalIn : ℕ → ℕ → List ℕ
 decimalIn zero n = []
 decimalIn (suc most) n =

@@ -1,4 +1,4 @@
-// The program `sheet`: the files s, source and mapped of the working directory; the mapped netlist's sheet by level goes to standard output.
+// The program `sheet`: the files s, source and mapped of the working directory; the mapped netlist's sheet by level, or the verifier's refusal, goes to standard output.
 ghost use mathlib.Core.Path.{_≡_};
 ghost use Prim.Native.Nat.{_≤_};
 ghost use lib.ListN.{length, getD};

@@ -220,7 +220,7 @@ fn lines_and_totals() {
 }
 
 /// What the files by seed promise: every number of the verifier, and each of the three files
-/// missing, unreadable, empty, as long as it may be, and longer than what is read.
+/// missing, unreadable, empty, as long as it may be, and longer (a source: than what is read).
 #[test]
 fn files_meet_every_number() {
     let mut met: BTreeMap<String, usize> = BTreeMap::new();

@@ -1,4 +1,4 @@
--- `put_levels` meets its contract: the lines of the levels below one are put.
+-- `put_levels` meets its contract: the lines of the levels below `level` are put.
 use Prim.Native.Nat.{_-_}
 use borrow.Author.Needs.{needs}
 use Rattle.level_sheet.proofs.Lines.{PuttingLevels, levels-start, levels-same, level-fits, row-fits, row-inside, row-end-fits, level-room, levels-more, levels-end, levels-put}
