@@ -66,12 +66,12 @@ static void chains(size_t pairs) {
 }
 
 static uint32_t map(void) {
-    uint32_t returned = aqfp_map(source, WIDTH * records, 2, mapped, sizeof mapped, answer);
+    uint32_t returned = aqfp_map(source, WIDTH * records, 2, 1, mapped, sizeof mapped, answer);
     mapped_records = answer[8] + 256u * answer[9];
     return returned;
 }
 static uint32_t count(void) {
-    return aqfp_count(source, WIDTH * records, 2, 0, answer);
+    return aqfp_count(source, WIDTH * records, 2, 1, 0, answer);
 }
 /* The longest list, the records in turns. */
 static uint32_t count_nets(void) {
@@ -79,26 +79,26 @@ static uint32_t count_nets(void) {
         list[2 * k] = k % records & 255;
         list[2 * k + 1] = k % records >> 8;
     }
-    return aqfp_count_nets(source, WIDTH * records, 2, list, sizeof list, counts, sizeof counts, answer);
+    return aqfp_count_nets(source, WIDTH * records, 2, 1, list, sizeof list, counts, sizeof counts, answer);
 }
 static uint32_t levels(void) {
     return aqfp_levels(source, WIDTH * records, 2, levelled, WIDTH * records, answer);
 }
 static uint32_t verify(void) {
-    return aqfp_verify(source, WIDTH * records, 2, mapped, WIDTH * mapped_records, answer);
+    return aqfp_verify(source, WIDTH * records, 2, 1, mapped, WIDTH * mapped_records, answer);
 }
 static uint32_t strip(void) {
-    return aqfp_strip(2, mapped, WIDTH * mapped_records, stripped, sizeof stripped, answer);
+    return aqfp_strip(2, 1, mapped, WIDTH * mapped_records, stripped, sizeof stripped, answer);
 }
 static uint32_t evaluate(void) {
     return aqfp_evaluate(source, WIDTH * records, rows, inputs, values, records, answer);
 }
 static uint32_t step(void) {
-    return aqfp_step(source, WIDTH * records, 2, mapped, WIDTH * mapped_records, rows, inputs, state,
+    return aqfp_step(source, WIDTH * records, 2, 1, mapped, WIDTH * mapped_records, rows, inputs, state,
                      2 * mapped_records, answer);
 }
 static uint32_t run(void) {
-    return aqfp_run(source, WIDTH * records, 2, mapped, WIDTH * mapped_records, 1, rows, inputs, state,
+    return aqfp_run(source, WIDTH * records, 2, 1, mapped, WIDTH * mapped_records, 1, rows, inputs, state,
                     2 * mapped_records, outputs, output_count, answer);
 }
 

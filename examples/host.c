@@ -1,7 +1,8 @@
 /* A small host: works out the least levels of the netlist of a file, maps the netlist, verifies what
  * was written, strips it again, runs four rows of inputs through it, and prints what it got.
  *
- *   host FILE     one byte for the capacity, then the source (examples/case.bin is such a file)
+ *   host FILE     one byte for the capacity, two for the input capacity, low byte first, then the
+ *                 source (examples/case.bin is such a file); a missing byte counts as 0
  */
 
 #include <stdio.h>
@@ -9,9 +10,9 @@
 
 #include "aqfp.h"
 
-enum { RECORD = 10, MAX_SOURCE = 4096, MAX_MAPPED = 60000, ROWS = 4 };
+enum { HEAD = 3, RECORD = 10, MAX_SOURCE = 4096, MAX_MAPPED = 60000, ROWS = 4 };
 
-static uint8_t file[1 + RECORD * (MAX_SOURCE + 1)];
+static uint8_t file[HEAD + RECORD * (MAX_SOURCE + 1)];
 static uint8_t levelled[RECORD * (MAX_SOURCE + 1)];
 static uint8_t mapped[RECORD * MAX_MAPPED];
 static uint8_t stripped[RECORD * MAX_SOURCE];
@@ -72,9 +73,9 @@ static void print_row(const char *name, const uint8_t *row, size_t len)
 int main(int argc, char **argv)
 {
     uint8_t answer[28];
-    const uint8_t *source = file + 1;
+    const uint8_t *source = file + HEAD;
     size_t len, source_len, mapped_len, m, t, k, inputs, output_count;
-    uint32_t capacity;
+    uint32_t capacity, input_capacity;
     FILE *in;
 
     if (argc != 2 || (in = fopen(argv[1], "rb")) == NULL) {
@@ -83,8 +84,9 @@ int main(int argc, char **argv)
     }
     len = fread(file, 1, sizeof file, in);
     fclose(in);
-    capacity = len > 0 ? file[0] : 0;
-    source_len = len > 0 ? len - 1 : 0;
+    capacity = file[0];
+    input_capacity = file[1] | (uint32_t)file[2] << 8;
+    source_len = len > HEAD ? len - HEAD : 0;
 
     /* A netlist without levels is mapped in the copy that this writes. */
     aqfp_levels(source, source_len, capacity, levelled, source_len, answer);
@@ -93,7 +95,7 @@ int main(int argc, char **argv)
         return 1;
     print_records(levelled, source_len / RECORD);
 
-    aqfp_map(source, source_len, capacity, mapped, sizeof mapped, answer);
+    aqfp_map(source, source_len, capacity, input_capacity, mapped, sizeof mapped, answer);
     print_numbers("map", answer, 7);
     if (number(answer, 0) != 0)
         return 1;
@@ -101,13 +103,13 @@ int main(int argc, char **argv)
     mapped_len = RECORD * m;
     print_records(mapped, m);
 
-    aqfp_verify(source, source_len, capacity, mapped, mapped_len, answer);
+    aqfp_verify(source, source_len, capacity, input_capacity, mapped, mapped_len, answer);
     print_numbers("verify", answer, 3);
     if (number(answer, 0) != 0)
         return 1;
 
     /* A mapped netlist, whoever wrote it, gives back the source that it came from. */
-    aqfp_strip(capacity, mapped, mapped_len, stripped, sizeof stripped, answer);
+    aqfp_strip(capacity, input_capacity, mapped, mapped_len, stripped, sizeof stripped, answer);
     print_numbers("strip", answer, 3);
     if (number(answer, 0) != 0 || RECORD * number(answer, 2) != source_len
         || memcmp(stripped, source, source_len) != 0)
@@ -119,8 +121,8 @@ int main(int argc, char **argv)
     for (t = 0; t < ROWS; t++)
         for (k = 0; k < inputs; k++)
             rows[t * inputs + k] = (uint8_t)(t >> (k % 2) & 1);
-    aqfp_run(source, source_len, capacity, mapped, mapped_len, ROWS, rows, ROWS * inputs,
-             state, 2 * m, outputs, ROWS * output_count, answer);
+    aqfp_run(source, source_len, capacity, input_capacity, mapped, mapped_len, ROWS, rows,
+             ROWS * inputs, state, 2 * m, outputs, ROWS * output_count, answer);
     print_numbers("run", answer, 2);
     if (number(answer, 0) != 0)
         return 1;

@@ -35,7 +35,8 @@
  * A source has N records, at most 4,096. A mapped netlist has M records, at most 60,000; its
  * first N are the source's with other fanins, the rest are buffers. Both may be empty. D is the
  * level of the outputs, or 0 if there are none. The capacity s, the most slots that a buffer
- * feeds, is 2, 3 or 4; an input or a gate feeds at most one slot.
+ * feeds, is 2, 3 or 4; the input capacity b, the most slots that an input feeds, is from 1 to
+ * 4,095; a gate feeds at most one slot.
  *
  *
  * AREAS
@@ -69,9 +70,10 @@
  *   number  condition                                                             place
  *
  *        1  capacity not 2, 3 or 4                                                0
+ *       26  input_capacity 0 or above 4,095                                       0
  *
  *       24  a mapped netlist for which no source exists that aqfp_verify accepts  0
- *           with it and the capacity
+ *           with it and both capacities
  *       25  a source area shorter than that source                                0
  *
  *        2  source length not a multiple of 10                                    0
@@ -106,8 +108,8 @@
  *       16  a used slot of a source record that, traced back through buffers      record
  *           to an input or gate, ends elsewhere than at the fanin that the
  *           source names, records in turn
- *       17  an input or gate that feeds more than one slot, or a buffer that      record
- *           feeds more than s, records in turn
+ *       17  an input that feeds more than b slots, a gate that feeds more than    record
+ *           one, or a buffer that feeds more than s, records in turn
  *
  *       18  more than 10,000 rows, or an area of another length than the call     0
  *           says
@@ -141,59 +143,59 @@ extern "C" {
 
 /* Writes the mapped netlist of a source with the fewest buffers.
  *
- * In:       source; capacity.
+ * In:       source; capacity; input_capacity.
  * Out:      mapped, whose first 10 x M bytes are written and whose other bytes stay. Source
  *           records keep their indices; then come buffers by driver, then by distance from it
  *           rising. A mapped area of 600,000 bytes is always enough.
  * Answer:   number, place, M, buffers, D, Josephson junctions (6 a gate, 2 a buffer), share of
  *           the buffers in them (percent, rounded to the nearest whole number, an exact half to
  *           the even one: 12.5 gives 12, 13.5 gives 14; 0 if there are no junctions).
- * Checks:   1 to 10.
+ * Checks:   1, 26, 2 to 10.
  * Refused:  mapped stays as it was.
  */
 uint32_t aqfp_map(const uint8_t *source, size_t source_len,
-                  uint32_t capacity,
+                  uint32_t capacity, uint32_t input_capacity,
                   uint8_t *mapped, size_t mapped_len,
                   uint8_t answer[28]);
 
 /* Counts the fewest buffers of the net of one driver, an input or a gate.
  *
- * In:       source; capacity; record, the driver's index.
+ * In:       source; capacity; input_capacity; record, the driver's index.
  * Answer:   number, place, fewest buffers of any legal tree of that net. 4294967295 says that the
  *           net has no tree; this is no refusal.
- * Checks:   1 to 7, 20.
+ * Checks:   1, 26, 2 to 7, 20.
  */
 uint32_t aqfp_count(const uint8_t *source, size_t source_len,
-                    uint32_t capacity,
+                    uint32_t capacity, uint32_t input_capacity,
                     uint32_t record,
                     uint8_t answer[12]);
 
 /* Counts the fewest buffers of the nets of a list of drivers, each as aqfp_count does.
  *
- * In:       source; capacity; records, the drivers' indices, two bytes each, low byte first: at
- *           most 65,535, in any order; an index may be listed again.
+ * In:       source; capacity; input_capacity; records, the drivers' indices, two bytes each, low
+ *           byte first: at most 65,535, in any order; an index may be listed again.
  * Out:      counts, four bytes for each index, low byte first, in the order of records: the fewest
  *           buffers of any legal tree of that net. 4294967295 says that the net has no tree; this
  *           is no refusal.
  * Answer:   number, place.
- * Checks:   1 to 7, 21, 20 (place: the position in records, from 0).
+ * Checks:   1, 26, 2 to 7, 21, 20 (place: the position in records, from 0).
  * Refused:  counts stay as they were.
  */
 uint32_t aqfp_count_nets(const uint8_t *source, size_t source_len,
-                         uint32_t capacity,
+                         uint32_t capacity, uint32_t input_capacity,
                          const uint8_t *records, size_t records_len,
                          uint8_t *counts, size_t counts_len,
                          uint8_t answer[8]);
 
 /* Judges a mapped netlist, whoever wrote it: accepted exactly if it is legal for the source and
- * the capacity. Buffers may stand in any order, feed nothing, and stand above D.
+ * both capacities. Buffers may stand in any order, feed nothing, and stand above D.
  *
- * In:       source; capacity; mapped.
+ * In:       source; capacity; input_capacity; mapped.
  * Answer:   number, place, buffers.
- * Checks:   1 to 7, 11 to 17.
+ * Checks:   1, 26, 2 to 7, 11 to 17.
  */
 uint32_t aqfp_verify(const uint8_t *source, size_t source_len,
-                     uint32_t capacity,
+                     uint32_t capacity, uint32_t input_capacity,
                      const uint8_t *mapped, size_t mapped_len,
                      uint8_t answer[12]);
 
@@ -214,19 +216,20 @@ uint32_t aqfp_evaluate(const uint8_t *source, size_t source_len,
  * takes its byte of the step's row, 0 once the rows are spent; every other record takes its
  * function of what its fanins held one step before. Steps 0 to R + D - 1 are run, none if R is 0.
  *
- * In:       source; capacity; mapped; row_count, R, at most 10,000; rows, R rows of one byte 0 or
- *           1 for each input in index order. What state and outputs hold is not read.
+ * In:       source; capacity; input_capacity; mapped; row_count, R, at most 10,000; rows, R rows
+ *           of one byte 0 or 1 for each input in index order. What state and outputs hold is not
+ *           read.
  * Out:      outputs, R rows of one byte for each output in index order: row t holds the outputs of
  *           step t + D, which are plain logic's for row t. state, of 2 x M bytes: the first M are
  *           the last step's values, the next M those of the step before, 0 where no such step was
  *           run.
  * Answer:   number, place.
- * Checks:   1 to 7, 11 to 17, 18 (R above 10,000, rows not R x inputs bytes, outputs not
+ * Checks:   1, 26, 2 to 7, 11 to 17, 18 (R above 10,000, rows not R x inputs bytes, outputs not
  *           R x outputs bytes, state not 2 x M bytes), 19.
  * Refused:  state and outputs stay as they were.
  */
 uint32_t aqfp_run(const uint8_t *source, size_t source_len,
-                  uint32_t capacity,
+                  uint32_t capacity, uint32_t input_capacity,
                   const uint8_t *mapped, size_t mapped_len,
                   uint32_t row_count,
                   const uint8_t *rows, size_t rows_len,
@@ -236,17 +239,18 @@ uint32_t aqfp_run(const uint8_t *source, size_t source_len,
 
 /* Runs a mapped netlist by one step of aqfp_run.
  *
- * In:       source; capacity; mapped; row, one byte 0 or 1 for each input in index order; state,
- *           of 2 x M bytes, whose first M are what every record holds before the step. Any byte
- *           but 0 counts as 1; the next M are not read.
+ * In:       source; capacity; input_capacity; mapped; row, one byte 0 or 1 for each input in index
+ *           order; state, of 2 x M bytes, whose first M are what every record holds before the
+ *           step. Any byte but 0 counts as 1; the next M are not read.
  * Out:      state: the first M bytes are every record's new value, the next M the values before
  *           the step as 0 or 1.
  * Answer:   number, place.
- * Checks:   1 to 7, 11 to 17, 18 (row not one byte for each input, state not 2 x M bytes), 19.
+ * Checks:   1, 26, 2 to 7, 11 to 17, 18 (row not one byte for each input, state not 2 x M
+ *           bytes), 19.
  * Refused:  state stays as it was; no step is made.
  */
 uint32_t aqfp_step(const uint8_t *source, size_t source_len,
-                   uint32_t capacity,
+                   uint32_t capacity, uint32_t input_capacity,
                    const uint8_t *mapped, size_t mapped_len,
                    const uint8_t *row, size_t row_len,
                    uint8_t *state, size_t state_len,
@@ -261,8 +265,8 @@ uint32_t aqfp_step(const uint8_t *source, size_t source_len,
  *
  * In:       source, whose own levels are not looked at and may be anything; capacity.
  * Out:      levelled, an area of its own, exactly as long as source: the source's bytes but for
- *           the level fields. None of 1 to 8 refuses it with the same capacity. It may need more
- *           buffers than 9 allows.
+ *           the level fields. With the same capacity and any input capacity from 1 to 4,095 none
+ *           of 1, 26 and 2 to 8 refuses it. It may need more buffers than 9 allows.
  * Answer:   number, place.
  * Checks:   1 to 6, 22 (place: the first record whose least level, worked out without a bound, is
  *           above 4,095; it may be an output, since all outputs share one level), 23.
@@ -274,20 +278,20 @@ uint32_t aqfp_levels(const uint8_t *source, size_t source_len,
                      uint8_t answer[8]);
 
 /* Writes back the source that a mapped netlist, whoever wrote it, came from: the one source for
- * which aqfp_verify accepts the mapped netlist with this capacity. No two sources have that.
+ * which aqfp_verify accepts the mapped netlist with these capacities. No two sources have that.
  *
  * What aqfp_map wrote comes back as the source that was mapped. Mapping what this call writes,
- * with the same capacity and a mapped area as long as the mapped netlist, is accepted, and gives
+ * with the same capacities and a mapped area as long as the mapped netlist, is accepted, and gives
  * a netlist with no more buffers: in all, on each net and at each level of each net.
  *
- * In:       capacity; mapped, which may be empty.
+ * In:       capacity; input_capacity; mapped, which may be empty.
  * Out:      source, whose first 10 x N bytes are written and whose other bytes stay. An area of
  *           40,960 bytes is always enough.
  * Answer:   number, place, N.
- * Checks:   1, 24 (every fault of mapped, its length included), 25.
+ * Checks:   1, 26, 24 (every fault of mapped, its length included), 25.
  * Refused:  source stays as it was.
  */
-uint32_t aqfp_strip(uint32_t capacity,
+uint32_t aqfp_strip(uint32_t capacity, uint32_t input_capacity,
                     const uint8_t *mapped, size_t mapped_len,
                     uint8_t *source, size_t source_len,
                     uint8_t answer[12]);

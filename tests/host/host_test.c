@@ -18,26 +18,33 @@
 
 enum {
     RECORD = 10, SLOTS = 3, MAX_SOURCE = 4096, MAX_MAPPED = 60000, MAX_LEVEL = 4095, UNUSED = 65535,
-    MAX_ROWS = 10000, MAX_LISTED = 65535
+    MAX_ROWS = 10000, MAX_LISTED = 65535, MAX_INPUT_CAPACITY = 4095
 };
 enum { INPUT, AND, OR, MAJ, OUTPUT, BUFFER };
 
 #define NO_TREE 4294967295u
 
+/* b, which every call with both capacities is handed. */
+static uint32_t input_capacity;
+
 /* ---- counting ---- */
 
 static unsigned long passed, failed, group_start;
 static const char *group;
+static char with[32]; /* the b with which the group began, if it is not 1 */
 
 static void begin(const char *name)
 {
     group = name;
     group_start = passed + failed;
+    with[0] = 0;
+    if (input_capacity != 1)
+        snprintf(with, sizeof with, ", b = %lu", (unsigned long)input_capacity);
 }
 
 static void end(void)
 {
-    printf("%s: %lu compared\n", group, passed + failed - group_start);
+    printf("%s%s: %lu compared\n", group, with, passed + failed - group_start);
 }
 
 static void check(int holds, const char *what)
@@ -48,7 +55,7 @@ static void check(int holds, const char *what)
     }
     failed++;
     if (failed <= 50)
-        printf("FAILED: %s: %s\n", group, what);
+        printf("FAILED: %s%s: %s\n", group, with, what);
 }
 
 /* ---- random numbers by a fixed seed ---- */
@@ -210,7 +217,7 @@ static void do_map(struct bytes source, uint32_t capacity, struct bytes mapped)
     const uint8_t *s = lend(&source_area, source.at, source.len);
     uint8_t *m = lend(&mapped_area, mapped.at, mapped.len);
     uint32_t returned =
-        aqfp_map(s, source.len, capacity, m, mapped.len, lend_answer(28));
+        aqfp_map(s, source.len, capacity, input_capacity, m, mapped.len, lend_answer(28));
     settle("aqfp_map", returned, read, written);
 }
 
@@ -219,7 +226,8 @@ static void do_count(struct bytes source, uint32_t capacity, uint32_t record)
     static struct area *const read[] = { &source_area, NULL };
     static struct area *const written[] = { NULL };
     const uint8_t *s = lend(&source_area, source.at, source.len);
-    uint32_t returned = aqfp_count(s, source.len, capacity, record, lend_answer(12));
+    uint32_t returned =
+        aqfp_count(s, source.len, capacity, input_capacity, record, lend_answer(12));
     settle("aqfp_count", returned, read, written);
 }
 
@@ -231,8 +239,8 @@ static void do_count_nets(struct bytes source, uint32_t capacity, struct bytes r
     const uint8_t *s = lend(&source_area, source.at, source.len);
     const uint8_t *r = lend(&records_area, records.at, records.len);
     uint8_t *c = lend(&counts_area, counts.at, counts.len);
-    uint32_t returned = aqfp_count_nets(s, source.len, capacity, r, records.len, c, counts.len,
-                                        lend_answer(8));
+    uint32_t returned = aqfp_count_nets(s, source.len, capacity, input_capacity, r, records.len, c,
+                                        counts.len, lend_answer(8));
     settle("aqfp_count_nets", returned, read, written);
 }
 
@@ -243,7 +251,7 @@ static void do_verify(struct bytes source, uint32_t capacity, struct bytes mappe
     const uint8_t *s = lend(&source_area, source.at, source.len);
     const uint8_t *m = lend(&mapped_area, mapped.at, mapped.len);
     uint32_t returned =
-        aqfp_verify(s, source.len, capacity, m, mapped.len, lend_answer(12));
+        aqfp_verify(s, source.len, capacity, input_capacity, m, mapped.len, lend_answer(12));
     settle("aqfp_verify", returned, read, written);
 }
 
@@ -270,8 +278,8 @@ static void do_run(struct bytes source, uint32_t capacity, struct bytes mapped, 
     const uint8_t *r = lend(&rows_area, rows.at, rows.len);
     uint8_t *state_at = lend(&state_area, state.at, state.len);
     uint8_t *o = lend(&outputs_area, outputs.at, outputs.len);
-    uint32_t returned = aqfp_run(s, source.len, capacity, m, mapped.len, count, r, rows.len,
-                                 state_at, state.len, o, outputs.len, lend_answer(8));
+    uint32_t returned = aqfp_run(s, source.len, capacity, input_capacity, m, mapped.len, count, r,
+                                 rows.len, state_at, state.len, o, outputs.len, lend_answer(8));
     settle("aqfp_run", returned, read, written);
 }
 
@@ -284,8 +292,8 @@ static void do_step(struct bytes source, uint32_t capacity, struct bytes mapped,
     const uint8_t *m = lend(&mapped_area, mapped.at, mapped.len);
     const uint8_t *r = lend(&rows_area, row.at, row.len);
     uint8_t *state_at = lend(&state_area, state.at, state.len);
-    uint32_t returned = aqfp_step(s, source.len, capacity, m, mapped.len, r, row.len, state_at,
-                                  state.len, lend_answer(8));
+    uint32_t returned = aqfp_step(s, source.len, capacity, input_capacity, m, mapped.len, r,
+                                  row.len, state_at, state.len, lend_answer(8));
     settle("aqfp_step", returned, read, written);
 }
 
@@ -308,7 +316,7 @@ static void do_strip(uint32_t capacity, struct bytes mapped, struct bytes source
     const uint8_t *m = lend(&mapped_area, mapped.at, mapped.len);
     uint8_t *s = lend(&source_area, source.at, source.len);
     uint32_t returned =
-        aqfp_strip(capacity, m, mapped.len, s, source.len, lend_answer(12));
+        aqfp_strip(capacity, input_capacity, m, mapped.len, s, source.len, lend_answer(12));
     settle("aqfp_strip", returned, read, written);
 }
 
@@ -507,6 +515,8 @@ static uint32_t strip_number(struct bytes mapped, uint32_t s, size_t source_len,
     *n = 0;
     if (s < 2 || s > 4)
         return 1;
+    if (input_capacity == 0 || input_capacity > MAX_INPUT_CAPACITY)
+        return 26;
     if (!has_source(mapped, s, n))
         return 24;
     return source_len < RECORD * *n ? 25 : 0;
@@ -757,7 +767,8 @@ static void set_levels(uint8_t *records, size_t len, int any, unsigned level)
 
 /* ---- the worked case ---- */
 
-/* The worked case (specification 8.2) and what the mapper writes for it with capacity 2. */
+/* The worked case (specification 8.2) and what the mapper writes for it with capacity 2 and any
+ * input capacity. */
 static uint8_t worked_source[5 * RECORD], worked_mapped[8 * RECORD];
 static struct bytes worked, worked_out;
 
@@ -895,45 +906,108 @@ static void make_net(const unsigned *distances, size_t count)
         add_and(distances[k], 0, 1);
 }
 
+/* Gate 2 with sinks at the distances, gates that name it once and an input of their own once. */
+static void make_gate_net(const unsigned *distances, size_t count)
+{
+    size_t k;
+    clear();
+    add_input();
+    add_input();
+    add_and(1, 0, 1);
+    for (k = 0; k < count; k++) {
+        add_input();
+        add_and(1 + distances[k], 2, 3 + 2 * (unsigned)k);
+    }
+}
+
+/* A net of specification 8.1: its fewest buffers on an input that may feed b slots, and on a gate. */
+struct net {
+    uint32_t b, s;
+    unsigned distances[5];
+    size_t count;
+    uint32_t fewest, on_gate;
+};
+
+static const struct net nets[] = {
+    { 1, 2, { 0 }, 0, 0, 0 },
+    { 1, 2, { 1 }, 1, 0, 0 },
+    { 1, 2, { 1, 1 }, 2, NO_TREE, NO_TREE },
+    { 1, 2, { 2, 2 }, 2, 1, 1 },
+    { 1, 2, { 2, 2, 2 }, 3, NO_TREE, NO_TREE },
+    { 1, 3, { 2, 2, 2 }, 3, 1, 1 },
+    { 1, 2, { 3, 3, 3 }, 3, 3, 3 },
+    { 1, 2, { 2, 5, 5, 5 }, 4, 5, 5 },
+    { 1, 2, { 1, 2 }, 2, NO_TREE, NO_TREE },
+    { 1, 2, { 2, 3, 3 }, 3, 2, 2 },
+    { 1, 2, { 2, 3, 3, 3 }, 4, NO_TREE, NO_TREE },
+    { 1, 4, { 2, 2, 2, 2, 2 }, 5, NO_TREE, NO_TREE },
+    { 2, 2, { 1, 1 }, 2, 0, NO_TREE },
+    { 2, 2, { 1, 1, 1 }, 3, NO_TREE, NO_TREE },
+    { 2, 2, { 2, 2 }, 2, 1, 1 },
+    { 2, 2, { 2, 2, 2 }, 3, 2, NO_TREE },
+    { 2, 2, { 1, 2 }, 2, 1, NO_TREE },
+    { 2, 2, { 2, 3, 3, 3 }, 4, 4, NO_TREE },
+    { 2, 4, { 2, 2, 2, 2, 2 }, 5, 2, NO_TREE },
+    { 3, 2, { 1, 1, 3 }, 3, 2, NO_TREE }
+};
+
+enum { NETS = sizeof nets / sizeof nets[0] };
+
+/* The net on an input, with its own b. */
+static void hold_input_net(const struct net *net)
+{
+    input_capacity = net->b;
+    make_net(net->distances, net->count);
+    do_count(made(), net->s, 0);
+    check(accepted(net->fewest), "the count of the net");
+    list_len = 0;
+    list_add(1);
+    list_add(0);
+    do_listed(made(), net->s);
+    check(answered(0, 0) && listed(0) == net->fewest && listed(1) == net->fewest,
+          "a list of both inputs, whose nets are alike");
+    do_map(made(), net->s, fill(2000));
+    if (net->fewest == NO_TREE)
+        check(answered(8, 0), "the mapper gives 8 where there is no tree");
+    else
+        check(answered(0, 0) && answer[3] == 2 * net->fewest,
+              "the mapper gives the fewest buffers to each input, whose nets are alike");
+}
+
+/* The net on a gate, with the b at hand. */
+static void hold_gate_net(const struct net *net)
+{
+    uint32_t others = 0;
+    size_t k;
+    for (k = 0; k < net->count; k++)
+        others += net->distances[k];
+    make_gate_net(net->distances, net->count);
+    do_count(made(), net->s, 2);
+    check(accepted(net->on_gate), "the count of the net of a gate");
+    list_len = 0;
+    list_add(0);
+    list_add(2);
+    do_listed(made(), net->s);
+    check(answered(0, 0) && listed(0) == 0 && listed(1) == net->on_gate, "a list with the gate");
+    do_map(made(), net->s, fill(2000));
+    if (net->on_gate == NO_TREE)
+        check(answered(8, 2), "the mapper gives 8 at the gate");
+    else
+        check(answered(0, 0) && answer[3] == net->on_gate + others,
+              "the mapper gives the fewest buffers to the gate");
+}
+
 static void test_count_worked(void)
 {
-    static const struct {
-        uint32_t s;
-        unsigned distances[5];
-        size_t count;
-        uint32_t fewest;
-    } nets[12] = {
-        { 2, { 0 }, 0, 0 },
-        { 2, { 1 }, 1, 0 },
-        { 2, { 1, 1 }, 2, NO_TREE },
-        { 2, { 2, 2 }, 2, 1 },
-        { 2, { 2, 2, 2 }, 3, NO_TREE },
-        { 3, { 2, 2, 2 }, 3, 1 },
-        { 2, { 3, 3, 3 }, 3, 3 },
-        { 2, { 2, 5, 5, 5 }, 4, 5 },
-        { 2, { 1, 2 }, 2, NO_TREE },
-        { 2, { 2, 3, 3 }, 3, 2 },
-        { 2, { 2, 3, 3, 3 }, 4, NO_TREE },
-        { 4, { 2, 2, 2, 2, 2 }, 5, NO_TREE }
-    };
-    size_t k;
-    begin("aqfp_count, P1 to P12");
-    for (k = 0; k < 12; k++) {
-        make_net(nets[k].distances, nets[k].count);
-        do_count(made(), nets[k].s, 0);
-        check(accepted(nets[k].fewest), "the count of the net");
-        list_len = 0;
-        list_add(1);
-        list_add(0);
-        do_listed(made(), nets[k].s);
-        check(answered(0, 0) && listed(0) == nets[k].fewest && listed(1) == nets[k].fewest,
-              "a list of both inputs, whose nets are alike");
-        do_map(made(), nets[k].s, fill(2000));
-        if (nets[k].fewest == NO_TREE)
-            check(answered(8, 0), "the mapper gives 8 where there is no tree");
-        else
-            check(answered(0, 0) && answer[3] == 2 * nets[k].fewest,
-                  "the mapper gives the fewest buffers to each input, whose nets are alike");
+    static const uint32_t others[] = { 1, 2, 3, 4, 255, 256, 4095 };
+    size_t k, j;
+    begin("aqfp_count, P1 to P12 and the nets of inputs that branch");
+    for (k = 0; k < NETS; k++) {
+        hold_input_net(&nets[k]);
+        for (j = 0; j < sizeof others / sizeof others[0]; j++) {
+            input_capacity = others[j];
+            hold_gate_net(&nets[k]);
+        }
     }
     end();
 }
@@ -1467,48 +1541,75 @@ static void refused_everywhere(struct bytes source, uint32_t number, uint32_t pl
     }
 }
 
+/* Calls everything with capacities that are refused, on a source and netlists that may fail other
+ * checks, which come later. */
+static void capacities_refused(struct bytes source, uint32_t capacity, uint32_t number)
+{
+    do_map(source, capacity, fill(80));
+    check(answered(number, 0), "aqfp_map");
+    do_map(source, capacity, fill(0));
+    check(answered(number, 0), "aqfp_map, before 10");
+    do_count(source, capacity, 0);
+    check(answered(number, 0), "aqfp_count");
+    do_count(source, capacity, 65535);
+    check(answered(number, 0), "aqfp_count, before 20");
+    do_count_nets(source, capacity, fill(0), fill(0));
+    check(answered(number, 0), "aqfp_count_nets");
+    do_count_nets(source, capacity, fill(3), fill(5));
+    check(answered(number, 0), "aqfp_count_nets, before 21");
+    do_count_nets(source, capacity, fill(2), fill(4));
+    check(answered(number, 0), "aqfp_count_nets, before 20");
+    do_verify(source, capacity, worked_out);
+    check(answered(number, 0), "aqfp_verify");
+    do_verify(source, capacity, source);
+    check(answered(number, 0), "aqfp_verify, before 15");
+    do_verify(source, capacity, fill(11));
+    check(answered(number, 0), "aqfp_verify, before 11");
+    do_run(source, capacity, worked_out, 0, fill(0), fill(16), fill(0));
+    check(answered(number, 0), "aqfp_run");
+    do_run(source, capacity, worked_out, 99999, fill(2), fill(15), fill(1));
+    check(answered(number, 0), "aqfp_run, before 18 and 19");
+    do_run(source, capacity, fill(11), 0, fill(0), fill(16), fill(0));
+    check(answered(number, 0), "aqfp_run, before 11");
+    do_step(source, capacity, worked_out, fill(2), fill(16));
+    check(answered(number, 0), "aqfp_step, before 19");
+    do_step(source, capacity, worked_out, fill(1), fill(15));
+    check(answered(number, 0), "aqfp_step, before 18");
+    do_step(source, capacity, fill(11), fill(2), fill(16));
+    check(answered(number, 0), "aqfp_step, before 11");
+    do_strip(capacity, source, fill(80));
+    check(answered(number, 0), "aqfp_strip, before 24");
+    do_strip(capacity, source, fill(0));
+    check(answered(number, 0), "aqfp_strip, before 24 and 25");
+    do_strip(capacity, worked_out, fill(80));
+    check(answered(number, 0), "aqfp_strip");
+    do_strip(capacity, worked_out, fill(49));
+    check(answered(number, 0), "aqfp_strip, before 25");
+    do_strip(capacity, worked_out, fill(0));
+    check(answered(number, 0), "aqfp_strip, before 25");
+    do_strip(capacity, fill(0), fill(0));
+    check(answered(number, 0), "aqfp_strip, an empty netlist");
+}
+
 static void test_capacities(void)
 {
     static const uint32_t bad[] = { 0, 1, 5, 6, 256, 258, 65538, 4294967295u };
+    static const uint32_t input_capacities[] = { 1, 2, 4095, 0, 4096, 65537 };
     struct bytes source[2];
-    size_t k, j;
+    size_t k, j, i;
     begin("refusal 1, all calls with a capacity");
     source[0] = worked;
     source[1] = fill(7); /* also fails 2, which comes later */
     for (k = 0; k < sizeof bad / sizeof bad[0]; k++)
         for (j = 0; j < 2; j++) {
-            do_map(source[j], bad[k], fill(80));
-            check(answered(1, 0), "aqfp_map");
-            do_count(source[j], bad[k], 0);
-            check(answered(1, 0), "aqfp_count");
-            do_count_nets(source[j], bad[k], fill(0), fill(0));
-            check(answered(1, 0), "aqfp_count_nets");
-            do_count_nets(source[j], bad[k], fill(3), fill(5));
-            check(answered(1, 0), "aqfp_count_nets, before 21");
-            do_count_nets(source[j], bad[k], fill(2), fill(4));
-            check(answered(1, 0), "aqfp_count_nets, before 20");
-            do_verify(source[j], bad[k], worked_out);
-            check(answered(1, 0), "aqfp_verify");
-            do_run(source[j], bad[k], worked_out, 0, fill(0), fill(16), fill(0));
-            check(answered(1, 0), "aqfp_run");
-            do_step(source[j], bad[k], worked_out, fill(2), fill(16));
-            check(answered(1, 0), "aqfp_step");
+            for (i = 0; i < sizeof input_capacities / sizeof input_capacities[0]; i++) {
+                input_capacity = input_capacities[i]; /* 26 comes later too */
+                capacities_refused(source[j], bad[k], 1);
+            }
             do_levels(source[j], bad[k], fill(source[j].len));
             check(answered(1, 0), "aqfp_levels");
             do_levels(source[j], bad[k], fill(source[j].len + 1));
             check(answered(1, 0), "aqfp_levels, before 23");
-            do_strip(bad[k], source[j], fill(80));
-            check(answered(1, 0), "aqfp_strip, before 24");
-            do_strip(bad[k], source[j], fill(0));
-            check(answered(1, 0), "aqfp_strip, before 24 and 25");
-            do_strip(bad[k], worked_out, fill(80));
-            check(answered(1, 0), "aqfp_strip");
-            do_strip(bad[k], worked_out, fill(49));
-            check(answered(1, 0), "aqfp_strip, before 25");
-            do_strip(bad[k], worked_out, fill(0));
-            check(answered(1, 0), "aqfp_strip, before 25");
-            do_strip(bad[k], fill(0), fill(0));
-            check(answered(1, 0), "aqfp_strip, an empty netlist");
         }
     end();
 }
@@ -2118,11 +2219,19 @@ static void random_list(void)
         list_len--;
 }
 
+/* An input capacity from 1 to 4,095, most often a small one. */
+static uint32_t random_input_capacity(void)
+{
+    return below(8) ? 1 + below(5) : 1 + below(MAX_INPUT_CAPACITY);
+}
+
 static void test_random_bytes(void)
 {
     unsigned long k;
     begin("random bytes as netlists");
-    for (k = 0; k < 40000; k++) {
+    for (k = 0; k < 45000; k++) {
+        if (k >= 40000)
+            input_capacity = random_input_capacity();
         struct bytes source = random_bytes(source_bytes, 60);
         struct bytes mapped = random_bytes(mapped_bytes, 90);
         uint32_t capacity = below(20) ? 2 + below(3) : below(7);
@@ -2310,9 +2419,11 @@ static void test_random_sources(void)
 {
     unsigned long k, mapped_count = 0;
     begin("random sound netlists through all calls");
-    for (k = 0; k < 6000; k++) {
+    for (k = 0; k < 7000; k++) {
         struct bytes source = random_source(), mapped;
         uint32_t capacity = 2 + below(3), buffers, total = 0, driver;
+        if (k >= 6000)
+            input_capacity = random_input_capacity();
         list_some_drivers(source);
         hold_listed(source, capacity);
         do_map(source, capacity, fill(RECORD * 2000));
@@ -2358,6 +2469,12 @@ static void test_random_sources(void)
     end();
 }
 
+/* How many slots a record that is no output may feed. */
+static uint32_t capacity_of(unsigned kind, uint32_t s)
+{
+    return kind == INPUT ? input_capacity : kind == BUFFER ? s : 1;
+}
+
 /* How many slots each record feeds. */
 static uint32_t feeds[MAX_MAPPED];
 
@@ -2377,7 +2494,7 @@ static size_t add_spare(size_t m, uint32_t s, uint32_t tries)
     for (; tries > 0; tries--) {
         uint32_t on = below((uint32_t)m);
         const uint8_t *record = mapped_bytes + RECORD * on;
-        if (record[0] == OUTPUT || feeds[on] >= (record[0] == BUFFER ? s : 1))
+        if (record[0] == OUTPUT || feeds[on] >= capacity_of(record[0], s))
             continue;
         put_record(mapped_bytes + RECORD * m, BUFFER, 0, field(record + 2) + 1, on, UNUSED, UNUSED);
         feeds[on]++;
@@ -2448,10 +2565,12 @@ static void test_random_strips(void)
 {
     unsigned long k, kept = 0, lost = 0;
     begin("stripping of random netlists");
-    for (k = 0; k < 4000; k++) {
+    for (k = 0; k < 5000; k++) {
         struct bytes source = random_source(), mapped;
         uint32_t s = 2 + below(3), changes;
         size_t n = source.len / RECORD;
+        if (k >= 4000)
+            input_capacity = random_input_capacity();
         if (k % 4 > 0) {
             do_levels(source, s, fill(source.len));
             memcpy(source_bytes, levelled_area.at, source.len);
@@ -2597,6 +2716,16 @@ static struct bytes block_mapped(struct blocks b)
     return made();
 }
 
+/* The share in percent, rounded to the nearest, an exact half to the even one. */
+static uint32_t share_of(uint32_t buffers, uint32_t price)
+{
+    uint32_t share;
+    if (price == 0)
+        return 0;
+    share = (400 * buffers + price) / (2 * price);
+    return (400 * buffers + price) % (2 * price) == 0 ? share - share % 2 : share;
+}
+
 static void hold_block_map(struct blocks b, struct bytes source, struct bytes mapped)
 {
     uint32_t buffers = b.m - b.n, price = 6 * (b.count + 1) + 2 * buffers;
@@ -2605,7 +2734,7 @@ static void hold_block_map(struct blocks b, struct bytes source, struct bytes ma
     expected[3] = buffers;
     expected[4] = 4 + b.line;
     expected[5] = price;
-    expected[6] = (400 * buffers + price) / (2 * price); /* none is an exact half */
+    expected[6] = share_of(buffers, price);
     do_map(source, b.s, fill(mapped.len + 5));
     check(memcmp(answer, expected, sizeof expected) == 0, "the seven numbers");
     check(memcmp(mapped_area.at, mapped.at, mapped.len) == 0, "the mapped netlist");
@@ -3181,6 +3310,540 @@ static void test_strip_small(void)
     end();
 }
 
+/* ---- inputs that branch ---- */
+
+static void test_input_capacities(void)
+{
+    static const uint32_t bad[] = {
+        0, 4096, 4097, 8191, 65535, 65536, 65537, 69631, 16777217, 2147483649u, 4294967295u
+    };
+    struct bytes source[6];
+    size_t k, j;
+    uint32_t s;
+    begin("refusal 26, all calls with an input capacity");
+    two_records(AND, 0, 1, 0, 0, UNUSED);
+    source[0] = worked;
+    source[1] = fill(0);
+    source[2] = fill(7);       /* also fails 2, which comes later */
+    source[3] = fill(RECORD);  /* also fails 4 */
+    source[4] = keep_source(); /* also fails 8 */
+    make_lines(MAX_SOURCE + 1, MAX_SOURCE + 1);
+    source[5] = made();        /* also fails 3 */
+    for (k = 0; k < sizeof bad / sizeof bad[0]; k++) {
+        input_capacity = bad[k];
+        for (s = 2; s <= 4; s++)
+            for (j = 0; j < 6; j++)
+                capacities_refused(source[j], s, 26);
+        for (j = 0; j < 30; j++)
+            capacities_refused(random_bytes(mapped_bytes, 60), 2 + below(3), 26);
+        hold_copy(worked, 2, 80, 26);
+    }
+    end();
+}
+
+/* What holds of the worked case with b = 1 holds with any b. */
+static void test_worked_any(void)
+{
+    static const uint32_t good[] = { 2, 3, 255, 256, 257, 4094, 4095 };
+    size_t k;
+    for (k = 0; k < sizeof good / sizeof good[0]; k++) {
+        input_capacity = good[k];
+        test_map_worked();
+        test_lists_worked();
+        test_strip_worked();
+        test_run_worked();
+    }
+}
+
+/* Accepted: the seven numbers of the mapped netlist, its bytes, and those behind it as before. */
+static int is_written(struct bytes mapped)
+{
+    uint32_t expected[7] = { 0, 0, 0, 0, 0, 0, 0 }, gates = 0;
+    size_t k;
+    for (k = AND; k <= MAJ; k++)
+        gates += (uint32_t)number_of((unsigned)k, mapped);
+    expected[2] = (uint32_t)(mapped.len / RECORD);
+    expected[3] = (uint32_t)number_of(BUFFER, mapped);
+    for (k = 0; k < mapped.len; k += RECORD)
+        if (mapped.at[k] == OUTPUT)
+            expected[4] = field(mapped.at + k + 2);
+    expected[5] = 6 * gates + 2 * expected[3];
+    expected[6] = share_of(expected[3], expected[5]);
+    return memcmp(answer, expected, sizeof expected) == 0 && mapped_area.len >= mapped.len
+           && memcmp(mapped_area.at, mapped.at, mapped.len) == 0
+           && memcmp(mapped_area.at + mapped.len, mapped_area.before + mapped.len,
+                     mapped_area.len - mapped.len) == 0;
+}
+
+/* The fewest buffers of a driver's net, or that it has no tree, worked out as specification 2.4
+ * says. */
+static uint32_t fewest(struct bytes source, size_t driver, uint32_t s)
+{
+    static uint32_t sinks[MAX_LEVEL + 1];
+    unsigned level = field(source.at + RECORD * driver + 2);
+    uint32_t buffers = 0, total = 0;
+    size_t k, j, distance, farthest = 1;
+    memset(sinks, 0, sizeof sinks);
+    for (k = 0; k < source.len / RECORD; k++)
+        for (j = 0; j < used_slots(source.at[RECORD * k]); j++)
+            if (field(source.at + RECORD * k + 4 + 2 * j) == driver) {
+                distance = field(source.at + RECORD * k + 2) - level;
+                sinks[distance]++;
+                farthest = distance > farthest ? distance : farthest;
+            }
+    for (; farthest > 1; farthest--) {
+        buffers = (buffers + sinks[farthest] + s - 1) / s;
+        total += buffers;
+    }
+    return buffers + sinks[1] <= capacity_of(source.at[RECORD * driver], s) ? total : NO_TREE;
+}
+
+/* The count of one driver, and a list of it. */
+static void hold_driver(struct bytes source, uint32_t s, uint32_t driver)
+{
+    list_len = 0;
+    list_add(driver);
+    hold_listed(source, s);
+    check(accepted(fewest(source, driver, s)), "the count of a net worked out here");
+}
+
+/* The netlist made is what the mapper writes for a source with s and b or more, and is legal; with
+ * one slot less the driver has no tree. */
+static void hold_written(struct bytes source, uint32_t s, uint32_t b, uint32_t driver,
+                         const char *what)
+{
+    uint32_t more[3];
+    size_t k;
+    more[0] = b;
+    more[1] = b + 1 <= MAX_INPUT_CAPACITY ? b + 1 : b;
+    more[2] = MAX_INPUT_CAPACITY;
+    for (k = 0; k < 3; k++) {
+        input_capacity = more[k];
+        do_map(source, s, fill(netlist_len + 7));
+        check(is_written(made()), what);
+        do_verify(source, s, made());
+        check(accepted((uint32_t)number_of(BUFFER, made())), what);
+        do_strip(s, made(), fill(source.len + 7));
+        check(is_stripped(source), what);
+    }
+    input_capacity = b;
+    do_map(source, s, fill(netlist_len));
+    check(is_written(made()), what);
+    do_map(source, s, fill(netlist_len - 1));
+    check(answered(10, 0), what);
+    hold_driver(source, s, driver);
+    check(answer[2] != NO_TREE, what);
+    hold_foreign(source, s, made(), what);
+    hold_waves(source, s, made());
+    if (b == 1)
+        return;
+    input_capacity = b - 1;
+    do_map(source, s, fill(netlist_len));
+    check(answered(8, driver), what);
+    do_map(source, s, fill(0));
+    check(answered(8, driver), what);
+    hold_driver(source, s, driver);
+    check(accepted(NO_TREE), what);
+    mapped_refused(source, s, made(), 17, driver, what);
+}
+
+/* Netlists written out by hand. */
+static void test_branches_written(void)
+{
+    static const uint32_t numbers[7] = { 0, 0, 8, 3, 3, 12, 50 };
+    struct bytes source;
+    uint32_t s;
+    begin("aqfp_map, inputs that branch");
+    for (s = 2; s <= 4; s++) {
+        /* Sinks at distances 1, 1 and 3: nodes(1) is 3. */
+        clear();
+        add_input();
+        add_input();
+        add_and(1, 1, 1);
+        add_one(OUTPUT, 3, 1);
+        add_one(OUTPUT, 3, 2);
+        source = keep_source();
+        set_slot(3, 0, 6);
+        set_slot(4, 0, 7);
+        add_one(BUFFER, 1, 1);
+        add_one(BUFFER, 2, 5);
+        add_one(BUFFER, 2, 2);
+        hold_written(source, s, 3, 1, "sinks at distances 1, 1 and 3");
+        input_capacity = 3;
+        do_map(source, s, fill(80));
+        check(memcmp(answer, numbers, sizeof numbers) == 0, "sinks at distances 1, 1 and 3");
+        /* At distances 1, 2, 2, 2, 2 and 2: two or three buffers on the input. */
+        clear();
+        add_input();
+        add_input();
+        add_and(1, 1, 0);
+        add(MAJ, 2, 2, 1, 1, 1);
+        add(MAJ, 4, 2, 1, 2, 1);
+        source = keep_source();
+        set_slot(3, 0, 5);
+        set_slot(3, 1, 5);
+        set_slot(3, 2, s == 2 ? 6 : 5);
+        set_slot(4, 0, s == 4 ? 5 : 6);
+        set_slot(4, 2, s == 2 ? 7 : 6);
+        add_one(BUFFER, 1, 1);
+        add_one(BUFFER, 1, 1);
+        if (s == 2)
+            add_one(BUFFER, 1, 1);
+        hold_written(source, s, s == 2 ? 4 : 3, 1, "sinks at distances 1, 2, 2, 2, 2 and 2");
+        /* Two outputs of an input, at distance 1; a gate may not have them. */
+        two_records(OUTPUT, 0, 1, 0, UNUSED, UNUSED);
+        add_one(OUTPUT, 1, 0);
+        hold_written(keep_source(), s, 2, 0, "two outputs on an input");
+        clear();
+        add_input();
+        add_and(1, 0, 0);
+        add_one(OUTPUT, 2, 1);
+        add_one(OUTPUT, 2, 1);
+        for (input_capacity = 2; input_capacity <= MAX_INPUT_CAPACITY; input_capacity *= 3) {
+            do_map(made(), s, fill(80));
+            check(answered(8, 1), "two outputs on a gate");
+        }
+    }
+    end();
+}
+
+/* So many slots that hang on one record: an input, a gate, or a buffer on an input. They are those
+ * of outputs or of majorities, which leave some for outputs, or of buffers. */
+static struct bytes make_star(unsigned on, unsigned kind, unsigned slots, uint32_t *place)
+{
+    unsigned level = on == INPUT ? 1 : 2, driver = on == AND ? 2 : 1;
+    struct bytes source;
+    size_t k, j;
+    clear();
+    add_input();
+    add_input();
+    if (on == AND)
+        add_and(1, 0, 1);
+    for (; kind == MAJ && slots >= 3; slots -= 3)
+        add(MAJ, slots % 8, level, driver, driver, driver);
+    for (; kind != BUFFER && slots > 0; slots--)
+        add_one(OUTPUT, level, driver);
+    source = keep_source();
+    *place = driver;
+    if (on == BUFFER) {
+        *place = (uint32_t)(netlist_len / RECORD);
+        for (k = 2; k < *place; k++)
+            for (j = 0; j < used_slots(netlist[RECORD * k]); j++)
+                set_slot(k, j, *place);
+        add_one(BUFFER, 1, 1);
+    }
+    for (; slots > 0; slots--)
+        add_one(BUFFER, level, *place);
+    return source;
+}
+
+/* The star is legal exactly if the record may feed so many slots. */
+static void hold_star(unsigned on, unsigned kind, unsigned slots, uint32_t s)
+{
+    uint32_t place;
+    struct bytes source = make_star(on, kind, slots, &place);
+    if (slots > capacity_of(on, s)) {
+        mapped_refused(source, s, made(), 17, place, "a record that feeds more than its capacity");
+        hold_no_source(made(), s, "a record that feeds more than its capacity");
+        return;
+    }
+    do_verify(source, s, made());
+    check(accepted((uint32_t)number_of(BUFFER, made())), "a record that feeds up to its capacity");
+    hold_foreign(source, s, made(), "a record that feeds up to its capacity");
+}
+
+static void test_branches_fed(void)
+{
+    static const unsigned kinds[] = { OUTPUT, MAJ, BUFFER };
+    static const uint32_t bounds[] = { 1, 2, 3, 4, 255, 256, 257, 300, 4094, 4095 };
+    size_t k, j;
+    unsigned slots;
+    uint32_t s;
+    begin("refusal 17, inputs, gates and buffers");
+    for (k = 0; k < sizeof kinds / sizeof kinds[0]; k++)
+        for (j = 0; j < sizeof bounds / sizeof bounds[0]; j++) {
+            input_capacity = bounds[j];
+            s = 2 + (uint32_t)(k + j) % 3;
+            for (slots = bounds[j]; slots <= bounds[j] + 1; slots++)
+                if (kinds[k] != OUTPUT || slots + 2 <= MAX_SOURCE)
+                    hold_star(INPUT, kinds[k], slots, s);
+            for (slots = 1; slots <= 5; slots++)
+                for (s = 2; s <= 4; s++) {
+                    hold_star(INPUT, kinds[k], slots, s);
+                    hold_star(AND, kinds[k], slots, s);
+                    hold_star(BUFFER, kinds[k], slots, s);
+                }
+            /* Counted in one byte, 257 and 258 are 1 and 2. */
+            hold_star(AND, kinds[k], bounds[j] < 4000 ? bounds[j] : 257, 4);
+            hold_star(BUFFER, kinds[k], bounds[j] < 4000 ? bounds[j] : 258, 4);
+        }
+    end();
+}
+
+/* An input and a net of so many sinks on it, all at one distance. */
+static void make_sinks_at(unsigned sinks, unsigned distance)
+{
+    make_sinks(sinks, 0);
+    set_levels(netlist + RECORD, netlist_len - RECORD, 0, distance);
+}
+
+/* The most slots that an input can feed in any netlist: those of 12,285 sinks and of 55,904
+ * buffers. Counted in two bytes they are 2,653. */
+static void test_branches_most(void)
+{
+    static const size_t fed[] = { 65535, 65536, 65537, 68189 };
+    static const uint32_t input_capacities[] = { 1, 2, 2652, 2653, 2654, 4094, 4095 };
+    struct bytes source;
+    size_t k, j;
+    begin("refusal 17, the most slots");
+    for (k = 0; k < sizeof fed / sizeof fed[0]; k++) {
+        make_sinks_at(12285, 1);
+        source = keep_source();
+        while (netlist_len < RECORD * (fed[k] - 12285 + MAX_SOURCE))
+            add_one(BUFFER, 1, 0);
+        for (j = 0; j < sizeof input_capacities / sizeof input_capacities[0]; j++) {
+            input_capacity = input_capacities[j];
+            do_verify(source, 2 + (uint32_t)j % 3, made());
+            check(answered(17, 0), "an input that feeds 65,535 slots and more");
+            do_strip(2 + (uint32_t)j % 3, made(), fill(source.len));
+            check(answered(24, 0), "an input that feeds 65,535 slots and more");
+        }
+        mapped_refused(source, 4, made(), 17, 0, "an input that feeds 65,535 slots and more");
+    }
+    check(netlist_len == RECORD * MAX_MAPPED, "60,000 records");
+    end();
+}
+
+/* An input and majorities at level 2, and what the mapper writes if the input may feed as many
+ * slots as there are buffers. */
+static void hold_wide(uint32_t n, uint32_t s)
+{
+    uint32_t sinks = 3 * (n - 1), buffers = (sinks + s - 1) / s, k;
+    struct bytes source;
+    make_sinks_at(sinks, 2);
+    source = keep_source();
+    for (k = 0; k < sinks; k++)
+        set_slot(1 + k / 3, k % 3, n + k / s);
+    for (k = 0; k < buffers; k++)
+        add_one(BUFFER, 1, 0);
+    if (buffers <= MAX_INPUT_CAPACITY) {
+        hold_written(source, s, buffers, 0, "sinks at distance 2");
+        return;
+    }
+    input_capacity = MAX_INPUT_CAPACITY;
+    do_map(source, s, fill(netlist_len));
+    check(answered(8, 0), "more buffers at distance 1 than 4,095");
+    do_count(source, s, 0);
+    check(accepted(NO_TREE), "more buffers at distance 1 than 4,095");
+    mapped_refused(source, s, made(), 17, 0, "more buffers at distance 1 than 4,095");
+}
+
+/* 12,285 sinks at a distance have so many buffers with capacity 2, and need so many slots. */
+static void hold_widest(unsigned distance, uint32_t b, uint32_t buffers)
+{
+    make_sinks_at(12285, distance);
+    input_capacity = b;
+    do_count(made(), 2, 0);
+    check(accepted(buffers), "12,285 sinks");
+    do_map(made(), 2, fill(600000));
+    check(answered(0, 0) && answer[3] == buffers, "12,285 sinks");
+    input_capacity = MAX_INPUT_CAPACITY;
+    do_count(made(), 2, 0);
+    check(accepted(buffers), "12,285 sinks, as many buffers with the largest b");
+    input_capacity = b - 1;
+    if (b == 1)
+        return;
+    do_count(made(), 2, 0);
+    check(accepted(NO_TREE), "12,285 sinks, one slot less");
+    do_map(made(), 2, fill(600000));
+    check(answered(8, 0), "12,285 sinks, one slot less");
+}
+
+static void test_branches_wide(void)
+{
+    static const uint32_t sizes[] = { 2, 3, 700, 1024, 1025 };
+    size_t k;
+    uint32_t s;
+    begin("aqfp_map, inputs with many sinks");
+    for (k = 0; k < sizeof sizes / sizeof sizes[0]; k++)
+        for (s = 2; s <= 4; s++)
+            hold_wide(sizes[k], s);
+    hold_wide(MAX_SOURCE, 2); /* 6,143 buffers */
+    hold_wide(MAX_SOURCE, 3); /* 4,095 buffers */
+    hold_widest(3, 3072, 9215);
+    hold_widest(14, 2, 12286);
+    hold_widest(15, 1, 12287);
+    make_sinks_at(12285, 1);
+    input_capacity = MAX_INPUT_CAPACITY;
+    do_map(made(), 4, fill(600000));
+    check(answered(8, 0), "12,285 sinks at distance 1");
+    do_verify(made(), 4, made());
+    check(answered(17, 0), "12,285 sinks at distance 1");
+    make_sinks_at(4095, 1);
+    hold_written(keep_source(), 2, 4095, 0, "4,095 sinks at distance 1");
+    make_sinks_at(4096, 1);
+    do_map(made(), 2, fill(600000));
+    check(answered(8, 0), "4,096 sinks at distance 1");
+    end();
+}
+
+/* Inputs with buffers at level 1 on them in turns, the last first, up to m records. */
+static struct bytes make_stars(size_t inputs, size_t m)
+{
+    struct bytes source = make_lines(inputs, inputs);
+    size_t k;
+    for (k = 0; k < m - inputs; k++)
+        add_one(BUFFER, 1, (unsigned)(inputs - 1 - k % inputs));
+    return source;
+}
+
+/* On both sides of the sizes of the library's arrays. */
+static void test_branches_sizes(void)
+{
+    static const size_t sizes[] = { 2047, 2048, 2049, 16383, 16384, 16385, 60000 };
+    struct bytes source;
+    size_t k, rest;
+    uint32_t s, most;
+    begin("inputs that branch, sizes of mapped netlists");
+    for (k = 0; k < sizeof sizes / sizeof sizes[0]; k++) {
+        s = 2 + (uint32_t)k % 3;
+        source = make_stars(17, sizes[k]);
+        rest = (sizes[k] - 17) % 17;
+        most = (uint32_t)((sizes[k] - 17 + 16) / 17);
+        input_capacity = most;
+        do_verify(source, s, made());
+        check(accepted((uint32_t)sizes[k] - 17), "17 inputs that feed as many slots as they may");
+        hold_foreign(source, s, made(), "17 inputs that feed as many slots as they may");
+        hold_waves(source, s, made());
+        input_capacity = most - 1;
+        mapped_refused(source, s, made(), 17, rest == 0 ? 0 : 17 - (uint32_t)rest,
+                       "the first input that feeds one slot more");
+    }
+    end();
+}
+
+/* Every count, and what the mapper says of all nets. */
+static void hold_fewest(struct bytes source, uint32_t s)
+{
+    uint32_t total = 0, without = NO_TREE, count;
+    size_t k;
+    for (k = 0; k < source.len / RECORD; k++) {
+        if (source.at[RECORD * k] == OUTPUT)
+            continue;
+        count = fewest(source, k, s);
+        do_count(source, s, (uint32_t)k);
+        check(accepted(count), "the count of a net worked out here");
+        if (count == NO_TREE && without == NO_TREE)
+            without = (uint32_t)k;
+        total += count;
+    }
+    do_map(source, s, fill(RECORD * 4000));
+    if (without == NO_TREE)
+        check(answered(0, 0) && answer[3] == total, "the buffers of all nets");
+    else
+        check(answered(8, without), "the first driver without a tree");
+}
+
+/* Where a source is mapped with some b, every larger one gives the same netlist, in mapped_bytes;
+ * its length, or 0 if no b does. */
+static size_t hold_larger(struct bytes source, uint32_t s)
+{
+    static const uint32_t rising[] = { 1, 2, 3, 256, 4095 };
+    uint32_t first[7];
+    size_t k, len = 0;
+    for (k = 0; k < sizeof rising / sizeof rising[0]; k++) {
+        input_capacity = rising[k];
+        hold_fewest(source, s);
+        if (answer[0] == 0 && len == 0) {
+            len = RECORD * answer[2];
+            memcpy(mapped_bytes, mapped_area.at, len);
+            memcpy(first, answer, sizeof first);
+        }
+        if (len > 0)
+            check(memcmp(answer, first, sizeof first) == 0
+                  && memcmp(mapped_area.at, mapped_bytes, len) == 0,
+                  "a larger b gives the same netlist");
+    }
+    return len;
+}
+
+/* The first input that feeds the most slots. */
+static uint32_t widest_input(struct bytes mapped)
+{
+    uint32_t k, widest = 0;
+    count_feeds(mapped);
+    for (k = 0; k < mapped.len / RECORD; k++)
+        if (mapped.at[RECORD * k] == INPUT && feeds[k] > feeds[widest])
+            widest = k;
+    return widest;
+}
+
+/* Random sources, whose first record is an input: there and back, with the least b and others. */
+static void test_branches_random(void)
+{
+    unsigned long k, branching = 0;
+    begin("inputs that branch, random netlists");
+    for (k = 0; k < 4000; k++) {
+        struct bytes source = random_source(), mapped;
+        uint32_t s = 2 + below(3), widest, most;
+        size_t len;
+        input_capacity = k % 8 == 0 ? random_input_capacity() : MAX_INPUT_CAPACITY;
+        if (k % 8 == 0)
+            hold_fewest(source, s);
+        else
+            do_map(source, s, fill(RECORD * 4000));
+        if (answer[0] != 0)
+            continue;
+        len = hold_larger(source, s);
+        mapped = part(mapped_bytes, len);
+        widest = widest_input(mapped);
+        most = feeds[widest];
+        input_capacity = most > 0 ? most : 1;
+        do_map(source, s, fill(len));
+        check(is_written(mapped), "the least b for a netlist");
+        hold_foreign(source, s, mapped, "stripped with the least b");
+        if (k % 4 == 0)
+            hold_waves(source, s, mapped);
+        input_capacity += 1 + below(MAX_INPUT_CAPACITY - input_capacity);
+        hold_foreign(source, s, mapped, "stripped with a larger b");
+        if (most < 2)
+            continue;
+        branching++;
+        input_capacity = most - 1;
+        hold_fewest(source, s);
+        check(answered(8, widest), "a smaller b: the input has no tree");
+        mapped_refused(source, s, mapped, 17, widest, "a smaller b: the input feeds too many");
+        hold_no_source(mapped, s, "stripped with a smaller b");
+    }
+    check(branching > 200, "inputs branch in enough netlists");
+    end();
+}
+
+/* Least levels know no b: their copy is mapped with each. */
+static void test_branches_levels(void)
+{
+    static const uint32_t input_capacities[] = { 1, 2, 4095 };
+    unsigned long k;
+    size_t j;
+    uint32_t s;
+    begin("least levels with any input capacity");
+    for (j = 0; j < sizeof input_capacities / sizeof input_capacities[0]; j++) {
+        input_capacity = input_capacities[j];
+        for (k = 0; k < 200; k++)
+            hold_copy(random_source(), 2 + below(3), RECORD * 4000, 0);
+        make_sinks(12285, 0);
+        hold_copy(made(), 2 + (uint32_t)j, 600000, 0);
+    }
+    for (k = 0; k < 100; k++) {
+        struct bytes source = random_source();
+        s = 2 + below(3);
+        do_levels(source, s, fill(source.len));
+        memcpy(source_bytes, levelled_area.at, source.len);
+        check(hold_larger(source, s) > 0, "the copy is mapped with any b");
+    }
+    end();
+}
+
 static void fill_filler(void)
 {
     size_t k;
@@ -3199,11 +3862,15 @@ static void test_all(void)
         test_mapped_records, test_mapped_nets, test_mapped_accepted, test_rows, test_random_bytes,
         test_random_sources, test_random_strips, test_random_levels, test_array_sizes,
         test_strip_lengths, test_strip_records, test_strip_slots, test_strip_order,
-        test_strip_levels, test_strip_branches, test_strip_sizes, test_strip_small
+        test_strip_levels, test_strip_branches, test_strip_sizes, test_strip_small,
+        test_input_capacities, test_worked_any, test_branches_written, test_branches_fed,
+        test_branches_most, test_branches_wide, test_branches_sizes, test_branches_random,
+        test_branches_levels
     };
     size_t k;
     for (k = 0; k < sizeof tests / sizeof tests[0]; k++) {
         fill_filler();
+        input_capacity = 1;
         tests[k]();
     }
 }

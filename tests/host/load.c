@@ -32,8 +32,8 @@ static void hold(int holds, const char *what)
 static void map_worked(void *library, const char *path)
 {
     static const uint8_t expected[7] = { 0, 0, 8, 3, 3, 12, 50 };
-    uint8_t bytes[51], mapped[80], answer[28], numbers[28] = { 0 };
-    uint32_t (*map)(const uint8_t *, size_t, uint32_t, uint8_t *, size_t, uint8_t *);
+    uint8_t bytes[53], mapped[80], answer[28], numbers[28] = { 0 };
+    uint32_t (*map)(const uint8_t *, size_t, uint32_t, uint32_t, uint8_t *, size_t, uint8_t *);
     FILE *in = fopen(path, "rb");
     size_t k;
     hold(in != NULL && fread(bytes, 1, sizeof bytes, in) == sizeof bytes, "no worked case");
@@ -41,7 +41,8 @@ static void map_worked(void *library, const char *path)
     for (k = 0; k < 7; k++)
         numbers[4 * k] = expected[k];
     *(void **)&map = dlsym(library, "aqfp_map");
-    map(bytes + 1, sizeof bytes - 1, bytes[0], mapped, sizeof mapped, answer);
+    map(bytes + 3, sizeof bytes - 3, bytes[0], bytes[1] | (uint32_t)bytes[2] << 8, mapped,
+        sizeof mapped, answer);
     hold(memcmp(answer, numbers, sizeof numbers) == 0, "the library maps the worked case otherwise");
 }
 

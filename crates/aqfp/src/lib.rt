@@ -50,13 +50,18 @@ fn answer_checked(answer: &mut [u8; 8], checked: Checked) -> u32
 pub extern "C" fn aqfp_map(
     source: &[u8],
     capacity: u32,
+    input_capacity: u32,
     mapped: &mut [u8],
     answer: &mut [u8; 28],
 ) -> u32
-    ensures answer { λ r. ⌜ Answered r (now (answer .exit)) (mappingNumbers (mapAnswer (now (source .entry)) (capacitiesOf capacity) (now (mapped .entry)))) ⌝ }
-    ensures area { λ _. ⌜ now (mapped .exit) ≡ mapArea (now (source .entry)) (capacitiesOf capacity) (now (mapped .entry)) ⌝ }
+    ensures answer { λ r. ⌜ Answered r (now (answer .exit)) (mappingNumbers (mapAnswer (now (source .entry)) (capacitiesOf capacity «input_capacity») (now (mapped .entry)))) ⌝ }
+    ensures area { λ _. ⌜ now (mapped .exit) ≡ mapArea (now (source .entry)) (capacitiesOf capacity «input_capacity») (now (mapped .entry)) ⌝ }
 {
-    let mapping = mapper::map_netlist(source, Capacities { buffer: capacity }, mapped);
+    let capacities = Capacities {
+        buffer: capacity,
+        input: input_capacity,
+    };
+    let mapping = mapper::map_netlist(source, capacities, mapped);
     write_answer(
         answer,
         &[
@@ -76,12 +81,17 @@ pub extern "C" fn aqfp_map(
 pub extern "C" fn aqfp_count(
     source: &[u8],
     capacity: u32,
+    input_capacity: u32,
     record: u32,
     answer: &mut [u8; 12],
 ) -> u32
-    ensures { λ r. ⌜ Answered r (now (answer .exit)) (countNumbers (countAnswer (now (source .entry)) (capacitiesOf capacity) «record»)) ⌝ }
+    ensures { λ r. ⌜ Answered r (now (answer .exit)) (countNumbers (countAnswer (now (source .entry)) (capacitiesOf capacity «input_capacity») «record»)) ⌝ }
 {
-    let count = fanout::count_net(source, Capacities { buffer: capacity }, record);
+    let capacities = Capacities {
+        buffer: capacity,
+        input: input_capacity,
+    };
+    let count = fanout::count_net(source, capacities, record);
     match count {
         Count::Fewest(buffers) => write_answer(answer, &[0, 0, buffers]),
         Count::NoTree => write_answer(answer, &[0, 0, NO_TREE]),
@@ -94,16 +104,21 @@ pub extern "C" fn aqfp_count(
 pub extern "C" fn aqfp_count_nets(
     source: &[u8],
     capacity: u32,
+    input_capacity: u32,
     records: &[u8],
     counts: &mut [u8],
     answer: &mut [u8; 8],
 ) -> u32
-    ensures answer { λ r. ⌜ Answered r (now (answer .exit)) (checkedNumbers (countsAnswer (now (source .entry)) (capacitiesOf capacity) (now (records .entry)) (now (counts .entry)))) ⌝ }
-    ensures area { λ _. ⌜ now (counts .exit) ≡ countsArea (now (source .entry)) (capacitiesOf capacity) (now (records .entry)) (now (counts .entry)) ⌝ }
+    ensures answer { λ r. ⌜ Answered r (now (answer .exit)) (checkedNumbers (countsAnswer (now (source .entry)) (capacitiesOf capacity «input_capacity») (now (records .entry)) (now (counts .entry)))) ⌝ }
+    ensures area { λ _. ⌜ now (counts .exit) ≡ countsArea (now (source .entry)) (capacitiesOf capacity «input_capacity») (now (records .entry)) (now (counts .entry)) ⌝ }
 {
+    let capacities = Capacities {
+        buffer: capacity,
+        input: input_capacity,
+    };
     answer_checked(
         answer,
-        nets::count_nets(source, Capacities { buffer: capacity }, records, counts),
+        nets::count_nets(source, capacities, records, counts),
     )
 }
 
@@ -112,12 +127,17 @@ pub extern "C" fn aqfp_count_nets(
 pub extern "C" fn aqfp_verify(
     source: &[u8],
     capacity: u32,
+    input_capacity: u32,
     mapped: &[u8],
     answer: &mut [u8; 12],
 ) -> u32
-    ensures { λ r. ⌜ Answered r (now (answer .exit)) (verifiedNumbers (verifyAnswer (now (source .entry)) (capacitiesOf capacity) (now (mapped .entry)))) ⌝ }
+    ensures { λ r. ⌜ Answered r (now (answer .exit)) (verifiedNumbers (verifyAnswer (now (source .entry)) (capacitiesOf capacity «input_capacity») (now (mapped .entry)))) ⌝ }
 {
-    let verified = verifier::verify(source, Capacities { buffer: capacity }, mapped);
+    let capacities = Capacities {
+        buffer: capacity,
+        input: input_capacity,
+    };
+    let verified = verifier::verify(source, capacities, mapped);
     match verified {
         Verified::Buffers(buffers) => write_answer(answer, &[0, 0, buffers]),
         Verified::Refused(number, place) => write_answer(answer, &[number, place, 0]),
@@ -143,17 +163,22 @@ pub extern "C" fn aqfp_evaluate(
 pub extern "C" fn aqfp_step(
     source: &[u8],
     capacity: u32,
+    input_capacity: u32,
     mapped: &[u8],
     row: &[u8],
     state: &mut [u8],
     answer: &mut [u8; 8],
 ) -> u32
-    ensures answer { λ r. ⌜ Answered r (now (answer .exit)) (checkedNumbers (stepAnswer (now (source .entry)) (capacitiesOf capacity) (now (mapped .entry)) (now (row .entry)) (now (state .entry)))) ⌝ }
-    ensures area { λ _. ⌜ now (state .exit) ≡ stepArea (now (source .entry)) (capacitiesOf capacity) (now (mapped .entry)) (now (row .entry)) (now (state .entry)) ⌝ }
+    ensures answer { λ r. ⌜ Answered r (now (answer .exit)) (checkedNumbers (stepAnswer (now (source .entry)) (capacitiesOf capacity «input_capacity») (now (mapped .entry)) (now (row .entry)) (now (state .entry)))) ⌝ }
+    ensures area { λ _. ⌜ now (state .exit) ≡ stepArea (now (source .entry)) (capacitiesOf capacity «input_capacity») (now (mapped .entry)) (now (row .entry)) (now (state .entry)) ⌝ }
 {
+    let capacities = Capacities {
+        buffer: capacity,
+        input: input_capacity,
+    };
     answer_checked(
         answer,
-        simulator::step(source, Capacities { buffer: capacity }, mapped, row, state),
+        simulator::step(source, capacities, mapped, row, state),
     )
 }
 
@@ -162,6 +187,7 @@ pub extern "C" fn aqfp_step(
 pub extern "C" fn aqfp_run(
     source: &[u8],
     capacity: u32,
+    input_capacity: u32,
     mapped: &[u8],
     row_count: u32,
     rows: &[u8],
@@ -169,21 +195,17 @@ pub extern "C" fn aqfp_run(
     outputs: &mut [u8],
     answer: &mut [u8; 8],
 ) -> u32
-    ensures answer { λ r. ⌜ Answered r (now (answer .exit)) (checkedNumbers (runAnswer (now (source .entry)) (capacitiesOf capacity) (now (mapped .entry)) «row_count» (now (rows .entry)) (now (state .entry)) (now (outputs .entry)))) ⌝ }
-    ensures area { λ _. ⌜ now (state .exit) ≡ runArea (now (source .entry)) (capacitiesOf capacity) (now (mapped .entry)) «row_count» (now (rows .entry)) (now (state .entry)) (now (outputs .entry)) ⌝ }
-    ensures outputs { λ _. ⌜ now (outputs .exit) ≡ runOutputs (now (source .entry)) (capacitiesOf capacity) (now (mapped .entry)) «row_count» (now (rows .entry)) (now (state .entry)) (now (outputs .entry)) ⌝ }
+    ensures answer { λ r. ⌜ Answered r (now (answer .exit)) (checkedNumbers (runAnswer (now (source .entry)) (capacitiesOf capacity «input_capacity») (now (mapped .entry)) «row_count» (now (rows .entry)) (now (state .entry)) (now (outputs .entry)))) ⌝ }
+    ensures area { λ _. ⌜ now (state .exit) ≡ runArea (now (source .entry)) (capacitiesOf capacity «input_capacity») (now (mapped .entry)) «row_count» (now (rows .entry)) (now (state .entry)) (now (outputs .entry)) ⌝ }
+    ensures outputs { λ _. ⌜ now (outputs .exit) ≡ runOutputs (now (source .entry)) (capacitiesOf capacity «input_capacity») (now (mapped .entry)) «row_count» (now (rows .entry)) (now (state .entry)) (now (outputs .entry)) ⌝ }
 {
+    let capacities = Capacities {
+        buffer: capacity,
+        input: input_capacity,
+    };
     answer_checked(
         answer,
-        simulator::run(
-            source,
-            Capacities { buffer: capacity },
-            mapped,
-            row_count,
-            rows,
-            state,
-            outputs,
-        ),
+        simulator::run(source, capacities, mapped, row_count, rows, state, outputs),
     )
 }
 
@@ -205,14 +227,19 @@ pub extern "C" fn aqfp_levels(
 #[no_mangle]
 pub extern "C" fn aqfp_strip(
     capacity: u32,
+    input_capacity: u32,
     mapped: &[u8],
     source: &mut [u8],
     answer: &mut [u8; 12],
 ) -> u32
-    ensures answer { λ r. ⌜ Answered r (now (answer .exit)) (strippedNumbers (stripAnswer (capacitiesOf capacity) (now (mapped .entry)) (now (source .entry)))) ⌝ }
-    ensures area { λ _. ⌜ now (source .exit) ≡ stripArea (capacitiesOf capacity) (now (mapped .entry)) (now (source .entry)) ⌝ }
+    ensures answer { λ r. ⌜ Answered r (now (answer .exit)) (strippedNumbers (stripAnswer (capacitiesOf capacity «input_capacity») (now (mapped .entry)) (now (source .entry)))) ⌝ }
+    ensures area { λ _. ⌜ now (source .exit) ≡ stripArea (capacitiesOf capacity «input_capacity») (now (mapped .entry)) (now (source .entry)) ⌝ }
 {
-    let stripped = strip::strip(Capacities { buffer: capacity }, mapped, source);
+    let capacities = Capacities {
+        buffer: capacity,
+        input: input_capacity,
+    };
+    let stripped = strip::strip(capacities, mapped, source);
     match stripped {
         Stripped::Records(records) => write_answer(answer, &[0, 0, records]),
         Stripped::Refused(number, place) => write_answer(answer, &[number, place, 0]),

@@ -12,7 +12,7 @@ use Rattle.facts.specs.Checks.{_andThen_, scan}
 use Rattle.facts.specs.Sums.{any, seek, largest}
 use Rattle.facts.proofs.Bools.{true-false}
 use Rattle.facts.proofs.Sums.{any-some}
-use Rattle.facts.proofs.Reflect.{then-assoc}
+use Rattle.facts.proofs.Reflect.{then-assoc, then-none}
 
 -- a turn of a loop from k to n takes one number off the front of what is left
 turn : (n k : ℕ) → k < n → n - k ≡ suc (n - (k + 1))
@@ -183,11 +183,7 @@ module _ (f : ℕ → Checked) where
   -- one place more
   pub scan-last : (k : ℕ) → scan f 0 (k + 1) ≡ (scan f 0 k andThen f k)
   unfolding scan
-  scan-last k = rw (zero-add k) at (scan-split 0 k 1) ∙ ap (λ (a : Checked). scan f 0 k andThen a) (last (f k))
-    where
-      last : (c : Checked) → (c andThen Passed) ≡ c
-      last Passed = refl
-      last (Refused number place) = refl
+  scan-last k = rw (zero-add k) at (scan-split 0 k 1) ∙ ap (λ (a : Checked). scan f 0 k andThen a) (then-none (f k))
 
   module _ (a n : ℕ) (l : a ≤ n) where
     parts : scan f 0 n ≡ (scan f 0 a andThen scan f a (n - a))

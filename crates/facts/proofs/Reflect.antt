@@ -39,6 +39,11 @@ pub then-assoc : (a b c : Checked) → ((a andThen b) andThen c) ≡ (a andThen 
 then-assoc Passed b c = refl
 then-assoc (Refused number place) b c = refl
 
+-- nothing more to check
+pub then-none : (a : Checked) → (a andThen Passed) ≡ a
+then-none Passed = refl
+then-none (Refused number place) = refl
+
 pub or-none : (a b : Bool) → ((a || b) ≡ false) ↔ ((a ≡ false) × (b ≡ false))
 or-none true b = (λ e. (e, cc), λ e. e .0)
 or-none false b = (λ e. (refl, e), λ e. e .1)

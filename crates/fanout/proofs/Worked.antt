@@ -1,4 +1,4 @@
--- P1 to P12: the counts compute, and what is counted from a row that is a net's is true of its trees.
+-- P1 to P12, and the nets of inputs that branch: the counts compute, and what is counted from a row that is a net's is true of its trees.
 use Prim.Native.Nat.{ℕ, _<_}
 use mathlib.Core.Path.{_≡_, refl, subst}
 use mathlib.Core.Bool.{Bool, true, _&&_}
@@ -7,17 +7,16 @@ use lib.Dec.{ltb}
 use borrow.Author.Tests.{ltb-true}
 use Rattle.facts.proofs.Bools.{and-l, and-r}
 use Rattle.fanout.specs.declared.Count.{Count}
-use Rattle.netlist.specs.Capacities.{driverCapacity}
 use Rattle.fanout.specs.Answer.{treeCount}
 use Rattle.fanout.specs.Nets.{nodes, buffers}
 use Rattle.fanout.specs.Trees.{Net, netAt}
-use Rattle.fanout.specs.Worked.{Case, rowAt, worked}
-use Rattle.fanout.specs.Promises.{Says, Holds, Every, WorkedTrue}
+use Rattle.fanout.specs.Worked.{Case, rowAt, worked, branching}
+use Rattle.fanout.specs.Promises.{Says, Holds, Every, WorkedTrue, BranchingTrue}
 use Rattle.fanout.proofs.Rows.{within, row-of-distances}
 use Rattle.fanout.proofs.Promises.{count-true}
 
 answerOf : Case → Count
-answerOf w = treeCount driverCapacity (w .capacity) (rowAt (w .distances))
+answerOf w = treeCount (w .driver) (w .capacity) (rowAt (w .distances))
 
 -- a capacity above 0 and distances that a row has
 abbrev fits : Case → Bool
@@ -30,6 +29,7 @@ allFit (w ∷ ws) = fits w && allFit ws
 holds : (w : Case) → fits w ≡ true → answerOf w ≡ w .answer → Holds w
 unfolding answerOf
 holds w f e =
+    let c : ℕ = w .driver in
     let s : ℕ = w .capacity in
     let net : Net = netAt (w .distances) in
     let pos : 0 < s = ltb-true 0 s (and-l (ltb 0 s) _ f) in
@@ -37,7 +37,7 @@ holds w f e =
     record {
       rowed = r;
       counted = e;
-      said = subst (Says driverCapacity s net) e (count-true driverCapacity s net (rowAt (w .distances)) pos r);
+      said = subst (Says c s net) e (count-true c s net (rowAt (w .distances)) pos r);
     }
 
 every : (ws : List Case) → allFit ws ≡ true → map answerOf ws ≡ map (λ w. w .answer) ws → Every Holds ws
@@ -47,3 +47,7 @@ every (w ∷ ws) f e = (holds w (and-l (fits w) _ f) (cc), every ws (and-r (fits
 pub worked-true : WorkedTrue
 unfolding nodes buffers answerOf
 worked-true = every worked refl refl
+
+pub branching-true : BranchingTrue
+unfolding nodes buffers answerOf
+branching-true = every branching refl refl

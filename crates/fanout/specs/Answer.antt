@@ -22,7 +22,7 @@ treeCount c s r = cond (hasTree c s r) (count.Fewest (fewest s r)) count.NoTree
 abbrev pub netCount : Netlist → Capacities → ℕ → Count
 netCount m caps d = treeCount (capacityOf caps (m .at d .kind)) (caps .buffer) (row m d)
 
--- 1 to 7, then 20: the record is absent or an output
+-- 1, 26, 2 to 7, then 20: the record is absent or an output
 abbrev pub countChecks : List ℕ → Capacities → ℕ → Checked
 countChecks source caps d = inputChecks source caps andThen check 20 d (not (isDriver (recordAt source d .kind)))
 

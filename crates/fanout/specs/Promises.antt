@@ -11,7 +11,7 @@ use Rattle.facts.specs.Sums.{count, count₂}
 use Rattle.facts.specs.Refusals.{Conditions, Fails, _or_, FirstAt, Exact}
 use Rattle.netlist.specs.declared.Capacities.{Capacities}
 use Rattle.netlist.specs.Kinds.{slots, topLevel, output, isDriver}
-use Rattle.netlist.specs.Capacities.{driverCapacity, capacityOf}
+use Rattle.netlist.specs.Capacities.{capacityOf}
 use Rattle.netlist.specs.Records.{Netlist, netlist, recordAt, recordCount, names}
 use Rattle.netlist.specs.Source.{Source}
 use Rattle.netlist.specs.Checks.{inputChecks}
@@ -21,7 +21,7 @@ use Rattle.fanout.specs.declared.Count.the-variants.{Fewest, NoTree, Ref
 use Rattle.fanout.specs.Nets.{row, hasTree, buffersAt, fewest}
 use Rattle.fanout.specs.Trees.{Net, Tree, Legal, RowOf, netOf, netAt, buffersIn}
 use Rattle.fanout.specs.Answer.{treeCount, countChecks, countAnswer, noTree, countNumbers}
-use Rattle.fanout.specs.Worked.{Case, rowAt, worked}
+use Rattle.fanout.specs.Worked.{Case, rowAt, worked, branching}
 
 -- a legal tree exists exactly if at most c nodes are left at distance 1
 abbrev pub TreeExactly : Type 0
@@ -99,8 +99,8 @@ CountTrue = (c s : ℕ) (net : Net) (r : List ℕ) → 0 < s → RowOf net r →
 -- a net worked through: its row is its net's, the count gives its answer, and that is true of all its trees
 pub record Holds (w : Case) : Type 0 where
   pub rowed : RowOf (netAt (w .distances)) (rowAt (w .distances))
-  pub counted : treeCount driverCapacity (w .capacity) (rowAt (w .distances)) ≡ w .answer
-  pub said : Says driverCapacity (w .capacity) (netAt (w .distances)) (w .answer)
+  pub counted : treeCount (w .driver) (w .capacity) (rowAt (w .distances)) ≡ w .answer
+  pub said : Says (w .driver) (w .capacity) (netAt (w .distances)) (w .answer)
 
 -- each of a list
 abbrev pub Every : (Case → Type 0) → List Case → Type 0
@@ -110,6 +110,10 @@ Every P (w ∷ ws) = P w × Every P ws
 -- P1 to P12
 abbrev pub WorkedTrue : Type 0
 WorkedTrue = Every Holds worked
+
+-- the nets of inputs that branch
+abbrev pub BranchingTrue : Type 0
+BranchingTrue = Every Holds branching
 
 -- what an answer says of d's net, whose driver feeds no more than its kind may
 abbrev pub NetSays : Netlist → Capacities → ℕ → Count → Type 0
@@ -122,7 +126,7 @@ NoNetTree m caps d = NetSays m caps d NoTree
 abbrev pub LeastNetTree : Netlist → Capacities → ℕ → ℕ → Type 0
 LeastNetTree m caps d n = NetSays m caps d (Fewest n)
 
--- what a count is asked of: source and capacities pass 1 to 7, and the record is a driver
+-- what a count is asked of: source and capacities pass 1, 26 and 2 to 7, and the record is a driver
 pub record Asked (source : List ℕ) (caps : Capacities) (d : ℕ) : Type 0 where
   pub passed : inputChecks source caps ≡ Passed
   pub driver : isDriver (recordAt source d .kind) ≡ true
@@ -145,11 +149,11 @@ FewestExactly =
 abbrev pub NoDriver : List ℕ → ℕ → Type 0
 NoDriver source d = (recordCount source ≤ d) ⊎ (recordAt source d .kind ≡ output)
 
--- 1 to 7, then 20
+-- 1, 26, 2 to 7, then 20
 abbrev pub CountFails : List ℕ → Capacities → ℕ → Conditions
 CountFails source caps d = InputFails source caps or Fails 20 d (NoDriver source d)
 
--- each of 1 to 7 and 20 fails exactly where its condition is the first that holds, and all pass exactly if none does
+-- each of 1, 26, 2 to 7 and 20 fails exactly where its condition is the first that holds, and all pass exactly if none does
 abbrev pub CountExact : Type 0
 CountExact = (source : List ℕ) (caps : Capacities) (d : ℕ) → Exact (CountFails source caps d) (countChecks source caps d)
 

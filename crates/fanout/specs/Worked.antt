@@ -1,8 +1,9 @@
--- Specification 8.1: P1 to P12, as s, distances and answer.
+-- Specification 8.1: nets worked through, P1 to P12 as s, distances and answer, and nets of inputs that branch, with b before these.
 use Prim.Native.Nat.{ℕ, suc}
 use mathlib.Core.List.{List, [], _∷_}
 use lib.ListN.{replicate}
 use Rattle.netlist.specs.Kinds.{topLevel}
+use Rattle.netlist.specs.Capacities.{gateCapacity}
 use Rattle.fanout.specs.declared.Count.{Count}
 use Rattle.fanout.specs.declared.Count.the-variants.{Fewest, NoTree}
 use Rattle.fanout.specs.Nets.{added}
@@ -16,14 +17,20 @@ addedAll r (distance ∷ distances) = addedAll (added r distance) distances
 abbrev pub rowAt : List ℕ → List ℕ
 rowAt distances = addedAll (replicate (suc topLevel) 0) distances
 
--- a net worked through
+-- a net worked through: what its driver and a buffer may feed, its distances, and the answer
 pub record Case : Type 0 where
+  pub driver : ℕ
   pub capacity : ℕ
   pub distances : List ℕ
   pub answer : Count
 
+-- a net of an input
+abbrev pub inputCase : ℕ → ℕ → List ℕ → Count → Case
+inputCase b s distances answer = record { driver = b; capacity = s; distances = distances; answer = answer }
+
+-- a net of a gate, or of an input with b = 1
 abbrev pub case : ℕ → List ℕ → Count → Case
-case s distances answer = record { capacity = s; distances = distances; answer = answer }
+case s distances answer = inputCase gateCapacity s distances answer
 
 -- P1 to P12
 abbrev pub worked : List Case
@@ -40,4 +47,17 @@ worked =
     ∷ case 2 (2 ∷ 3 ∷ 3 ∷ []) (Fewest 2)
     ∷ case 2 (2 ∷ 3 ∷ 3 ∷ 3 ∷ []) NoTree
     ∷ case 4 (2 ∷ 2 ∷ 2 ∷ 2 ∷ 2 ∷ []) NoTree
+    ∷ []
+
+-- inputs that branch
+abbrev pub branching : List Case
+branching =
+    inputCase 2 2 (1 ∷ 1 ∷ []) (Fewest 0)
+    ∷ inputCase 2 2 (1 ∷ 1 ∷ 1 ∷ []) NoTree
+    ∷ inputCase 2 2 (2 ∷ 2 ∷ []) (Fewest 1)
+    ∷ inputCase 2 2 (2 ∷ 2 ∷ 2 ∷ []) (Fewest 2)
+    ∷ inputCase 2 2 (1 ∷ 2 ∷ []) (Fewest 1)
+    ∷ inputCase 2 2 (2 ∷ 3 ∷ 3 ∷ 3 ∷ []) (Fewest 4)
+    ∷ inputCase 2 4 (2 ∷ 2 ∷ 2 ∷ 2 ∷ 2 ∷ []) (Fewest 2)
+    ∷ inputCase 3 2 (1 ∷ 1 ∷ 3 ∷ []) (Fewest 2)
     ∷ []

@@ -201,7 +201,7 @@ fn count_driver(source: &[u8], capacities: Capacities, driver: usize) -> Count
     }
 }
 
-// The count of one net: checks 1 to 7, then 20, then the fewest buffers or no tree.
+// The count of one net: checks 1, 26, 2 to 7, then 20, then the fewest buffers or no tree.
 pub fn count_net(source: &[u8], capacities: Capacities, record: u32) -> Count
     ensures { λ r. ⌜ r ≡ countAnswer (now (source .entry)) capacities «record» ⌝ }
 {

@@ -72,7 +72,7 @@ partRead file = take (suc fileLimit) file
 
 -- what is printed of the part of a mapped file that is read
 pub record FileJudged : Type 0 where
-  -- of a file of more than 60,000 bytes: 11, where 1 to 7 pass
+  -- of a file of more than 60,000 bytes: 11, where 1, 26 and 2 to 7 pass
   pub long : (source : List ℕ) (caps : Capacities) (file : List ℕ) → fileLimit < length file →
       inputChecks source caps ≡ Passed → sheetText source caps (partRead file) ≡ refusalLine 11 0
   -- and else the first of these

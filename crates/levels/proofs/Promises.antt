@@ -52,7 +52,7 @@ early-rows source s n p =
 
 early-first : (source : List ℕ) (s : ℕ) → First (Fails 1 0 (BadCapacity s) or StructuresFail source) (capacityCheck s andThen structureChecks source)
 early-first source s =
-    first-then (rows-before (rowOf 1) (λ n p f. omega (arith, one-row 1 0 (BadCapacity s) n p f)) (λ n p f. structure-rows source n p f .0))
+    first-then (rows-before (rowOf 1) (λ n p f. omega (arith, one-row 1 0 (BadCapacity s) n p f)) (λ n p f. omega (arith, structure-rows source n p f .0)))
     (capacity-first s) (structures-first source)
 
 abbrev LateFails : List ℕ → ℕ → List ℕ → Conditions

@@ -1,14 +1,15 @@
-// The program `map`: standard input is one byte for the capacity, then the source; the mapper's seven numbers go to standard output.
+// The program `map`: standard input is three bytes for the capacities, then the source; the mapper's seven numbers go to standard output.
 ghost use mathlib.Core.Path.{_≡_};
-ghost use lib.ListN.{drop, getD};
-ghost use Rattle.netlist.specs.Capacities.{capacitiesOf};
+ghost use lib.ListN.{drop};
+ghost use Rattle.netlist.specs.CapacityBytes.{capacityBytes, capacitiesIn};
 ghost use Rattle.mapper.specs.Answer.{mapAnswer};
 use libc::STDIN_FILENO;
 use libc::STDOUT_FILENO;
-use netlist::Capacities;
+use netlist::capacity_reader;
+use netlist::capacity_reader::CAPACITY_BYTES;
 
-// One byte, and a source of one record more than the longest.
-const INPUT_LIMIT: usize = 1 + netlist::WIDTH * (netlist::SOURCE_LIMIT + 1);
+// The capacities, and a source of one record more than the longest.
+const INPUT_LIMIT: usize = CAPACITY_BYTES + netlist::WIDTH * (netlist::SOURCE_LIMIT + 1);
 
 const AREA: usize = 60000;
 
@@ -38,15 +39,15 @@ fn print_line(m: mapper::Mapping) {
     io::write_all(STDOUT_FILENO, b"\n");
 }
 
-// The mapping of an input: its first byte is the capacity, a missing one counts as 0.
+// The mapping of an input: the capacities, then the source.
 fn map_input(input: &[u8], area: &mut [u8]) -> mapper::Mapping
-    ensures { λ r. ⌜ r ≡ mapAnswer (drop 1 (now (input .entry))) (capacitiesOf (getD (now (input .entry)) 0 0)) (now (area .entry)) ⌝ }
+    ensures { λ r. ⌜ r ≡ mapAnswer (drop capacityBytes (now (input .entry))) (capacitiesIn (now (input .entry))) (now (area .entry)) ⌝ }
 {
-    if input.len() == 0 {
-        return mapper::map_netlist(input, Capacities { buffer: 0 }, area);
+    let capacities = capacity_reader::read_capacities(input);
+    if input.len() < CAPACITY_BYTES {
+        return mapper::map_netlist(&input[0..0], capacities, area);
     }
-    let capacity = facts::wide(input[0]) as u32;
-    mapper::map_netlist(&input[1..], Capacities { buffer: capacity }, area)
+    mapper::map_netlist(&input[CAPACITY_BYTES..], capacities, area)
 }
 
 fn main() {

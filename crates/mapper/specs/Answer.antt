@@ -1,4 +1,4 @@
--- The mapper's answer (specification 4.1, 2.6, 3.3): checks 1 to 10, seven numbers, the area.
+-- The mapper's answer (specification 4.1, 2.6, 3.3): checks 1, 26 and 2 to 10, seven numbers, the area.
 use Prim.Native.Nat.{ℕ, _+_, _*_}
 use mathlib.Core.Bool.{Bool}
 use mathlib.Core.List.{List, [], _∷_}
@@ -27,12 +27,12 @@ tooLarge n caps = ltb mappedLimit (mappedSize n caps)
 abbrev pub tooShort : Netlist → Capacities → List ℕ → Bool
 tooShort n caps area = ltb (length area) (width * mappedSize n caps)
 
--- 1 to 9: whether the source has a mapped netlist
+-- 1, 26 and 2 to 9: whether the source has a mapped netlist
 unfoldable pub sourceMaps : List ℕ → Capacities → Checked
 sourceMaps bytes caps =
     inputChecks bytes caps andThen treeChecks (netlist bytes) caps andThen check 9 0 (tooLarge (netlist bytes) caps)
 
--- 1 to 10
+-- 1, 26 and 2 to 10
 unfoldable pub mapChecks : List ℕ → Capacities → List ℕ → Checked
 mapChecks bytes caps area = sourceMaps bytes caps andThen check 10 0 (tooShort (netlist bytes) caps area)
 

@@ -31,18 +31,18 @@ TooLarge n caps = mappedLimit < mappedSize n caps
 abbrev pub TooShort : Netlist → Capacities → List ℕ → Type 0
 TooShort n caps area = length area < width * mappedSize n caps
 
--- 1 to 9
+-- 1, 26 and 2 to 9
 abbrev pub SourceMapFails : List ℕ → Capacities → Conditions
 SourceMapFails bytes caps =
     InputFails bytes caps
     or Each (recordCount bytes) (λ d. Fails 8 d (Treeless (netlist bytes) caps d))
     or Fails 9 0 (TooLarge (netlist bytes) caps)
 
--- 1 to 10
+-- 1, 26 and 2 to 10
 abbrev pub MapFails : List ℕ → Capacities → List ℕ → Conditions
 MapFails bytes caps area = SourceMapFails bytes caps or Fails 10 0 (TooShort (netlist bytes) caps area)
 
--- each of 1 to 10 is answered exactly where its condition is the first that holds, and a call is accepted exactly if none does
+-- each of 1, 26 and 2 to 10 is answered exactly where its condition is the first that holds, and a call is accepted exactly if none does
 abbrev pub MapExact : Type 0
 MapExact = (bytes : List ℕ) (caps : Capacities) (area : List ℕ) → Exact (MapFails bytes caps area) (mapChecks bytes caps area)
 

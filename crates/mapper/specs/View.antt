@@ -25,7 +25,7 @@ ownEnds n caps d = record { from = blockStart n caps d; to = blockStart n caps (
 abbrev pub endsOf : Checked → Netlist → Capacities → ℕ → Ends
 endsOf checks n caps d = unlessRefused checks (cond (isDriver (n .at d .kind)) (ownEnds n caps d) noEnds) noEnds
 
--- none where 1 to 9 refuse the source and the capacities, or the record is no driver
+-- none where 1, 26 or one of 2 to 9 refuses the source or the capacities, or the record is no driver
 unfoldable pub blockEnds : List ℕ → Capacities → ℕ → Ends
 blockEnds bytes caps d = endsOf (sourceMaps bytes caps) (netlist bytes) caps d
 

@@ -1,4 +1,4 @@
--- Laws of checks 1 to 7, with premises as the code has them: what each test gives of the check's answer.
+-- Laws of checks 2 to 7, with premises as the code has them: what each test gives of the check's answer.
 use Prim.Native.Nat.{ℕ, zero, suc, _+_, _*_, _%_, _^_, _<_, _≤_}
 use native.Mathlib.Decide.{decLt}
 use native.Mathlib.Nat.{one-mul, mod-eq-of-lt}

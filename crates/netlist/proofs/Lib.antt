@@ -3,6 +3,7 @@ pub mod Bytes
 pub mod Levels
 pub mod Checks
 pub mod Counts
+pub mod InputCapacity
 pub mod Records
 pub mod Refusals
 pub mod Source

@@ -1,4 +1,4 @@
--- The answers of checks 1 to 7 are exact: each test is its condition, and the checks stand in the table's order.
+-- The answers of checks 1, 26 and 2 to 7 are exact: each test is its condition, and the checks stand in the table's order.
 use Prim.Native.Nat.{ℕ, _%_, _^_, _<_, _≤_}
 use native.Mathlib.Omega.{arith}
 use mathlib.Core.Path.{_≡_}
@@ -18,16 +18,34 @@ use Rattle.facts.proofs.Refusals.{InRow, UpTo, After, Within, rows-before, one-
 use Rattle.netlist.specs.declared.Capacities.{Capacities}
 use Rattle.netlist.specs.declared.Record.{Record}
 use Rattle.netlist.specs.Kinds.{width, slots, unused, sourceLimit, topLevel, arity, input, output, invertible}
+use Rattle.netlist.specs.Capacities.{inputLimit}
 use Rattle.netlist.specs.Records.{Netlist, netlist, recordCount, slot, depth}
-use Rattle.netlist.specs.Checks.{badCapacity, badInversion, badSlot, badSlots, notBelow, misplaced, badLevel, capacityCheck, sizeChecks, structureAt, recordChecks, sourceChecks, structureChecks, inputChecks}
+use Rattle.netlist.specs.Checks.{badCapacity, badInputCapacity, badInversion, badSlot, badSlots, notBelow, misplaced, badLevel, capacityCheck, capacityChecks, sizeChecks, structureAt, recordChecks, sourceChecks, structureChecks, inputChecks}
 use Rattle.netlist.proofs.Checks.{arity-slots}
-use Rattle.netlist.specs.Refusals.{BadCapacity, Ragged, TooMany, BadInversion, BadSlots, Misplaced, BadLevel, SizeFails, StructureFails, RecordFails, SourceFails, StructuresFail, InputFails, SourceExact, StructureExact, InputExact}
+use Rattle.netlist.specs.Refusals.{BadCapacity, BadInputCapacity, CapacityFails, Ragged, TooMany, BadInversion, BadSlots, Misplaced, BadLevel, SizeFails, StructureFails, RecordFails, SourceFails, StructuresFail, InputFails, SourceExact, StructureExact, InputExact}
 
 capacity-is : (s : ℕ) → (badCapacity s ≡ true) ↔ BadCapacity s
 capacity-is s = either-is (less s 2) (less 4 s)
 
 pub capacity-first : (s : ℕ) → First (Fails 1 0 (BadCapacity s)) (capacityCheck s)
 capacity-first s = first-check 1 0 (capacity-is s)
+
+input-capacity-is : (b : ℕ) → (badInputCapacity b ≡ true) ↔ BadInputCapacity b
+input-capacity-is b = either-is (less b 1) (less inputLimit b)
+
+-- 1 and 26 stand in the table's first two rows
+pub capacity-rows : (caps : Capacities) (n p : ℕ) → CapacityFails caps n p → (rowOf 0 < rowOf n) × (rowOf n ≤ rowOf 26)
+capacity-rows caps n p =
+    ⊎-elim
+    (λ f. omega (arith, one-row 1 0 (BadCapacity (caps .buffer)) n p f))
+    (λ f. omega (arith, one-row 26 0 (BadInputCapacity (caps .input)) n p f))
+
+pub capacities-first : (caps : Capacities) → First (CapacityFails caps) (capacityChecks caps)
+capacities-first caps =
+    first-then
+    (rows-before (rowOf 1) (λ n p f. omega (arith, one-row 1 0 (BadCapacity (caps .buffer)) n p f)) (λ n p f. omega (arith, one-row 26 0 (BadInputCapacity (caps .input)) n p f)))
+    (capacity-first (caps .buffer))
+    (first-check 26 0 (input-capacity-is (caps .input)))
 
 inversion-is : (r : Record) → (badInversion r ≡ true) ↔ BadInversion r
 inversion-is r = iff-trans (most (2 ^ invertible (r .kind)) (r .inversion)) (bit-from (invertible (r .kind)) (r .inversion))
@@ -84,7 +102,7 @@ record-first m k =
     (structure-first m k)
     (first-check 7 k (level-is m (m .at k)))
 
-size-rows : (bytes : List ℕ) (n p : ℕ) → SizeFails bytes n p → (rowOf 1 < rowOf n) × (rowOf n ≤ rowOf 3)
+size-rows : (bytes : List ℕ) (n p : ℕ) → SizeFails bytes n p → (rowOf 26 < rowOf n) × (rowOf n ≤ rowOf 3)
 size-rows bytes n p =
     ⊎-elim
     (λ f. omega (arith, one-row 2 0 (Ragged bytes) n p f))
@@ -95,7 +113,7 @@ module _ (bytes : List ℕ) (f : ℕ → Checked) (F : ℕ → Conditions) (last
   records-rows : InRow (rowOf 7) (Each (recordCount bytes) F)
   records-rows = scan-rows F (rowOf 7) 4 last (recordCount bytes) within
 
-  all-rows : (n p : ℕ) → (SizeFails bytes or Each (recordCount bytes) F) n p → (rowOf 1 < rowOf n) × (rowOf n ≤ rowOf 7)
+  all-rows : (n p : ℕ) → (SizeFails bytes or Each (recordCount bytes) F) n p → (rowOf 26 < rowOf n) × (rowOf n ≤ rowOf 7)
   all-rows n p = ⊎-elim (λ f. omega (arith, size-rows bytes n p f)) (λ f. omega (arith, records-rows n p f))
 
   all-first : ((k : ℕ) → First (F k) (f k)) →
@@ -108,24 +126,22 @@ module _ (bytes : List ℕ) (f : ℕ → Checked) (F : ℕ → Conditions) (last
       (first-check 3 0 (less sourceLimit (recordCount bytes))))
       (first-scan f F (rowOf 7) 4 last within (recordCount bytes) (λ k l. each k))
 
--- the conditions of checks 2 to 7, and of 2 to 6, stand in the table's rows after that of 1, up to that of 7
-pub source-rows : (bytes : List ℕ) (n p : ℕ) → SourceFails bytes n p → (rowOf 1 < rowOf n) × (rowOf n ≤ rowOf 7)
+-- the conditions of checks 2 to 7, and of 2 to 6, stand in the table's rows after that of 26, up to that of 7
+pub source-rows : (bytes : List ℕ) (n p : ℕ) → SourceFails bytes n p → (rowOf 26 < rowOf n) × (rowOf n ≤ rowOf 7)
 source-rows bytes = all-rows bytes (recordChecks (netlist bytes)) (RecordFails (netlist bytes)) 7 (record-within (netlist bytes))
 
-pub structure-rows : (bytes : List ℕ) (n p : ℕ) → StructuresFail bytes n p → (rowOf 1 < rowOf n) × (rowOf n ≤ rowOf 7)
+pub structure-rows : (bytes : List ℕ) (n p : ℕ) → StructuresFail bytes n p → (rowOf 26 < rowOf n) × (rowOf n ≤ rowOf 7)
 structure-rows bytes = all-rows bytes (structureAt (netlist bytes)) (StructureFails (netlist bytes)) 6 (structure-within (netlist bytes))
 
--- and those of 1 to 7 in the rows up to that of 7
+-- and those of 1, 26 and 2 to 7 in the rows up to that of 7
 pub input-rows : (bytes : List ℕ) (caps : Capacities) → UpTo (rowOf 7) (InputFails bytes caps)
 input-rows bytes caps n p =
-    ⊎-elim (λ f. omega (arith, one-row 1 0 (BadCapacity (caps .buffer)) n p f)) (λ f. source-rows bytes n p f .1)
+    ⊎-elim (λ f. omega (arith, capacity-rows caps n p f)) (λ f. source-rows bytes n p f .1)
 
 -- so no refusal has number 0
 pub input-numbered : (bytes : List ℕ) (caps : Capacities) → After (rowOf 0) (InputFails bytes caps)
 input-numbered bytes caps n p =
-    ⊎-elim
-    (λ f. omega (arith, one-row 1 0 (BadCapacity (caps .buffer)) n p f))
-    (λ f. omega (arith, source-rows bytes n p f .0))
+    ⊎-elim (λ f. capacity-rows caps n p f .0) (λ f. omega (arith, source-rows bytes n p f .0))
 
 pub source-first : (bytes : List ℕ) → First (SourceFails bytes) (sourceChecks bytes)
 unfolding sourceChecks
@@ -140,8 +156,8 @@ structures-first bytes =
 pub input-first : (bytes : List ℕ) (caps : Capacities) → First (InputFails bytes caps) (inputChecks bytes caps)
 input-first bytes caps =
     first-then
-    (rows-before (rowOf 1) (λ n p f. omega (arith, one-row 1 0 (BadCapacity (caps .buffer)) n p f)) (λ n p f. source-rows bytes n p f .0))
-    (capacity-first (caps .buffer))
+    (rows-before (rowOf 26) (λ n p f. capacity-rows caps n p f .1) (λ n p f. source-rows bytes n p f .0))
+    (capacities-first caps)
     (source-first bytes)
 
 pub source-exact : SourceExact

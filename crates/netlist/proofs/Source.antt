@@ -92,15 +92,19 @@ structured-passed bytes =
           ),
     )
 
--- passing 2 and 3, 1, 1 to 6, and 1 to 7
+-- passing 2 and 3, 1, 1 and 26, 1 to 6, and 1, 26 and 2 to 7
 pub size-passed : (bytes : List ℕ) → (sizeChecks bytes ≡ Passed) ↔ ((length bytes % width ≡ 0) × (recordCount bytes ≤ sourceLimit))
 size-passed bytes = simp reflect (λ h. h, λ h. h)
 
 pub capacity-passed : (s : ℕ) → (capacityCheck s ≡ Passed) ↔ ((2 ≤ s) × (s ≤ 4))
 capacity-passed s = simp reflect (λ h. h, λ h. h)
 
-pub capacities-passed : (caps : Capacities) → capacityChecks caps ≡ Passed → Allowed caps
-capacities-passed caps e = let h = capacity-passed (caps .buffer) .0 e in record { low = h .0; high = h .1 }
+pub capacities-passed : (caps : Capacities) → (capacityChecks caps ≡ Passed) ↔ Allowed caps
+capacities-passed caps =
+    simp reflect (
+      λ h. record { low = h .0 .0; high = h .0 .1; some = h .1 .0; most = h .1 .1 },
+      λ a. ((a .low, a .high), (a .some, a .most)),
+    )
 
 pub unlevelled-passed : (bytes : List ℕ) (s : ℕ) → ((capacityCheck s andThen structureChecks bytes) ≡ Passed) ↔ Unlevelled bytes s
 unlevelled-passed bytes s = (
@@ -116,7 +120,7 @@ unlevelled-passed bytes s = (
 pub input-passed : (source : List ℕ) (caps : Capacities) → inputChecks source caps ≡ Passed → Input source caps
 input-passed source caps e =
     let h = then-passed (capacityChecks caps) (sourceChecks source) .0 e in
-    record { isSource = source-passed source .0 (h .1); allowed = capacities-passed caps (h .0) }
+    record { isSource = source-passed source .0 (h .1); allowed = capacities-passed caps .0 (h .0) }
 
 -- the kinds of a source's records
 module _ (n : Netlist) (source : IsSource n) (k : ℕ) (l : k < n .size) where

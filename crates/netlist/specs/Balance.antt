@@ -3,7 +3,7 @@ use Prim.Native.Nat.{ℕ, suc, _≤_, _<_}
 use mathlib.Core.Path.{_≡_}
 use mathlib.Core.Bool.{true}
 use Rattle.netlist.specs.declared.Capacities.{Capacities}
-use Rattle.netlist.specs.Kinds.{input, output, buffer, arity, isDriver}
+use Rattle.netlist.specs.Kinds.{input, output, buffer, arity, isGate}
 use Rattle.netlist.specs.Records.{Netlist, fanin, feeds}
 
 -- every used slot names a record of the netlist
@@ -21,7 +21,8 @@ pub record PathBalanced (m : Netlist) : Type 0 where
   pub outputs : (k i : ℕ) → k < m .size → i < m .size → m .at k .kind ≡ output → m .at i .kind ≡ output →
       m .at k .level ≡ m .at i .level
 
--- an input or a gate feeds at most one slot, a buffer at most its capacity
+-- a gate feeds at most one slot, an input and a buffer at most their capacities
 pub record ProperlyBranched (caps : Capacities) (m : Netlist) : Type 0 where
-  pub drivers : (k : ℕ) → k < m .size → isDriver (m .at k .kind) ≡ true → feeds m k ≤ 1
+  pub inputs : (k : ℕ) → k < m .size → m .at k .kind ≡ input → feeds m k ≤ caps .input
+  pub gates : (k : ℕ) → k < m .size → isGate (m .at k .kind) ≡ true → feeds m k ≤ 1
   pub buffers : (k : ℕ) → k < m .size → m .at k .kind ≡ buffer → feeds m k ≤ caps .buffer

@@ -3,21 +3,27 @@ use Prim.Native.Nat.{ℕ, _≤_}
 use mathlib.Core.Bool.{cond}
 use lib.Dec.{eqb}
 use Rattle.netlist.specs.declared.Capacities.{Capacities}
-use Rattle.netlist.specs.Kinds.{buffer}
+use Rattle.netlist.specs.Kinds.{input, buffer}
 
--- the capacities that a caller's number s stands for
-abbrev pub capacitiesOf : ℕ → Capacities
-capacitiesOf s = record { buffer = s }
+-- the capacities that a caller's numbers s and b stand for
+abbrev pub capacitiesOf : ℕ → ℕ → Capacities
+capacitiesOf s b = record { buffer = s; input = b }
 
--- slots that an input or a gate may feed
-abbrev pub driverCapacity : ℕ
-driverCapacity = 1
+-- slots that a gate may feed
+abbrev pub gateCapacity : ℕ
+gateCapacity = 1
+
+-- the most slots that an input may be given
+abbrev pub inputLimit : ℕ
+inputLimit = 4095
 
 -- the most slots that a record of a kind may feed
 abbrev pub capacityOf : Capacities → ℕ → ℕ
-capacityOf caps kind = cond (eqb kind buffer) (caps .buffer) driverCapacity
+capacityOf caps kind = cond (eqb kind buffer) (caps .buffer) (cond (eqb kind input) (caps .input) gateCapacity)
 
--- capacities that pass check 1
+-- capacities that pass checks 1 and 26
 pub record Allowed (caps : Capacities) : Type 0 where
   pub low : 2 ≤ caps .buffer
   pub high : caps .buffer ≤ 4
+  pub some : 1 ≤ caps .input
+  pub most : caps .input ≤ inputLimit

@@ -1,4 +1,4 @@
--- Checks 1 to 7 (specification 3.3), each a condition with a name, and their order.
+-- Checks 1, 26 and 2 to 7 (specification 3.3), each a condition with a name, and their order.
 use Prim.Native.Nat.{ℕ, _%_, _^_}
 use mathlib.Core.Bool.{Bool, cond, not, _&&_, _||_}
 use mathlib.Core.List.{List}
@@ -10,11 +10,16 @@ use Rattle.facts.specs.Sums.{any}
 use Rattle.netlist.specs.declared.Capacities.{Capacities}
 use Rattle.netlist.specs.declared.Record.{Record}
 use Rattle.netlist.specs.Kinds.{width, slots, unused, topLevel, sourceLimit, input, output, arity, invertible}
+use Rattle.netlist.specs.Capacities.{inputLimit}
 use Rattle.netlist.specs.Records.{Netlist, netlist, recordCount, slot, depth}
 
 -- 1: no capacity of a buffer
 abbrev pub badCapacity : ℕ → Bool
 badCapacity s = ltb s 2 || ltb 4 s
+
+-- 26: no capacity of an input
+abbrev pub badInputCapacity : ℕ → Bool
+badInputCapacity b = ltb b 1 || ltb inputLimit b
 
 -- 2: the length is no multiple of a record's
 abbrev pub ragged : List ℕ → Bool
@@ -61,8 +66,13 @@ badLevel m r = misplaced (depth m) r || any (notBelow m r) slots
 abbrev pub capacityCheck : ℕ → Checked
 capacityCheck s = check 1 0 (badCapacity s)
 
+-- 26
+abbrev pub inputCapacityCheck : ℕ → Checked
+inputCapacityCheck b = check 26 0 (badInputCapacity b)
+
+-- 1 and 26
 abbrev pub capacityChecks : Capacities → Checked
-capacityChecks caps = capacityCheck (caps .buffer)
+capacityChecks caps = capacityCheck (caps .buffer) andThen inputCapacityCheck (caps .input)
 
 -- 2 and 3
 abbrev pub sizeChecks : List ℕ → Checked
@@ -92,6 +102,6 @@ structureAt m k = structureOf m k (m .at k)
 unfoldable pub structureChecks : List ℕ → Checked
 structureChecks bytes = sizeChecks bytes andThen scan (structureAt (netlist bytes)) 0 (recordCount bytes)
 
--- 1 to 7: what every call with capacities checks first
+-- 1, 26 and 2 to 7: what every call with capacities and a source checks first
 abbrev pub inputChecks : List ℕ → Capacities → Checked
 inputChecks bytes caps = capacityChecks caps andThen sourceChecks bytes

@@ -1,10 +1,12 @@
 pub mod Kinds
 pub mod Capacities
 pub mod Records
+pub mod CapacityBytes
 pub mod Bytes
 pub mod PrivateBytes
 pub mod Counts
 pub mod Checks
+pub mod InputCapacity
 pub mod Refusals
 pub mod Source
 pub mod PrivateInput

@@ -1,4 +1,4 @@
--- The conditions of checks 1 to 7 as facts (specification 3.3), and the theorem that the answers are exact.
+-- The conditions of checks 1, 26 and 2 to 7 as facts (specification 3.3), and the theorem that the answers are exact.
 use Prim.Native.Nat.{ℕ, _/_, _%_, _^_, _<_, _≤_}
 use mathlib.Core.Path.{_≡_}
 use mathlib.Core.Logic.{_⊎_, _≢_}
@@ -8,12 +8,17 @@ use Rattle.facts.specs.Refusals.{Conditions, Fails, _or_, Each, Exact}
 use Rattle.netlist.specs.declared.Capacities.{Capacities}
 use Rattle.netlist.specs.declared.Record.{Record}
 use Rattle.netlist.specs.Kinds.{width, slots, unused, topLevel, sourceLimit, input, output, arity, invertible}
+use Rattle.netlist.specs.Capacities.{inputLimit}
 use Rattle.netlist.specs.Records.{Netlist, netlist, recordCount, slot, depth}
 use Rattle.netlist.specs.Checks.{sourceChecks, structureChecks, inputChecks}
 
 -- 1: a buffer's capacity is not 2, 3 or 4
 abbrev pub BadCapacity : ℕ → Type 0
 BadCapacity s = (s < 2) ⊎ (4 < s)
+
+-- 26: an input's capacity is 0 or above 4,095
+abbrev pub BadInputCapacity : ℕ → Type 0
+BadInputCapacity b = (b < 1) ⊎ (inputLimit < b)
 
 -- 2: the length is no multiple of 10
 abbrev pub Ragged : List ℕ → Type 0
@@ -47,9 +52,9 @@ Misplaced deep r =
 abbrev pub BadLevel : Netlist → Record → Type 0
 BadLevel m r = Misplaced (depth m) r ⊎ ((j : ℕ) × (j < arity (r .kind)) × (r .level ≤ m .at (slot r j) .level))
 
--- 1
+-- 1 and 26
 abbrev pub CapacityFails : Capacities → Conditions
-CapacityFails caps = Fails 1 0 (BadCapacity (caps .buffer))
+CapacityFails caps = Fails 1 0 (BadCapacity (caps .buffer)) or Fails 26 0 (BadInputCapacity (caps .input))
 
 -- 2 and 3
 abbrev pub SizeFails : List ℕ → Conditions
@@ -72,7 +77,7 @@ SourceFails bytes = SizeFails bytes or Each (recordCount bytes) (RecordFails (ne
 abbrev pub StructuresFail : List ℕ → Conditions
 StructuresFail bytes = SizeFails bytes or Each (recordCount bytes) (StructureFails (netlist bytes))
 
--- 1 to 7
+-- 1, 26 and 2 to 7
 abbrev pub InputFails : List ℕ → Capacities → Conditions
 InputFails bytes caps = CapacityFails caps or SourceFails bytes
 
@@ -84,6 +89,6 @@ SourceExact = (bytes : List ℕ) → Exact (SourceFails bytes) (sourceChecks byt
 abbrev pub StructureExact : Type 0
 StructureExact = (bytes : List ℕ) → Exact (StructuresFail bytes) (structureChecks bytes)
 
--- the same with the capacities' check before it
+-- the same with the capacities' checks before it
 abbrev pub InputExact : Type 0
 InputExact = (bytes : List ℕ) (caps : Capacities) → Exact (InputFails bytes caps) (inputChecks bytes caps)

@@ -1,15 +1,17 @@
-// Records of ten bytes, the source reader (checks 1 to 7) and the record view.
+// Records of ten bytes, the source reader (checks 1, 26 and 2 to 7) and the record view.
 ghost use mathlib.Core.Path.{_≡_};
+ghost use lib.Dec.{leb};
 ghost use Rattle.netlist.specs.Kinds.{among, isGate, isDriver};
 ghost use Rattle.netlist.specs.Kinds;
 ghost use Rattle.netlist.specs.Records.{recordAt, recordCount, netlist};
 ghost use Rattle.netlist.specs.Records;
 ghost use Rattle.netlist.specs.Counts.{countKind, countOf, gates};
-ghost use Rattle.netlist.specs.Capacities.{capacityOf};
-ghost use Rattle.netlist.specs.Checks.{capacityCheck, capacityChecks, sourceChecks, inputChecks};
+ghost use Rattle.netlist.specs.Capacities.{capacityOf, Allowed};
+ghost use Rattle.netlist.specs.Checks.{capacityCheck, inputCapacityCheck, capacityChecks, sourceChecks, inputChecks};
 ghost use Rattle.netlist.specs.View.{viewOf};
 use facts::Checked;
 
+pub mod capacity_reader;
 pub mod record_reader;
 pub mod record_writer;
 pub mod source_reader;
@@ -33,8 +35,12 @@ pub const LEAST_CAPACITY: u32 = 2;
 
 pub const MOST_CAPACITY: u32 = 4;
 
-// Slots that an input or a gate may feed.
-pub const DRIVER_CAPACITY: u32 = 1;
+pub const LEAST_INPUT_CAPACITY: u32 = 1;
+
+pub const MOST_INPUT_CAPACITY: u32 = 4095;
+
+// Slots that a gate may feed.
+pub const GATE_CAPACITY: u32 = 1;
 
 pub const INPUT: u8 = 0;
 
@@ -58,9 +64,10 @@ pub struct Record {
     pub slots: [u16; SLOTS],
 }
 
-// What a netlist is made for (specification 2.2): the most slots that a buffer may feed.
+// What a netlist is made for (specification 2.2): the most slots that a buffer may feed, and that an input may.
 pub struct Capacities {
     pub buffer: u32,
+    pub input: u32,
 }
 
 // The most slots that a record of a kind may feed.
@@ -70,7 +77,10 @@ pub fn capacity_of(capacities: Capacities, kind: u8) -> u32
     if kind == BUFFER {
         return capacities.buffer;
     }
-    DRIVER_CAPACITY
+    if kind == INPUT {
+        return capacities.input;
+    }
+    GATE_CAPACITY
 }
 
 // How many slots a kind uses: slots 0 to arity - 1.
@@ -193,6 +203,17 @@ pub fn count_gates(bytes: &[u8]) -> usize
     count_kinds(bytes, AND, MAJORITY)
 }
 
+// Whether record k may feed so many slots: one in any case, more as its kind says.
+pub fn may_feed(bytes: &[u8], capacities: Capacities, k: usize, slots: u32) -> bool
+    requires { ⌜ Allowed capacities ⌝ }
+    ensures { λ b. ⌜ b ≡ leb slots (capacityOf capacities (recordAt (now (bytes .entry)) k .kind)) ⌝ }
+{
+    if slots <= GATE_CAPACITY {
+        return true;
+    }
+    slots <= capacity_of(capacities, kind_at(bytes, k))
+}
+
 // D: the level of the first output, 0 without outputs.
 pub fn depth(bytes: &[u8]) -> u16
     ensures { λ r. ⌜ r ≡ Records.depth (netlist (now (bytes .entry))) ⌝ }
@@ -224,20 +245,34 @@ pub fn check_source(bytes: &[u8]) -> Checked
 pub fn check_capacity(capacity: u32) -> Checked
     ensures { λ a. ⌜ a ≡ capacityCheck capacity ⌝ }
 {
-    if source_reader::bad_capacity(capacity) {
+    if source_reader::is_outside(capacity, LEAST_CAPACITY, MOST_CAPACITY) {
         return Checked::Refused(1, 0);
     }
     Checked::Passed
 }
 
-// Check 1.
+// Check 26 of an input's capacity.
+fn check_input_capacity(capacity: u32) -> Checked
+    ensures { λ a. ⌜ a ≡ inputCapacityCheck capacity ⌝ }
+{
+    if source_reader::is_outside(capacity, LEAST_INPUT_CAPACITY, MOST_INPUT_CAPACITY) {
+        return Checked::Refused(26, 0);
+    }
+    Checked::Passed
+}
+
+// Checks 1 and 26.
 pub fn check_capacities(capacities: Capacities) -> Checked
     ensures { λ a. ⌜ a ≡ capacityChecks capacities ⌝ }
 {
-    check_capacity(capacities.buffer)
+    let buffers = check_capacity(capacities.buffer);
+    match buffers {
+        Checked::Passed => check_input_capacity(capacities.input),
+        Checked::Refused(number, place) => Checked::Refused(number, place),
+    }
 }
 
-// What every call with capacities checks first: 1 to 7.
+// What every call with capacities and a source checks first: 1, 26 and 2 to 7.
 pub fn check_input(bytes: &[u8], capacities: Capacities) -> Checked
     ensures { λ a. ⌜ a ≡ inputChecks (now (bytes .entry)) capacities ⌝ }
 {

@@ -1,20 +1,18 @@
-// The source reader: checks 1 to 7.
+// The source reader: checks 2 to 7, and what 1 and 26 test.
 ghost use mathlib.Core.Path.{_≡_};
 ghost use mathlib.Core.Bool.{false, cond, _||_};
 ghost use Prim.Native.Nat.{_^_, _<_};
-ghost use lib.Dec.{eqb};
+ghost use lib.Dec.{ltb, eqb};
 ghost use Rattle.facts.specs.Checks.{_andThen_, scan};
 ghost use Rattle.facts.specs.Sums.{any};
 ghost use Rattle.netlist.specs.Kinds.{slots, output, invertible};
 ghost use Rattle.netlist.specs.Kinds;
 ghost use Rattle.netlist.specs.Records.{recordCount, netlist};
 ghost use Rattle.netlist.specs.Records;
-ghost use Rattle.netlist.specs.Checks.{badCapacity, badSlot, badSlots, notBelow, misplaced, badLevel, sizeChecks, structureOf, levelOf, recordChecks};
+ghost use Rattle.netlist.specs.Checks.{badSlot, badSlots, notBelow, misplaced, badLevel, sizeChecks, structureOf, levelOf, recordChecks};
 use crate::AND;
 use crate::INPUT;
-use crate::LEAST_CAPACITY;
 use crate::MAJORITY;
-use crate::MOST_CAPACITY;
 use crate::OR;
 use crate::OUTPUT;
 use crate::Record;
@@ -257,12 +255,12 @@ pub fn check_size(bytes: &[u8]) -> Checked
     Checked::Passed
 }
 
-// Check 1: no capacity of a buffer.
-pub(crate) fn bad_capacity(capacity: u32) -> bool
-    ensures { λ b. ⌜ b ≡ badCapacity capacity ⌝ }
+// Whether a number is too small or too large.
+pub(crate) fn is_outside(number: u32, least: u32, most: u32) -> bool
+    ensures { λ b. ⌜ b ≡ (ltb number least || ltb most number) ⌝ }
 {
-    if capacity < LEAST_CAPACITY {
+    if number < least {
         return true;
     }
-    MOST_CAPACITY < capacity
+    most < number
 }

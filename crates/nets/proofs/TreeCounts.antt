@@ -10,7 +10,7 @@ use mir.Syntax.{w64}
 use native.Mathlib.Decide.{ℕ-discrete}
 use lib.ListN.{length, replicate, getD, drop, set, length-set}
 use lib.Dec.{ltb, leb}
-use borrow.Author.Tests.{le-leb, lt-ltb, le-ltb, not-false}
+use borrow.Author.Tests.{lt-ltb, le-ltb, not-false}
 use Rattle.facts.specs.declared.Checked.{Checked}
 use Rattle.facts.specs.declared.Checked.the-variants.{Passed, Refused}
 use Rattle.facts.specs.Checks.{check, _andThen_, scan}
@@ -22,7 +22,7 @@ use Rattle.netlist.specs.declared.Capacities.{Capacities}
 use Rattle.netlist.specs.Kinds.{topLevel, slots, sourceLimit}
 use Rattle.netlist.specs.Records.{Netlist, netlist, recordCount}
 use Rattle.netlist.specs.Source.{IsSource}
-use Rattle.netlist.specs.Capacities.{driverCapacity, capacityOf, Allowed}
+use Rattle.netlist.specs.Capacities.{capacityOf, Allowed}
 use Rattle.fanout.specs.Nets.{netHasTree, treeSize, row, fewestInAll, sinks}
 use Rattle.fanout.specs.Answer.{noTree, countNumbers}
 use Rattle.fanout.specs.declared.TreeTotals.{TreeTotals}
@@ -38,7 +38,6 @@ use Rattle.fanout.proofs.Nets.{nodes-none, buffers-none}
 use Rattle.fanout.proofs.Rows.{row-none}
 use Rattle.netlist.specs.Checks.{inputChecks}
 use Rattle.netlist.proofs.Source.{input-passed}
-use Rattle.netlist.proofs.Balance.{capacity-least}
 use Rattle.nets.proofs.Chains.{chained-all}
 
 -- no sink: no node and no buffer
@@ -56,10 +55,6 @@ measured-none n caps d p z =
 pub measured : (n : Netlist) (caps : Capacities) (d top : ℕ) (counts : List ℕ) → Filled n d counts top → (after : List ℕ) (t : TreeTotals) →
     Walked (caps .buffer) counts false after t → Measured n caps d t
 measured n caps d top counts f after t w = record { nodes = cc; buffers = cc }
-
--- one node hangs on any driver
-pub one-hangs : (caps : Capacities) (kind nodes : ℕ) → Allowed caps → nodes ≤ driverCapacity → true ≡ leb nodes (capacityOf caps kind)
-one-hangs caps kind nodes a h = sym (le-leb nodes (capacityOf caps kind) (omega (arith, capacity-least caps kind a)))
 
 -- the number of a net, from its tree
 number-is : (n : Netlist) (caps : Capacities) (d : ℕ) (t : TreeTotals) → Measured n caps d t → (b : Bool) (v : ℕ) →
@@ -255,7 +250,7 @@ counting n caps m total z e f = go (treesBelow n caps m) (sym e ∙ f)
     go Passed g = (refl, cc)
     go (Refused number place) g = let z : _≡_ {A = ℕ} 0 1 = cc in absurd (omega arith)
 
--- what 1 to 7 show
+-- what the checks before 8 show
 module _ (bytes : List ℕ) (caps : Capacities) (i : inputChecks bytes caps ≡ Passed) where
   pub input-source : IsSource (netlist bytes)
   input-source = input-passed bytes caps i .isSource .isSource

@@ -40,7 +40,7 @@ unfoldable pub listChecks : List ℕ → List ℕ → List ℕ → Checked
 listChecks source records counts =
     check 21 0 (badLists records counts) andThen scan (indexCheck source records) 0 (indexCount records)
 
--- 1 to 7, 21, 20
+-- 1, 26, 2 to 7, 21, 20
 unfoldable pub countsAnswer : List ℕ → Capacities → List ℕ → List ℕ → Checked
 countsAnswer source caps records counts = inputChecks source caps andThen listChecks source records counts
 

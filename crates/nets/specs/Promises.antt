@@ -23,7 +23,7 @@ BadLists records counts =
 abbrev pub IndexFails : List ℕ → List ℕ → ℕ → Conditions
 IndexFails source records k = Fails 20 k (NoDriver source (indexAt records k))
 
--- 1 to 7, 21, 20
+-- 1, 26, 2 to 7, 21, 20
 abbrev pub CountsFail : List ℕ → Capacities → List ℕ → List ℕ → Conditions
 CountsFail source caps records counts =
     InputFails source caps or (Fails 21 0 (BadLists records counts) or Each (indexCount records) (IndexFails source records))

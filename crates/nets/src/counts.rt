@@ -70,7 +70,7 @@ fn check_lists(source: &[u8], records: &[u8], counts: &[u8]) -> Checked
     check_indices(source, records)
 }
 
-// Checks 1 to 7, 21 and 20.
+// Checks 1, 26, 2 to 7, 21 and 20.
 pub(crate) fn check_counts(
     source: &[u8],
     capacities: Capacities,

@@ -1,12 +1,11 @@
 // The nets of a source, counted: the number of each, and check 8.
 ghost use mathlib.Core.Path.{_≡_};
 ghost use Prim.Native.Nat.{suc, min, _*_, _<_, _≤_};
-ghost use lib.Dec.{leb};
 ghost use mathlib.Core.Bool.{cond};
 ghost use lib.ListN.{length, getD, set, replicate};
 ghost use Rattle.facts.specs.Sums.{sum};
 ghost use Rattle.netlist.specs.Kinds.{slots, topLevel, sourceLimit};
-ghost use Rattle.netlist.specs.Capacities.{capacityOf, Allowed};
+ghost use Rattle.netlist.specs.Capacities.{Allowed};
 ghost use Rattle.netlist.specs.Records.{netlist, recordCount};
 ghost use Rattle.netlist.specs.Checks.{inputChecks};
 ghost use Rattle.fanout.specs.Nets.{fewestInAll};
@@ -22,7 +21,6 @@ use fanout::DISTANCES;
 use fanout::NO_TREE;
 use fanout::TreeTotals;
 use netlist::Capacities;
-use netlist::DRIVER_CAPACITY;
 
 // The buffers of all trees, or check 8's refusal: number and place.
 pub enum Sizing {
@@ -64,17 +62,6 @@ fn measure(
     }
 }
 
-// Whether record d may feed so many nodes: one hangs on any driver, more are held to its kind.
-fn may_feed(source: &[u8], capacities: Capacities, d: usize, nodes: u32) -> bool
-    requires { ⌜ Allowed capacities ⌝ }
-    ensures { λ b. ⌜ b ≡ leb nodes (capacityOf capacities (netlist (now (source .entry)) .at d .kind)) ⌝ }
-{
-    if nodes <= DRIVER_CAPACITY {
-        return true;
-    }
-    nodes <= netlist::capacity_of(capacities, netlist::kind_at(source, d))
-}
-
 // Stores the number of d's net, its buffers or what stands for no tree, and answers the first driver without a tree so far.
 fn keep_number(totals: &mut [u32], d: usize, fits: bool, buffers: u32, stop: usize) -> usize
     requires { ⌜ d < length (now totals) ⌝ }
@@ -113,7 +100,7 @@ pub(crate) fn count_each(
     let mut d: usize = 0;
     while d < n {
         let tree = measure(source, capacities, end, first, next, d, row);
-        let fits = may_feed(source, capacities, d, tree.nodes);
+        let fits = netlist::may_feed(source, capacities, d, tree.nodes);
         stop = keep_number(totals, d, fits, tree.buffers, stop);
         total += tree.buffers as usize;
         d += 1;
@@ -138,7 +125,7 @@ pub fn sum_below(totals: &[u32], m: usize) -> usize
     total
 }
 
-// All nets of a source that passes 1 to 7: its slots are linked, its nets counted, and check 8 made. The row is all zero before and after.
+// All nets of a source that passes the checks before 8: its slots are linked, its nets counted, and check 8 made. The row is all zero before and after.
 pub fn size_trees(
     source: &[u8],
     capacities: Capacities,

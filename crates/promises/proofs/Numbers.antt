@@ -44,7 +44,7 @@ area-numbered : (Bad : Type 0) (row : List ℕ) → Numbered (AreaFails Bad row)
 area-numbered Bad row number place = ⊎-elim (λ f. omega (arith, f .0)) (λ z. omega (arith, z .2 .0))
 
 source-numbered : (source : List ℕ) → Numbered (SourceFails source)
-source-numbered source number place f = row-positive number (rowOf 1) (source-rows source number place f .0)
+source-numbered source number place f = row-positive number (rowOf 26) (source-rows source number place f .0)
 
 verify-numbered : (source : List ℕ) (caps : Capacities) (mapped : List ℕ) → Numbered (VerifyFails source caps mapped)
 verify-numbered source caps mapped number place =

@@ -1,13 +1,13 @@
 // The program `sheet`: the files s, source and mapped of the working directory; the mapped netlist's sheet by level, or the verifier's refusal, goes to standard output.
 ghost use mathlib.Core.Path.{_≡_};
 ghost use Prim.Native.Nat.{_≤_};
-ghost use lib.ListN.{length, getD};
+ghost use lib.ListN.{length};
 ghost use Rattle.io.specs.Counts.{Counts};
 ghost use Rattle.facts.specs.Areas.{onto};
-ghost use Rattle.netlist.specs.Capacities.{capacitiesOf};
+ghost use Rattle.netlist.specs.CapacityBytes.{capacitiesIn};
 ghost use Rattle.level_sheet.specs.Text.{sheetText, textLimit};
 use libc::STDOUT_FILENO;
-use netlist::Capacities;
+use netlist::capacity_reader;
 
 // One record more than the longest source.
 const SOURCE_READ: usize = netlist::WIDTH * (netlist::SOURCE_LIMIT + 1);
@@ -28,31 +28,19 @@ fn read_file(name: &[u8], bytes: &mut [u8]) -> usize
     n
 }
 
-// The first byte; a missing one counts as 0.
-fn first_byte(bytes: &[u8]) -> u32
-    ensures { λ r. ⌜ r ≡ getD (now (bytes .entry)) 0 0 ⌝ }
-{
-    if bytes.len() == 0 {
-        return 0;
-    }
-    facts::wide(bytes[0]) as u32
-}
-
 // What is printed of the three files, at the start of the text. Answers its length.
 fn write_text(s: &[u8], source: &[u8], mapped: &[u8], text: &mut [u8]) -> usize
     requires { ⌜ textLimit ≤ length (now text) ⌝ }
     ensures { λ r. ⌜ Counts r (now (text .exit)) ⌝ }
-    ensures { λ r. ⌜ r ≡ length (sheetText (now (source .entry)) (capacitiesOf (getD (now (s .entry)) 0 0)) (now (mapped .entry))) ⌝ }
-    ensures { λ _. ⌜ now (text .exit) ≡ onto (sheetText (now (source .entry)) (capacitiesOf (getD (now (s .entry)) 0 0)) (now (mapped .entry))) (now (text .entry)) ⌝ }
+    ensures { λ r. ⌜ r ≡ length (sheetText (now (source .entry)) (capacitiesIn (now (s .entry))) (now (mapped .entry))) ⌝ }
+    ensures { λ _. ⌜ now (text .exit) ≡ onto (sheetText (now (source .entry)) (capacitiesIn (now (s .entry))) (now (mapped .entry))) (now (text .entry)) ⌝ }
 {
-    let capacities = Capacities {
-        buffer: first_byte(s),
-    };
+    let capacities = capacity_reader::read_capacities(s);
     level_sheet::write_sheet(source, capacities, mapped, text)
 }
 
 fn main() {
-    let mut s = [0u8; 1];
+    let mut s = [0u8; capacity_reader::CAPACITY_BYTES];
     let mut source = [0u8; SOURCE_READ];
     let mut mapped = [0u8; MAPPED_READ];
     let mut text = [0u8; level_sheet::TEXT_LIMIT];

@@ -37,12 +37,12 @@ AreaFails Bad row = Fails 18 0 Bad or Each (length row) (BitFails row)
 abbrev pub EvaluateFails : List ℕ → List ℕ → List ℕ → Conditions
 EvaluateFails source row area = SourceFails source or AreaFails (BadAreas (netlist source) row area) row
 
--- 1 to 7, 11 to 17, 18, 19, of a run of one row that has no output area
+-- 1, 26, 2 to 7, 11 to 17, 18, 19, of a run of one row that has no output area
 abbrev pub StepFails : List ℕ → Capacities → List ℕ → List ℕ → List ℕ → Conditions
 StepFails source caps mapped row area =
     VerifyFails source caps mapped or AreaFails (BadRows (netlist source) (netlist mapped) 1 row area) row
 
--- 1 to 7, 11 to 17, 18, 19
+-- 1, 26, 2 to 7, 11 to 17, 18, 19
 abbrev pub RunFails : List ℕ → Capacities → List ℕ → ℕ → List ℕ → List ℕ → List ℕ → Conditions
 RunFails source caps mapped r rows area outs =
     VerifyFails source caps mapped

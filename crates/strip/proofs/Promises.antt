@@ -14,12 +14,12 @@ use Rattle.facts.specs.Checks.{outcome, refuses}
 use Rattle.facts.specs.Areas.{onto}
 use Rattle.facts.specs.Refusals.{rowOf, First}
 use Rattle.facts.proofs.Reflect.{check-passed, then-passed, refuses-some, refuses-none}
-use Rattle.facts.proofs.Refusals.{Numbered, exact, rows-before, one-row, first-check, first-then, first-after}
+use Rattle.facts.proofs.Refusals.{Numbered, exact, row-positive, rows-before, one-row, first-check, first-then, first-after}
 use Rattle.netlist.specs.declared.Capacities.{Capacities}
 use Rattle.netlist.specs.Records.{netlist, recordCount}
 use Rattle.netlist.specs.Checks.{capacityChecks}
-use Rattle.netlist.proofs.Refusals.{capacity-first}
-use Rattle.netlist.proofs.Source.{capacity-passed}
+use Rattle.netlist.proofs.Refusals.{capacity-rows, capacities-first}
+use Rattle.netlist.proofs.Source.{capacities-passed}
 use Rattle.verifier.specs.Checks.{verifyChecks}
 use Rattle.verifier.proofs.Accepted.{checks-passed, accepted-exactly}
 use Rattle.strip.specs.declared.Stripped.the-variants.{Records, Refused}
@@ -57,9 +57,9 @@ strip-first : (caps : Capacities) (mapped area : List ℕ) → First (StripFails
 unfolding stripChecks strippingChecks
 strip-first caps mapped area =
     first-then
-    (rows-before (rowOf 1) (λ n p f. omega (arith, one-row 1 0 _ n p f))
+    (rows-before (rowOf 26) (λ n p f. capacity-rows caps n p f .1)
     (λ n p. ⊎-elim (λ f. omega (arith, one-row 24 0 _ n p f)) (λ f. omega (arith, one-row 25 0 _ n p f))))
-    (capacity-first (caps .buffer))
+    (capacities-first caps)
     (first-after
     (rows-before (rowOf 24) (λ n p f. omega (arith, one-row 24 0 _ n p f)) (λ n p f. omega (arith, one-row 25 0 _ n p f)))
     (first-check 24 0 (none-is caps mapped))
@@ -71,7 +71,7 @@ strip-exact caps mapped area = exact (strip-first caps mapped area)
 -- no refusal has number 0
 pub strip-numbered : (caps : Capacities) (mapped area : List ℕ) → Numbered (StripFails caps mapped area)
 strip-numbered caps mapped area n p =
-    ⊎-elim (λ f. omega (arith, f .0)) (⊎-elim (λ f. omega (arith, f .0)) (λ f. omega (arith, f .0)))
+    ⊎-elim (λ f. row-positive n (rowOf 0) (capacity-rows caps n p f .0)) (⊎-elim (λ f. omega (arith, f .0)) (λ f. omega (arith, f .0)))
 
 -- what passing gives, and what gives it
 module _ (caps : Capacities) (mapped area : List ℕ) where
@@ -86,7 +86,7 @@ module _ (caps : Capacities) (mapped area : List ℕ) where
   source-passes source s room =
       let allowed = accepted-exactly source caps mapped (s .buffers) .0 (s .accepted) .0 .allowed in
       then-passed (capacityChecks caps) _ .1 (
-        capacity-passed (caps .buffer) .1 (allowed .low, allowed .high),
+        capacities-passed caps .1 allowed,
         then-passed (sourcelessCheck caps mapped) (roomCheck (strippedBytes mapped) area) .1 (
           check-passed 24 0 _ .1 (refuses-none _ .1 (left-passed caps mapped source s)),
           check-passed 25 0 _ .1 (le-ltb (length area) (length (strippedBytes mapped)) (omega (arith, ap length (stripped-source caps mapped source s)))),

@@ -59,7 +59,7 @@ roomCheck source area = check 25 0 (ltb (length area) (length source))
 unfoldable pub strippingChecks : Capacities → List ℕ → List ℕ → Checked
 strippingChecks caps mapped area = sourcelessCheck caps mapped andThen roomCheck (strippedBytes mapped) area
 
--- 1, 24, 25
+-- 1, 26, 24, 25
 unfoldable pub stripChecks : Capacities → List ℕ → List ℕ → Checked
 stripChecks caps mapped area = capacityChecks caps andThen strippingChecks caps mapped area
 

@@ -25,7 +25,7 @@ NoSource caps mapped = (source : List ℕ) → SourceOf caps mapped source → �
 abbrev pub NoRoom : Capacities → List ℕ → List ℕ → Type 0
 NoRoom caps mapped area = (source : List ℕ) × SourceOf caps mapped source × (length area < length source)
 
--- 1, 24, 25
+-- 1, 26, 24, 25
 abbrev pub StripFails : Capacities → List ℕ → List ℕ → Conditions
 StripFails caps mapped area =
     CapacityFails caps or Fails 24 0 (NoSource caps mapped) or Fails 25 0 (NoRoom caps mapped area)

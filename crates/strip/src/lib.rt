@@ -103,7 +103,7 @@ fn strip_mapped(capacities: Capacities, mapped: &[u8], area: &mut [u8]) -> Check
     strip_counted(capacities, mapped, n, m, area)
 }
 
-// Checks 1, 24 and 25; accepted, the source at the start of the area.
+// Checks 1, 26, 24 and 25; accepted, the source at the start of the area.
 fn strip_checked(capacities: Capacities, mapped: &[u8], area: &mut [u8]) -> Checked
     ensures { λ a. ⌜ a ≡ stripChecks capacities (now (mapped .entry)) (now (area .entry)) ⌝ }
     ensures { λ _. ⌜ now (area .exit) ≡ stripArea capacities (now (mapped .entry)) (now (area .entry)) ⌝ }
@@ -115,7 +115,7 @@ fn strip_checked(capacities: Capacities, mapped: &[u8], area: &mut [u8]) -> Chec
     }
 }
 
-// Stripping: checks 1, 24 and 25; accepted, the area begins with the source, whose number of records is answered.
+// Stripping: checks 1, 26, 24 and 25; accepted, the area begins with the source, whose number of records is answered.
 pub fn strip(capacities: Capacities, mapped: &[u8], area: &mut [u8]) -> Stripped
     ensures answer { λ v. ⌜ v ≡ stripAnswer capacities (now (mapped .entry)) (now (area .entry)) ⌝ }
     ensures area { λ _. ⌜ now (area .exit) ≡ stripArea capacities (now (mapped .entry)) (now (area .entry)) ⌝ }

@@ -85,7 +85,7 @@ fn is_seven(got: [u8; 28], stored: &[u8]) -> bool {
     check::same(&got, stored)
 }
 
-// A case of the count: source, numbers (capacity, record); answer.
+// A case of the count: source, numbers (capacity, input capacity, record); answer.
 fn count_agrees(file: &[u8], at: usize) -> bool {
     let numbers = cases::skip(file, at);
     let answer = cases::skip(file, numbers);
@@ -95,21 +95,23 @@ fn count_agrees(file: &[u8], at: usize) -> bool {
         cases::field(file, at),
         cases::number(asked, 0),
         cases::number(asked, 4),
+        cases::number(asked, 8),
         &mut got,
     );
     is_three(got, cases::field(file, answer))
 }
 
-// A case of the verifier: source, numbers (capacity), mapped; answer.
+// A case of the verifier: source, numbers (capacity, input capacity), mapped; answer.
 fn verifier_agrees(file: &[u8], at: usize) -> bool {
     let numbers = cases::skip(file, at);
     let mapped = cases::skip(file, numbers);
     let answer = cases::skip(file, mapped);
     let mut got = [0u8; 12];
-    let capacity = cases::number(cases::field(file, numbers), 0);
+    let asked = cases::field(file, numbers);
     aqfp::aqfp_verify(
         cases::field(file, at),
-        capacity,
+        cases::number(asked, 0),
+        cases::number(asked, 4),
         cases::field(file, mapped),
         &mut got,
     );
@@ -137,7 +139,7 @@ fn evaluate_agrees(file: &[u8], at: usize, area: &mut [u8]) -> bool {
     }
 }
 
-// A case of the list of counts: source, numbers (capacity), records, counts before; answer, counts after.
+// A case of the list of counts: source, numbers (capacity, input capacity), records, counts before; answer, counts after.
 fn count_nets_agrees(file: &[u8], at: usize, area: &mut [u8]) -> bool {
     let numbers = cases::skip(file, at);
     let records = cases::skip(file, numbers);
@@ -146,10 +148,11 @@ fn count_nets_agrees(file: &[u8], at: usize, area: &mut [u8]) -> bool {
     let after = cases::skip(file, answer);
     let mut got = [0u8; 8];
     let n = cases::copy(cases::field(file, before), area);
-    let capacity = cases::number(cases::field(file, numbers), 0);
+    let asked = cases::field(file, numbers);
     aqfp::aqfp_count_nets(
         cases::field(file, at),
-        capacity,
+        cases::number(asked, 0),
+        cases::number(asked, 4),
         cases::field(file, records),
         &mut area[0..n],
         &mut got,
@@ -178,7 +181,7 @@ fn levels_agrees(file: &[u8], at: usize, area: &mut [u8]) -> bool {
     }
 }
 
-// A case of stripping: numbers (capacity), mapped, area before; answer, area after.
+// A case of stripping: numbers (capacity, input capacity), mapped, area before; answer, area after.
 fn strip_agrees(file: &[u8], at: usize, area: &mut [u8]) -> bool {
     let mapped = cases::skip(file, at);
     let before = cases::skip(file, mapped);
@@ -186,9 +189,10 @@ fn strip_agrees(file: &[u8], at: usize, area: &mut [u8]) -> bool {
     let after = cases::skip(file, answer);
     let mut got = [0u8; 12];
     let n = cases::copy(cases::field(file, before), area);
-    let capacity = cases::number(cases::field(file, at), 0);
+    let asked = cases::field(file, at);
     aqfp::aqfp_strip(
-        capacity,
+        cases::number(asked, 0),
+        cases::number(asked, 4),
         cases::field(file, mapped),
         &mut area[0..n],
         &mut got,
@@ -200,33 +204,39 @@ fn strip_agrees(file: &[u8], at: usize, area: &mut [u8]) -> bool {
     }
 }
 
-// A case of one step: source, numbers (capacity), mapped, row, state before; answer, state after.
-fn step_agrees(file: &[u8], at: usize, area: &mut [u8]) -> bool {
-    let numbers = cases::skip(file, at);
+// A case of one step in its area: `numbers` is where the capacities stand in the file, `answer` where the answer does.
+fn step_leaves(file: &[u8], at: usize, numbers: usize, answer: usize, state: &mut [u8]) -> bool {
+    let asked = cases::field(file, numbers);
     let mapped = cases::skip(file, numbers);
     let row = cases::skip(file, mapped);
-    let before = cases::skip(file, row);
-    let answer = cases::skip(file, before);
-    let after = cases::skip(file, answer);
     let mut got = [0u8; 8];
-    let n = cases::copy(cases::field(file, before), area);
-    let capacity = cases::number(cases::field(file, numbers), 0);
     aqfp::aqfp_step(
         cases::field(file, at),
-        capacity,
+        cases::number(asked, 0),
+        cases::number(asked, 4),
         cases::field(file, mapped),
         cases::field(file, row),
-        &mut area[0..n],
+        state,
         &mut got,
     );
     if is_two(got, cases::field(file, answer)) {
-        check::same(&area[0..n], cases::field(file, after))
+        let after = cases::skip(file, answer);
+        check::same(state, cases::field(file, after))
     } else {
         false
     }
 }
 
-// A case of the run in its areas: `numbers` is where capacity and row count stand in the file, `answer` where the answer does.
+// A case of one step: source, numbers (capacity, input capacity), mapped, row, state before; answer, state after.
+fn step_agrees(file: &[u8], at: usize, area: &mut [u8]) -> bool {
+    let numbers = cases::skip(file, at);
+    let before = cases::skip_all(file, numbers, 3);
+    let answer = cases::skip(file, before);
+    let n = cases::copy(cases::field(file, before), area);
+    step_leaves(file, at, numbers, answer, &mut area[0..n])
+}
+
+// A case of the run in its areas: `numbers` is where capacities and row count stand in the file, `answer` where the answer does.
 fn run_answers(
     file: &[u8],
     at: usize,
@@ -242,8 +252,9 @@ fn run_answers(
     aqfp::aqfp_run(
         cases::field(file, at),
         cases::number(asked, 0),
-        cases::field(file, mapped),
         cases::number(asked, 4),
+        cases::field(file, mapped),
+        cases::number(asked, 8),
         cases::field(file, rows),
         state,
         outputs,
@@ -271,7 +282,7 @@ fn run_leaves(
     check::same(outputs, cases::field(file, cases::skip(file, after)))
 }
 
-// A case of the run: source, numbers (capacity, row count), mapped, rows, state and outputs before; answer, state and outputs after.
+// A case of the run: source, numbers (capacity, input capacity, row count), mapped, rows, state and outputs before; answer, state and outputs after.
 fn run_agrees(file: &[u8], at: usize, state: &mut [u8], outputs: &mut [u8]) -> bool {
     let numbers = cases::skip(file, at);
     let before = cases::skip_all(file, numbers, 3);
@@ -289,17 +300,18 @@ fn run_agrees(file: &[u8], at: usize, state: &mut [u8], outputs: &mut [u8]) -> b
     )
 }
 
-// A case of the block view: source, numbers (capacity, record), mapped; part.
+// A case of the block view: source, numbers (capacity, input capacity, record), mapped; part.
 fn block_view_agrees(file: &[u8], at: usize) -> bool {
     let numbers = cases::skip(file, at);
     let mapped = cases::skip(file, numbers);
     let part = cases::skip(file, mapped);
     let asked = cases::field(file, numbers);
-    let driver = cases::number(asked, 4) as usize;
+    let driver = cases::number(asked, 8) as usize;
     let block = mapper::block_of(
         cases::field(file, at),
         netlist::Capacities {
             buffer: cases::number(asked, 0),
+            input: cases::number(asked, 4),
         },
         cases::field(file, mapped),
         driver,
@@ -307,13 +319,13 @@ fn block_view_agrees(file: &[u8], at: usize) -> bool {
     check::same(block, cases::field(file, part))
 }
 
-// A case of the mapper: source, numbers (capacity, length of the area); answer, area after.
+// A case of the mapper: source, numbers (capacity, input capacity, length of the area); answer, area after.
 fn mapper_agrees(file: &[u8], at: usize, area: &mut [u8]) -> bool {
     let numbers = cases::skip(file, at);
     let answer = cases::skip(file, numbers);
     let after = cases::skip(file, answer);
     let asked = cases::field(file, numbers);
-    let n = cases::number(asked, 4) as usize;
+    let n = cases::number(asked, 8) as usize;
     let mut got = [0u8; 28];
     if area.len() < n {
         return false;
@@ -321,6 +333,7 @@ fn mapper_agrees(file: &[u8], at: usize, area: &mut [u8]) -> bool {
     aqfp::aqfp_map(
         cases::field(file, at),
         cases::number(asked, 0),
+        cases::number(asked, 4),
         &mut area[0..n],
         &mut got,
     );

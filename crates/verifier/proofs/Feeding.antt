@@ -4,12 +4,12 @@ use native.Mathlib.Omega.{arith}
 use native.Mathlib.Decide.{decLt}
 use native.Mathlib.Numerals.{add-one}
 use mathlib.Core.Path.{_≡_, refl, sym, ap, _∙_}
-use mathlib.Core.Bool.{Bool, true, false, cond}
+use mathlib.Core.Bool.{Bool, true, false, cond, not}
 use mathlib.Core.List.{List}
 use lib.ListN.{length, getD, replicate, length-set, length-replicate, getD-replicate}
 use lib.Seq.{set-getD, getD-set-same, getD-set-other}
-use lib.Dec.{ltb, eqb}
-use borrow.Author.Tests.{lt-ltb, le-ltb, ltb-true, ltb-false, eqb-true, eqb-false, not-false}
+use lib.Dec.{ltb, leb, eqb}
+use borrow.Author.Tests.{lt-ltb, le-ltb, ltb-true, ltb-false, leb-true, leb-false, eqb-true, eqb-false, not-true, not-false}
 use Rattle.facts.specs.Sums.{bit, sum, count, count₂, any}
 use Rattle.facts.specs.declared.Checked.{Checked}
 use Rattle.facts.specs.declared.Checked.the-variants.{Passed, Refused}
@@ -22,7 +22,7 @@ use Rattle.netlist.specs.declared.Capacities.{Capacities}
 use Rattle.netlist.specs.declared.Record.{Record}
 use Rattle.netlist.specs.Kinds.{slots, buffer, arity}
 use Rattle.netlist.specs.Records.{Netlist, netlist, recordAt, recordCount, names, feeds, slot}
-use Rattle.netlist.specs.Capacities.{driverCapacity, capacityOf, Allowed}
+use Rattle.netlist.specs.Capacities.{gateCapacity, capacityOf, Allowed}
 use Rattle.netlist.proofs.Balance.{capacity-least, capacity-most}
 use Rattle.netlist.proofs.Checks.{arity-slots}
 use Rattle.verifier.specs.Checks.{differs, noBuffer, slotChecks, placeChecks, traceCheck, feedCheck, legalChecks}
@@ -313,12 +313,17 @@ module _ (n m : Netlist) (records size : ℕ) (sized : Sized n m records size) (
 
 -- one record more by the counts
 module _ (caps : Capacities) (m : Netlist) (counts : List ℕ) (size k : ℕ) (i : Scanning (countCheck caps m counts) size k) (l : k < size)
-    (f c kind : ℕ) (g : f ≡ getD counts k 0) (h : kind ≡ m .at k .kind) (q : c ≡ capacityOf caps kind) where
-  pub count-more : f ≤ c → Scanning (countCheck caps m counts) size (k + 1)
-  count-more d = scan-more (countCheck caps m counts) size k Passed i l (sym (rw (← h, ← q, ← g, le-ltb c f d))) refl
+    (f : ℕ) (b : Bool) (g : f ≡ getD counts k 0) (h : b ≡ leb f (capacityOf caps (m .at k .kind))) where
+  most : ℕ
+  most = capacityOf caps (m .at k .kind)
 
-  pub count-stop : c < f → Refused 17 k ≡ scan (countCheck caps m counts) 0 size
-  count-stop d = scan-stop (countCheck caps m counts) size k 17 k (Refused 17 k) i l (sym (rw (← h, ← q, ← g, lt-ltb c f d))) refl
+  pub count-more : not b ≡ false → Scanning (countCheck caps m counts) size (k + 1)
+  unfolding most
+  count-more d = scan-more (countCheck caps m counts) size k Passed i l (sym (rw (← g, le-ltb most f (leb-true f most (sym h ∙ not-false b d))))) refl
+
+  pub count-stop : not b ≡ true → Refused 17 k ≡ scan (countCheck caps m counts) 0 size
+  unfolding most
+  count-stop d = scan-stop (countCheck caps m counts) size k 17 k (Refused 17 k) i l (sym (rw (← g, lt-ltb most f (leb-false f most (sym h ∙ not-true b d))))) refl
 
 -- the largest count of the records from `from` on, below k
 module _ (counts : List ℕ) (from : ℕ) where
@@ -344,18 +349,27 @@ module _ (counts : List ℕ) (from : ℕ) where
     pub most-end : (to : ℕ) → to ≤ k → FedAtMost counts from to most
     most-end to l = record { bound = λ j a b. i .bound j a (omega arith) }
 
--- 17 passes where the drivers feed no more than any may, and the buffers no more than theirs
-pub counts-few :
-    (caps : Capacities) (m : Netlist) (n size : ℕ) (counts : List ℕ) (drivers buffers : ℕ) → Allowed caps → Walkable n m → size ≡ m .size →
-    FedAtMost counts 0 n drivers → drivers ≤ driverCapacity → FedAtMost counts n size buffers → buffers ≤ caps .buffer →
-    Passed ≡ scan (countCheck caps m counts) 0 size
-counts-few caps m n size counts drivers buffers a w e d g b h = sym (scan-passed (countCheck caps m counts) size .1 each)
-  where
-    each : (k : ℕ) → k < size → countCheck caps m counts k ≡ Passed
-    each k l = elim (decLt k n) [
-      | yes q ↦
-          rw (le-ltb (capacityOf caps (m .at k .kind)) (getD counts k 0) (omega (arith, d .bound k (omega arith) q, capacity-least caps (m .at k .kind) a)))
-      | no q ↦ (
-          let r : n ≤ k = omega arith in
-          rw (w .buffers k r (omega arith), le-ltb (caps .buffer) (getD counts k 0) (omega (arith, b .bound k r l))))
-    ]
+-- where the buffers feed no more than they may, the drivers decide
+module _ (caps : Capacities) (m : Netlist) (n size : ℕ) (counts : List ℕ) (buffers : ℕ) (w : Walkable n m) (s : (n ≤ size) × (size ≡ m .size))
+    (b : FedAtMost counts n size buffers) (h : buffers ≤ caps .buffer) where
+  pub drivers-decide : (a : Checked) → a ≡ scan (countCheck caps m counts) 0 n → a ≡ scan (countCheck caps m counts) 0 size
+  drivers-decide Passed e = sym (scan-passed (countCheck caps m counts) size .1 each)
+    where
+      each : (k : ℕ) → k < size → countCheck caps m counts k ≡ Passed
+      each k l = elim (decLt k n) [
+        | yes q ↦ scan-passed (countCheck caps m counts) n .0 (sym e) k q
+        | no q ↦ (
+            let r : n ≤ k = omega arith in
+            rw (w .buffers k r (omega (arith, s .1)), le-ltb (caps .buffer) (getD counts k 0) (omega (arith, b .bound k r l))))
+      ]
+  drivers-decide (Refused number place) e = sym (scan-early (countCheck caps m counts) n size (s .0) number place (sym e))
+
+  -- all pass where no driver feeds more than a gate may
+  pub drivers-few : (drivers : ℕ) → Allowed caps → FedAtMost counts 0 n drivers → drivers ≤ gateCapacity →
+      Passed ≡ scan (countCheck caps m counts) 0 size
+  drivers-few drivers a d g =
+      drivers-decide Passed
+      (sym
+      (scan-passed (countCheck caps m counts) n .1
+      (λ k l.
+      rw (le-ltb (capacityOf caps (m .at k .kind)) (getD counts k 0) (omega (arith, d .bound k (omega arith) l, capacity-least caps (m .at k .kind) a))))))

@@ -152,7 +152,7 @@ verify-first source caps mapped =
     (input-first source caps)
     (mapped-first (netlist source) caps mapped)
 
--- the conditions of 1 to 7 and 11 to 17 stand in the table's rows up to that of 17
+-- the conditions of 1, 26, 2 to 7 and 11 to 17 stand in the table's rows up to that of 17
 pub verify-rows : (source : List ℕ) (caps : Capacities) (mapped : List ℕ) → UpTo (rowOf 17) (VerifyFails source caps mapped)
 verify-rows source caps mapped a p =
     let n = netlist source in
@@ -169,7 +169,7 @@ refused-checked : (a : Checked) (buffers number place : ℕ) → (outcome a (Buf
 refused-checked Passed buffers number place = (λ e. cc, λ e. cc)
 refused-checked (Failed n p) buffers number place = (λ e. cc, λ e. cc)
 
--- the verifier refuses exactly by the first of 1 to 7 and 11 to 17 whose condition holds
+-- the verifier refuses exactly by the first of 1, 26, 2 to 7 and 11 to 17 whose condition holds
 pub refused-exactly : RefusedExactly
 refused-exactly source caps mapped number place =
     iff-trans (refused-checked (verifyChecks source caps mapped) (bufferCount (netlist mapped)) number place)

@@ -94,7 +94,7 @@ legalChecks n caps m =
 unfoldable pub mappedChecks : Netlist → Capacities → List ℕ → Checked
 mappedChecks n caps bytes = check 11 0 (badLength (n .size) bytes) andThen legalChecks n caps (netlist bytes)
 
--- 1 to 7, then 11 to 17
+-- 1, 26, 2 to 7, then 11 to 17
 unfoldable pub verifyChecks : List ℕ → Capacities → List ℕ → Checked
 verifyChecks source caps mapped = inputChecks source caps andThen mappedChecks (netlist source) caps mapped
 

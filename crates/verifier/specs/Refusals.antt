@@ -81,11 +81,11 @@ LegalFails n caps m =
 abbrev pub MappedFails : Netlist → Capacities → List ℕ → Conditions
 MappedFails n caps bytes = Fails 11 0 (BadLength (n .size) bytes) or LegalFails n caps (netlist bytes)
 
--- 1 to 7, then 11 to 17
+-- 1, 26, 2 to 7, then 11 to 17
 abbrev pub VerifyFails : List ℕ → Capacities → List ℕ → Conditions
 VerifyFails source caps mapped = InputFails source caps or MappedFails (netlist source) caps mapped
 
--- the verifier refuses exactly by the first of 1 to 7 and 11 to 17 whose condition holds
+-- the verifier refuses exactly by the first of 1, 26, 2 to 7 and 11 to 17 whose condition holds
 abbrev pub RefusedExactly : Type 0
 RefusedExactly =
     (source : List ℕ) (caps : Capacities) (mapped : List ℕ) (number place : ℕ) →

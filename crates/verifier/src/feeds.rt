@@ -9,13 +9,13 @@ ghost use Rattle.verifier.specs.PrivateWalking.{Walkable};
 ghost use Rattle.verifier.specs.PrivateFeeding.{countCheck, fedOnce, FedAtMost};
 use facts::Checked;
 use netlist::Capacities;
-use netlist::DRIVER_CAPACITY;
+use netlist::GATE_CAPACITY;
 
-// Where a count of check 17 stops: one above the largest capacity.
-const STOP: u8 = 5;
+// Where a count of check 17 stops: one above the largest capacity, an input's.
+const STOP: u16 = netlist::MOST_INPUT_CAPACITY as u16 + 1;
 
 // One more slot that x feeds, up to the stop.
-pub(crate) fn feed(counts: &mut [u8], x: usize)
+pub(crate) fn feed(counts: &mut [u16], x: usize)
     requires { ⌜ x < length (now counts) ⌝ }
     ensures { λ _. ⌜ now (counts .exit) ≡ fedOnce (now (counts .entry)) x ⌝ }
 {
@@ -26,11 +26,11 @@ pub(crate) fn feed(counts: &mut [u8], x: usize)
 }
 
 // The largest count of the records from `from` on, below `to`.
-fn most_fed(counts: &[u8], from: u32, to: u32) -> u8
+fn most_fed(counts: &[u16], from: u32, to: u32) -> u16
     requires { ⌜ to ≤ length (now counts) ⌝ }
     ensures { λ most. ⌜ FedAtMost (now (counts .entry)) from to most ⌝ }
 {
-    let mut most: u8 = 0;
+    let mut most: u16 = 0;
     let mut k = from;
     while k < to {
         let fed = counts[k as usize];
@@ -42,16 +42,23 @@ fn most_fed(counts: &[u8], from: u32, to: u32) -> u8
     most
 }
 
+// A count, to compare with a capacity.
+fn wide_count(count: u16) -> u32
+    ensures { λ r. ⌜ r ≡ count ⌝ }
+{
+    count as u32
+}
+
 // Check 17 of the first m records, rising, by the counts.
-fn first_overfed(capacities: Capacities, mapped: &[u8], counts: &[u8], m: u32) -> Checked
+fn first_overfed(capacities: Capacities, mapped: &[u8], counts: &[u16], m: u32) -> Checked
+    requires { ⌜ Allowed capacities ⌝ }
     requires { ⌜ m ≤ length (now counts) ⌝ }
     ensures { λ a. ⌜ a ≡ scan (countCheck capacities (netlist (now (mapped .entry))) (now (counts .entry))) 0 m ⌝ }
 {
     let mut k: u32 = 0;
     while k < m {
-        let fed = facts::wide(counts[k as usize]);
-        let most = netlist::capacity_of(capacities, netlist::kind_at(mapped, k as usize));
-        if most < fed as u32 {
+        let fed = wide_count(counts[k as usize]);
+        if !netlist::may_feed(mapped, capacities, k as usize, fed) {
             return Checked::Refused(17, k);
         }
         k += 1;
@@ -59,11 +66,11 @@ fn first_overfed(capacities: Capacities, mapped: &[u8], counts: &[u8], m: u32) -
     Checked::Passed
 }
 
-// Check 17 of the first m records by the largest counts, every driver held to the smallest capacity: which record comes first is asked only where one feeds more.
+// Check 17 of the first m records by the largest counts, every driver held to a gate's capacity. Where a driver feeds more, each is held to its kind's; which record comes first is asked of all only where a buffer feeds more than it may.
 pub(crate) fn check_counts(
     capacities: Capacities,
     mapped: &[u8],
-    counts: &[u8],
+    counts: &[u16],
     n: u32,
     m: u32,
 ) -> Checked
@@ -73,10 +80,11 @@ pub(crate) fn check_counts(
     requires { ⌜ m ≤ length (now counts) ⌝ }
     ensures { λ a. ⌜ a ≡ scan (countCheck capacities (netlist (now (mapped .entry))) (now (counts .entry))) 0 m ⌝ }
 {
-    if most_fed(counts, 0, n) as u32 <= DRIVER_CAPACITY {
-        if most_fed(counts, n, m) as u32 <= capacities.buffer {
-            return Checked::Passed;
-        }
+    if capacities.buffer < most_fed(counts, n, m) as u32 {
+        return first_overfed(capacities, mapped, counts, m);
     }
-    first_overfed(capacities, mapped, counts, m)
+    if most_fed(counts, 0, n) as u32 <= GATE_CAPACITY {
+        return Checked::Passed;
+    }
+    first_overfed(capacities, mapped, counts, n)
 }

@@ -35,7 +35,7 @@ fn check_with(
     mapped: &[u8],
     n: u32,
     m: u32,
-    counts: &mut [u8],
+    counts: &mut [u16],
     drivers: &mut [u16],
 ) -> Checked
     requires { ⌜ Sized (netlist (now source)) (netlist (now mapped)) n m ⌝ }
@@ -86,21 +86,21 @@ fn check_legal(source: &[u8], capacities: Capacities, mapped: &[u8], n: u32, m: 
     ensures { λ a. ⌜ a ≡ legalChecks (netlist (now (source .entry))) capacities (netlist (now (mapped .entry))) ⌝ }
 {
     if m as usize <= SHORT {
-        let mut counts = [0u8; SHORT];
+        let mut counts = [0u16; SHORT];
         let mut drivers = [UNKNOWN; SHORT];
         return check_with(source, capacities, mapped, n, m, &mut counts, &mut drivers);
     }
     if m as usize <= MIDDLE {
-        let mut counts = [0u8; MIDDLE];
+        let mut counts = [0u16; MIDDLE];
         let mut drivers = [UNKNOWN; MIDDLE];
         return check_with(source, capacities, mapped, n, m, &mut counts, &mut drivers);
     }
-    let mut counts = [0u8; RECORDS];
+    let mut counts = [0u16; RECORDS];
     let mut drivers = [UNKNOWN; RECORDS];
     check_with(source, capacities, mapped, n, m, &mut counts, &mut drivers)
 }
 
-// What every call with a mapped netlist checks first: 1 to 7, then 11 to 17.
+// What every call with a mapped netlist checks first: 1, 26, 2 to 7, then 11 to 17.
 pub fn check_mapping(source: &[u8], capacities: Capacities, mapped: &[u8]) -> Checked
     ensures { λ a. ⌜ a ≡ verifyChecks (now (source .entry)) capacities (now (mapped .entry)) ⌝ }
 {
@@ -124,7 +124,7 @@ pub fn check_mapping(source: &[u8], capacities: Capacities, mapped: &[u8]) -> Ch
     )
 }
 
-// The verifier: checks 1 to 7, then 11 to 17; a legal mapped netlist's buffers are all its records from the source's size on.
+// The verifier: checks 1, 26, 2 to 7, then 11 to 17; a legal mapped netlist's buffers are all its records from the source's size on.
 pub fn verify(source: &[u8], capacities: Capacities, mapped: &[u8]) -> Verified
     ensures { λ v. ⌜ v ≡ verifyAnswer (now (source .entry)) capacities (now (mapped .entry)) ⌝ }
 {

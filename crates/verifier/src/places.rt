@@ -96,7 +96,7 @@ pub fn bad_fanin(mapped: &[u8], r: Record, j: usize) -> bool
 }
 
 // Whether the first n slots pass 14 and 15; each that does is counted.
-fn feed_slots(mapped: &[u8], r: Record, n: usize, counts: &mut [u8]) -> bool
+fn feed_slots(mapped: &[u8], r: Record, n: usize, counts: &mut [u16]) -> bool
     requires { ⌜ recordCount (now mapped) ≤ length (now counts) ⌝ }
     ensures { λ b. ⌜ Fed (netlist (now (mapped .entry))) r n b (now (counts .entry)) (now (counts .exit)) ⌝ }
 {
@@ -112,7 +112,7 @@ fn feed_slots(mapped: &[u8], r: Record, n: usize, counts: &mut [u8]) -> bool
 }
 
 // The same of all used slots, by a path for each number of them.
-fn feed_used(mapped: &[u8], r: Record, counts: &mut [u8]) -> bool
+fn feed_used(mapped: &[u8], r: Record, counts: &mut [u16]) -> bool
     requires { ⌜ recordCount (now mapped) ≤ length (now counts) ⌝ }
     ensures { λ b. ⌜ Fed (netlist (now (mapped .entry))) r (Kinds.arity (r .kind)) b (now (counts .entry)) (now (counts .exit)) ⌝ }
 {
@@ -142,7 +142,7 @@ fn refuse_slots(mapped: &[u8], k: u32, r: Record) -> Checked
 }
 
 // Checks 12, 14 and 15 of record k below the source's size; its used slots are counted.
-fn check_record(source: &[u8], mapped: &[u8], k: u32, counts: &mut [u8]) -> Checked
+fn check_record(source: &[u8], mapped: &[u8], k: u32, counts: &mut [u16]) -> Checked
     requires { ⌜ IsSource (netlist (now source)) ⌝ }
     requires { ⌜ k < recordCount (now source) ⌝ }
     requires { ⌜ Tallied (netlist (now mapped)) k (now counts) ⌝ }
@@ -159,7 +159,7 @@ fn check_record(source: &[u8], mapped: &[u8], k: u32, counts: &mut [u8]) -> Chec
 }
 
 // Checks 12, 14 and 15 of every record below the source's size, rising.
-pub(crate) fn check_records(source: &[u8], mapped: &[u8], n: u32, counts: &mut [u8]) -> Checked
+pub(crate) fn check_records(source: &[u8], mapped: &[u8], n: u32, counts: &mut [u16]) -> Checked
     requires { ⌜ n ≡ recordCount (now source) ⌝ }
     requires { ⌜ IsSource (netlist (now source)) ⌝ }
     requires { ⌜ Tallied (netlist (now mapped)) 0 (now counts) ⌝ }
@@ -180,7 +180,7 @@ pub(crate) fn check_records(source: &[u8], mapped: &[u8], n: u32, counts: &mut [
 }
 
 // Checks 13 to 15 of record k from the source's size on; its slot is counted, and its driver kept if its fanin's is known.
-fn check_buffer(mapped: &[u8], n: u32, k: u32, counts: &mut [u8], drivers: &mut [u16]) -> Checked
+fn check_buffer(mapped: &[u8], n: u32, k: u32, counts: &mut [u16], drivers: &mut [u16]) -> Checked
     requires { ⌜ Buffering n (netlist (now mapped)) k ⌝ }
     requires { ⌜ Tallied (netlist (now mapped)) k (now counts) ⌝ }
     requires { ⌜ Known (netlist (now mapped)) (now drivers) ⌝ }
@@ -205,7 +205,7 @@ pub(crate) fn check_buffers(
     mapped: &[u8],
     n: u32,
     m: u32,
-    counts: &mut [u8],
+    counts: &mut [u16],
     drivers: &mut [u16],
 ) -> Checked
     requires { ⌜ Sized (netlist (now source)) (netlist (now mapped)) n m ⌝ }

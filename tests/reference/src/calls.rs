@@ -1,5 +1,6 @@
 //! The calls as a C host sees them: the numbers of the answer in the order of specification 4.
 
+use crate::capacities::Capacities;
 use crate::net::{self, Count};
 use crate::refusal::Refusal;
 use crate::simulator::{self, Run};
@@ -18,20 +19,25 @@ fn answer<const K: usize, const A: usize>(result: Result<[u32; K], Refusal>) -> 
     numbers
 }
 
-pub fn map(source: &[u8], capacity: u32, mapped: &mut [u8]) -> [u32; 7] {
-    answer(mapper::map(source, capacity, mapped))
+pub fn map(source: &[u8], capacities: Capacities, mapped: &mut [u8]) -> [u32; 7] {
+    answer(mapper::map(source, capacities, mapped))
 }
 
-pub fn count(source: &[u8], capacity: u32, record: u32) -> [u32; 3] {
-    answer(match net::count(source, capacity, record) {
+pub fn count(source: &[u8], capacities: Capacities, record: u32) -> [u32; 3] {
+    answer(match net::count(source, capacities, record) {
         Count::Fewest(buffers) => Ok([buffers]),
         Count::NoTree => Ok([NO_TREE]),
         Count::Refused(refusal) => Err(refusal),
     })
 }
 
-pub fn count_nets(source: &[u8], capacity: u32, records: &[u8], counts: &mut [u8]) -> [u32; 2] {
-    answer(net::count_nets(source, capacity, records, counts.len()).map(|nets| {
+pub fn count_nets(
+    source: &[u8],
+    capacities: Capacities,
+    records: &[u8],
+    counts: &mut [u8],
+) -> [u32; 2] {
+    answer(net::count_nets(source, capacities, records, counts.len()).map(|nets| {
         for (four, net) in counts.chunks_exact_mut(4).zip(nets) {
             let count = net.map_or(NO_TREE, |buffers| buffers as u32);
             four.copy_from_slice(&count.to_le_bytes());
@@ -40,28 +46,34 @@ pub fn count_nets(source: &[u8], capacity: u32, records: &[u8], counts: &mut [u8
     }))
 }
 
-pub fn verify(source: &[u8], capacity: u32, mapped: &[u8]) -> [u32; 3] {
-    answer(verifier::verify(source, capacity, mapped).map(|buffers| [buffers]))
+pub fn verify(source: &[u8], capacities: Capacities, mapped: &[u8]) -> [u32; 3] {
+    answer(verifier::verify(source, capacities, mapped).map(|buffers| [buffers]))
 }
 
 pub fn evaluate(source: &[u8], row: &[u8], values: &mut [u8]) -> [u32; 2] {
     answer(simulator::evaluate(source, row, values).map(|()| []))
 }
 
-pub fn run(source: &[u8], capacity: u32, mapped: &[u8], areas: Run) -> [u32; 2] {
-    answer(simulator::run(source, capacity, mapped, areas).map(|()| []))
+pub fn run(source: &[u8], capacities: Capacities, mapped: &[u8], areas: Run) -> [u32; 2] {
+    answer(simulator::run(source, capacities, mapped, areas).map(|()| []))
 }
 
-pub fn step(source: &[u8], capacity: u32, mapped: &[u8], row: &[u8], state: &mut [u8]) -> [u32; 2] {
-    answer(simulator::step(source, capacity, mapped, row, state).map(|()| []))
+pub fn step(
+    source: &[u8],
+    capacities: Capacities,
+    mapped: &[u8],
+    row: &[u8],
+    state: &mut [u8],
+) -> [u32; 2] {
+    answer(simulator::step(source, capacities, mapped, row, state).map(|()| []))
 }
 
 pub fn levels(source: &[u8], capacity: u32, levelled: &mut [u8]) -> [u32; 2] {
     answer(levels::write(source, capacity, levelled).map(|()| []))
 }
 
-pub fn strip(capacity: u32, mapped: &[u8], source: &mut [u8]) -> [u32; 3] {
-    answer(strip::strip(capacity, mapped, source).map(|records| [records]))
+pub fn strip(capacities: Capacities, mapped: &[u8], source: &mut [u8]) -> [u32; 3] {
+    answer(strip::strip(capacities, mapped, source).map(|records| [records]))
 }
 
 /// The bytes of an answer, four for each number, low byte first.

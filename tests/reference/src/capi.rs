@@ -4,6 +4,7 @@
 //! area.
 
 use crate::calls;
+use crate::capacities::Capacities;
 use crate::simulator::Run;
 
 /// # Safety
@@ -38,12 +39,14 @@ pub unsafe extern "C" fn aqfp_map(
     source: *const u8,
     source_len: usize,
     capacity: u32,
+    input_capacity: u32,
     mapped: *mut u8,
     mapped_len: usize,
     answer: *mut u8,
 ) -> u32 {
+    let capacities = Capacities::new(capacity, input_capacity);
     let area = lent_mut(mapped, mapped_len);
-    give(&calls::map(lent(source, source_len), capacity, area), answer)
+    give(&calls::map(lent(source, source_len), capacities, area), answer)
 }
 
 /// # Safety
@@ -53,10 +56,12 @@ pub unsafe extern "C" fn aqfp_count(
     source: *const u8,
     source_len: usize,
     capacity: u32,
+    input_capacity: u32,
     record: u32,
     answer: *mut u8,
 ) -> u32 {
-    give(&calls::count(lent(source, source_len), capacity, record), answer)
+    let capacities = Capacities::new(capacity, input_capacity);
+    give(&calls::count(lent(source, source_len), capacities, record), answer)
 }
 
 /// # Safety
@@ -66,15 +71,17 @@ pub unsafe extern "C" fn aqfp_count_nets(
     source: *const u8,
     source_len: usize,
     capacity: u32,
+    input_capacity: u32,
     records: *const u8,
     records_len: usize,
     counts: *mut u8,
     counts_len: usize,
     answer: *mut u8,
 ) -> u32 {
+    let capacities = Capacities::new(capacity, input_capacity);
     let (source, records) = (lent(source, source_len), lent(records, records_len));
     let counts = lent_mut(counts, counts_len);
-    give(&calls::count_nets(source, capacity, records, counts), answer)
+    give(&calls::count_nets(source, capacities, records, counts), answer)
 }
 
 /// # Safety
@@ -84,11 +91,13 @@ pub unsafe extern "C" fn aqfp_verify(
     source: *const u8,
     source_len: usize,
     capacity: u32,
+    input_capacity: u32,
     mapped: *const u8,
     mapped_len: usize,
     answer: *mut u8,
 ) -> u32 {
-    let numbers = calls::verify(lent(source, source_len), capacity, lent(mapped, mapped_len));
+    let capacities = Capacities::new(capacity, input_capacity);
+    let numbers = calls::verify(lent(source, source_len), capacities, lent(mapped, mapped_len));
     give(&numbers, answer)
 }
 
@@ -115,6 +124,7 @@ pub unsafe extern "C" fn aqfp_run(
     source: *const u8,
     source_len: usize,
     capacity: u32,
+    input_capacity: u32,
     mapped: *const u8,
     mapped_len: usize,
     row_count: u32,
@@ -126,6 +136,7 @@ pub unsafe extern "C" fn aqfp_run(
     outputs_len: usize,
     answer: *mut u8,
 ) -> u32 {
+    let capacities = Capacities::new(capacity, input_capacity);
     let areas = Run {
         row_count,
         rows: lent(rows, rows_len),
@@ -133,7 +144,7 @@ pub unsafe extern "C" fn aqfp_run(
         outputs: lent_mut(outputs, outputs_len),
     };
     let (source, mapped) = (lent(source, source_len), lent(mapped, mapped_len));
-    give(&calls::run(source, capacity, mapped, areas), answer)
+    give(&calls::run(source, capacities, mapped, areas), answer)
 }
 
 /// # Safety
@@ -143,6 +154,7 @@ pub unsafe extern "C" fn aqfp_step(
     source: *const u8,
     source_len: usize,
     capacity: u32,
+    input_capacity: u32,
     mapped: *const u8,
     mapped_len: usize,
     row: *const u8,
@@ -151,9 +163,10 @@ pub unsafe extern "C" fn aqfp_step(
     state_len: usize,
     answer: *mut u8,
 ) -> u32 {
+    let capacities = Capacities::new(capacity, input_capacity);
     let (source, mapped) = (lent(source, source_len), lent(mapped, mapped_len));
     let state = lent_mut(state, state_len);
-    give(&calls::step(source, capacity, mapped, lent(row, row_len), state), answer)
+    give(&calls::step(source, capacities, mapped, lent(row, row_len), state), answer)
 }
 
 /// # Safety
@@ -176,12 +189,14 @@ pub unsafe extern "C" fn aqfp_levels(
 #[no_mangle]
 pub unsafe extern "C" fn aqfp_strip(
     capacity: u32,
+    input_capacity: u32,
     mapped: *const u8,
     mapped_len: usize,
     source: *mut u8,
     source_len: usize,
     answer: *mut u8,
 ) -> u32 {
+    let capacities = Capacities::new(capacity, input_capacity);
     let source = lent_mut(source, source_len);
-    give(&calls::strip(capacity, lent(mapped, mapped_len), source), answer)
+    give(&calls::strip(capacities, lent(mapped, mapped_len), source), answer)
 }

@@ -1,5 +1,6 @@
 //! Calls by seed: sources and mapped netlists, sound and damaged, with areas that fit or do not.
 
+use crate::capacities::{Capacities, MAX_INPUT_CAPACITY};
 use crate::damage::{self, ALL_DAMAGE, SOURCE_CHECKS};
 use crate::engine::{Call, Name, NAMES};
 use crate::generator::{self, steep, ALL_LEVELS};
@@ -13,39 +14,94 @@ use crate::strip::source_of;
 /// What an area is filled with before the mapper may write it.
 pub const FILL: u8 = 0xA5;
 
-/// A source and a capacity; either may be damaged.
+/// A source and capacities; each may be damaged.
 #[derive(Clone)]
 pub struct Subject {
-    /// The records before any damage, and a capacity under which they were made.
+    /// The records before any damage, and the capacities under which they were made.
     pub records: Vec<Record>,
-    pub s: usize,
+    pub own: Capacities,
     pub source: Vec<u8>,
-    pub capacity: u32,
+    pub capacities: Capacities,
 }
 
 impl Subject {
-    pub fn new(records: Vec<Record>, s: usize) -> Subject {
+    pub fn new(records: Vec<Record>, own: Capacities) -> Subject {
         let source = encode(&records);
-        Subject { records, s, source, capacity: s as u32 }
+        Subject { records, own, source, capacities: own }
     }
 }
 
-/// A sound subject of at most `most` records.
-pub fn sound(random: &mut Random, most: usize) -> Subject {
-    let s = random.between(2, 4);
+/// A sound subject of at most `most` records, whose inputs feed at most so many slots.
+pub fn sound_with(random: &mut Random, most: usize, input: u32) -> Subject {
+    let capacities = Capacities::new(random.between(2, 4) as u32, input);
     let levels = random.pick(&ALL_LEVELS);
     let size = match random.below(12) {
         0 => random.below(3.min(most + 1)),
         1..=3 => random.below(most + 1),
         _ => random.below(most.min(16) + 1),
     };
-    Subject::new(generator::source(random, size, s, levels), s)
+    Subject::new(generator::source(random, size, capacities, levels), capacities)
 }
 
-/// Damages the capacity once in 24 times and the source once in 5, now and then twice.
+/// A sound subject of at most `most` records, whose inputs do not branch.
+pub fn unbranched(random: &mut Random, most: usize) -> Subject {
+    sound_with(random, most, 1)
+}
+
+/// A capacity of an input: mostly small, now and then as large as it may be.
+fn input_capacity(random: &mut Random) -> u32 {
+    let any = random.between(1, MAX_INPUT_CAPACITY as usize);
+    let number = match random.below(16) {
+        0..=3 => 1,
+        4..=12 => random.between(2, 4),
+        13 => random.between(5, 16),
+        14 => random.pick(&[17, 255, 256, 257, 300]),
+        _ => random.pick(&[any, 4094, 4095]),
+    };
+    number as u32
+}
+
+/// One input with about as many nodes at distance 1 as it may feed, one less or one more.
+fn about_full(random: &mut Random, capacities: Capacities) -> Vec<Record> {
+    let (s, b) = (capacities.s(), capacities.input as usize);
+    if random.one_in(2) {
+        shapes::sinks_at(b - 1 + random.below(3), 1)
+    } else {
+        shapes::sinks_at((s * b - 1 + random.below(3)).min(12_285), 2)
+    }
+}
+
+/// A sound subject of at most `most` records, with any capacity of an input.
+pub fn sound(random: &mut Random, most: usize) -> Subject {
+    let input = input_capacity(random);
+    if random.one_in(24) {
+        let capacities = Capacities::new(random.between(2, 4) as u32, input);
+        let records = about_full(random, capacities);
+        if records.len() <= most {
+            return Subject::new(records, capacities);
+        }
+    }
+    sound_with(random, most, input)
+}
+
+/// The subject with another capacity of an input: once in 24 times one that there is not, once in 6
+/// times one near its own, or the smallest or largest.
+pub fn other_input(random: &mut Random, mut subject: Subject) -> Subject {
+    let own = subject.own.input;
+    let near = [own - 1, own + 1, own + 1, 2, 1, MAX_INPUT_CAPACITY];
+    if random.one_in(24) {
+        let outside = [0, 0, 4096, 4097, 65_535, 65_536, 65_537, 69_632, 1 << 31, u32::MAX];
+        subject.capacities.input = random.pick(&outside);
+    } else if random.one_in(6) {
+        subject.capacities.input = random.pick(&near).clamp(1, MAX_INPUT_CAPACITY);
+    }
+    subject
+}
+
+/// Damages the capacity of a buffer once in 24 times and the source once in 5, now and then twice.
 pub fn damaged(random: &mut Random, mut subject: Subject) -> Subject {
     if random.one_in(24) {
-        subject.capacity = random.pick(&[0, 1, 5, 6, 258, 65_538, 4_294_967_295]);
+        subject.capacities.buffer = random.pick(&[0, 1, 5, 6, 258, 65_538, 4_294_967_295]);
     }
     if random.one_in(5) {
         let check = random.pick(&SOURCE_CHECKS);
@@ -77,7 +133,7 @@ fn call(name: Name, subject: &Subject) -> Call {
     Call {
         name,
         source: subject.source.clone(),
-        capacity: subject.capacity,
+        capacities: subject.capacities,
         number: 0,
         records: Vec::new(),
         mapped: Vec::new(),
@@ -88,7 +144,7 @@ fn call(name: Name, subject: &Subject) -> Call {
 
 /// The mapper, on an area filled with one byte.
 pub fn map_call(random: &mut Random, subject: &Subject) -> Call {
-    let right = match mapping(&subject.source, subject.capacity) {
+    let right = match mapping(&subject.source, subject.capacities) {
         Ok(mapping) => WIDTH * mapping.records.len(),
         Err(_) => random.below(4 * WIDTH),
     };
@@ -176,9 +232,9 @@ pub fn count_nets_call(random: &mut Random, subject: &Subject) -> Call {
 /// A mapped netlist for the subject: the mapper's or another legal one, damaged or not; the
 /// source itself or random bytes where there is none.
 pub fn mapped_for(random: &mut Random, subject: &Subject) -> Vec<u8> {
-    let own = mapping(&encode(&subject.records), subject.s as u32).map(|mapping| mapping.records);
+    let own = mapping(&encode(&subject.records), subject.own).map(|mapping| mapping.records);
     let legal = match own {
-        Ok(_) if random.below(4) > 0 => generator::foreign(random, &subject.records, subject.s),
+        Ok(_) if random.below(4) > 0 => generator::foreign(random, &subject.records, subject.own),
         own => own.ok(),
     };
     let Some(legal) = legal else {
@@ -189,7 +245,7 @@ pub fn mapped_for(random: &mut Random, subject: &Subject) -> Vec<u8> {
         return encode(&legal);
     }
     let kind = random.pick(&ALL_DAMAGE);
-    let once = damage::mapped(random, &legal, subject.records.len(), subject.s, kind);
+    let once = damage::mapped(random, &legal, subject.records.len(), subject.own, kind);
     if random.one_in(6) && once.len() >= subject.source.len() && !once.is_empty() {
         let mut twice = once;
         let at = random.below(twice.len());
@@ -298,7 +354,7 @@ fn relevelled(random: &mut Random, source: &[u8]) -> Vec<u8> {
 pub fn levels_call(random: &mut Random, subject: &Subject) -> Call {
     let mut call = call(Name::Levels, subject);
     if random.one_in(100) {
-        call.source = encode(&steep(random, subject.s));
+        call.source = encode(&steep(random, subject.own.s()));
     }
     call.source = relevelled(random, &call.source);
     let right = call.source.len();
@@ -325,7 +381,7 @@ fn source_area(random: &mut Random, right: usize) -> Vec<u8> {
 }
 
 /// Stripping a mapped netlist of the subject, once in 4 times without a source that passes 2 to 7
-/// and once in 6 times with any capacity.
+/// and once in 6 times with any capacity of a buffer.
 pub fn strip_call(random: &mut Random, subject: &Subject) -> Call {
     let mut mapped = mapped_for(random, subject);
     if random.one_in(4) {
@@ -334,11 +390,14 @@ pub fn strip_call(random: &mut Random, subject: &Subject) -> Call {
         mapped = damage::unsourced(random, &records, n);
     }
     let any = random.between(2, 4) as u32;
-    let capacity = if random.one_in(6) { any } else { subject.capacity };
-    let right = source_of(capacity, &mapped).map_or(subject.source.len(), |source| source.len());
+    let mut capacities = subject.capacities;
+    if random.one_in(6) {
+        capacities.buffer = any;
+    }
+    let right = source_of(capacities, &mapped).map_or(subject.source.len(), |source| source.len());
     Call {
         source: Vec::new(),
-        capacity,
+        capacities,
         mapped,
         areas: vec![source_area(random, right)],
         ..call(Name::Strip, subject)
@@ -363,7 +422,10 @@ pub fn any_call(random: &mut Random, subject: &Subject, name: Name) -> Call {
 /// Subjects at the limits of specification 1.3.
 pub fn limit(random: &mut Random) -> Subject {
     let s = random.between(2, 4);
-    let records = match random.below(12) {
+    let input = input_capacity(random);
+    let capacities = Capacities::new(s as u32, input);
+    let b = input as usize;
+    let records = match random.below(20) {
         0 => shapes::inputs(MAX_SOURCE),
         1 => shapes::inputs(MAX_SOURCE + random.between(1, 3)),
         2 => shapes::lines(14, MAX_LEVEL),
@@ -374,18 +436,23 @@ pub fn limit(random: &mut Random) -> Subject {
         6 => shapes::chains(random.between(1, 900)),
         7 => {
             let size = random.between(64, 400);
-            shapes::layered(random, size, s)
+            shapes::layered(random, size, capacities)
         }
-        _ => generator::source(random, 500, s, generator::Levels::Roomy),
+        8 => generator::source(random, 500, capacities, generator::Levels::Roomy),
+        12..=16 => about_full(random, capacities),
+        17 => shapes::fans(random.between(2, 300), b),
+        18 => shapes::on_a_gate(random.between(0, 600), 1),
+        _ => shapes::sinks_at(random.between(4094, 4097), 1),
     };
-    Subject::new(records, s)
+    Subject::new(records, capacities)
 }
 
 /// A call on the worked case with about the most records that a mapped netlist may have.
 pub fn full_call(random: &mut Random) -> Call {
-    let subject = Subject::new(shapes::worked(), 2);
+    let capacities = Capacities::new(2, input_capacity(random));
+    let subject = Subject::new(shapes::worked(), capacities);
     let n = subject.records.len();
-    let own = mapping(&subject.source, 2).expect("the worked case").records;
+    let own = mapping(&subject.source, capacities).expect("the worked case").records;
     let mut records = shapes::padded(&own, 2, MAX_MAPPED - 2 + random.below(4));
     if random.one_in(2) {
         generator::shuffle_buffers(random, &mut records, n);
@@ -413,7 +480,7 @@ pub fn crowded_call(random: &mut Random) -> Call {
         .iter()
         .map(|record| Record { level: record.level.min(2), ..*record })
         .collect();
-    let subject = Subject::new(source, 4);
+    let subject = Subject::new(source, Capacities::new(4, input_capacity(random)));
     let n = subject.records.len();
     let mut records = subject.records.clone();
     for record in &mut records[1..] {
@@ -422,6 +489,17 @@ pub fn crowded_call(random: &mut Random) -> Call {
     records.push(Record::buffer(1, 0));
     let buffers = random.between(65_534, 65_542) - SLOTS * (n - 1);
     records.resize(records.len() + buffers, Record::buffer(2, n as u16));
+    Call { mapped: encode(&records), ..call(Name::Verify, &subject) }
+}
+
+/// The verifier on a netlist in which one input feeds about 65,536 slots, and may feed 4,095.
+pub fn crowded_input_call(random: &mut Random) -> Call {
+    let source = shapes::sinks_at(SLOTS * (MAX_SOURCE - 1), 1);
+    let capacities = Capacities::new(random.between(2, 4) as u32, MAX_INPUT_CAPACITY);
+    let subject = Subject::new(source, capacities);
+    let mut records = subject.records.clone();
+    let buffers = random.between(65_534, 65_542) - SLOTS * (MAX_SOURCE - 1);
+    records.resize(records.len() + buffers, Record::buffer(1, 0));
     Call { mapped: encode(&records), ..call(Name::Verify, &subject) }
 }
 
@@ -440,9 +518,10 @@ fn strip_of(random: &mut Random, call: &Call) -> Call {
 /// Stripping chains of 4,094 buffers, in the mapper's order, falling or in any; once in 3 times with a
 /// bit changed.
 fn chains_call(random: &mut Random) -> Call {
-    let subject = Subject::new(shapes::lines(random.between(1, 14), MAX_LEVEL), 2);
+    let lines = shapes::lines(random.between(1, 14), MAX_LEVEL);
+    let subject = Subject::new(lines, Capacities::new(2, input_capacity(random)));
     let n = subject.records.len();
-    let mut records = mapping(&subject.source, 2).expect("chains").records;
+    let mut records = mapping(&subject.source, subject.own).expect("chains").records;
     match random.below(3) {
         0 => generator::reverse_buffers(&mut records, n),
         1 => generator::shuffle_buffers(random, &mut records, n),
@@ -460,7 +539,11 @@ fn chains_call(random: &mut Random) -> Call {
 pub fn calls_by_seed(seed: u64, index: u64) -> Vec<Call> {
     let mut random = Random::of(seed, index);
     if index % 1000 == 999 {
-        let mut calls = vec![full_call(&mut random), crowded_call(&mut random)];
+        let mut calls = vec![
+            full_call(&mut random),
+            crowded_call(&mut random),
+            crowded_input_call(&mut random),
+        ];
         let stripped: Vec<Call> = calls.iter().map(|call| strip_of(&mut random, call)).collect();
         calls.extend(stripped);
         calls.push(chains_call(&mut random));
@@ -470,6 +553,7 @@ pub fn calls_by_seed(seed: u64, index: u64) -> Vec<Call> {
         249 => limit(&mut random),
         _ => sound(&mut random, 40),
     };
+    let subject = other_input(&mut random, subject);
     let subject = damaged(&mut random, subject);
     let mut calls = Vec::new();
     for name in NAMES {

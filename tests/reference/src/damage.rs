@@ -1,5 +1,6 @@
 //! Damage to sources and mapped netlists, for each refusal number that a netlist can meet.
 
+use crate::capacities::Capacities;
 use crate::generator::shuffle;
 use crate::random::Random;
 use crate::record::*;
@@ -58,7 +59,7 @@ fn bad_level(random: &mut Random, records: &mut [Record], k: usize) {
     records[k].level = match random.below(6) {
         0 => MAX_LEVEL + 1,
         1 => 65_535,
-        2 => own + 1,
+        2 => own.wrapping_add(1),
         3 => 0,
         4 => fanin_level.saturating_sub(1),
         _ => fanin_level,
@@ -108,7 +109,7 @@ pub enum Damage {
     Loop,
     WrongDriver,
     SwappedFanins,
-    TwoOnDriver,
+    TooManyOnDriver,
     TooManyOnBuffer,
     AnyByte,
 }
@@ -127,7 +128,7 @@ pub const ALL_DAMAGE: [Damage; 16] = [
     Damage::Loop,
     Damage::WrongDriver,
     Damage::SwappedFanins,
-    Damage::TwoOnDriver,
+    Damage::TooManyOnDriver,
     Damage::TooManyOnBuffer,
     Damage::AnyByte,
 ];
@@ -197,7 +198,7 @@ fn apply(
     random: &mut Random,
     records: &mut Vec<Record>,
     n: usize,
-    s: usize,
+    capacities: Capacities,
     damage: Damage,
 ) -> Option<()> {
     let any_source =
@@ -261,13 +262,16 @@ fn apply(
             other_fanin(random, records, k)?;
         }
         Damage::SwappedFanins => swap_fanins(random, records, n)?,
-        Damage::TwoOnDriver => {
+        Damage::TooManyOnDriver => {
             let on = some(random, records, |_, record| record.is_driver())?;
-            overload(random, records, on, 1)?;
+            let most = capacities.of(records[on].kind);
+            // A driver that may feed several is now and then filled, and not overfilled.
+            let filled = most > 1 && random.one_in(3);
+            overload(random, records, on, most - usize::from(filled))?;
         }
         Damage::TooManyOnBuffer => {
             let on = any_buffer(random, records)?;
-            overload(random, records, on, s)?;
+            overload(random, records, on, capacities.s())?;
         }
     }
     Some(())
@@ -278,11 +282,11 @@ pub fn mapped(
     random: &mut Random,
     mapped: &[Record],
     n: usize,
-    s: usize,
+    capacities: Capacities,
     damage: Damage,
 ) -> Vec<u8> {
     let mut records = mapped.to_vec();
-    if apply(random, &mut records, n, s, damage).is_none() {
+    if apply(random, &mut records, n, capacities, damage).is_none() {
         records = mapped.to_vec();
     }
     let mut bytes = encode(&records);

@@ -1,19 +1,21 @@
 //! The calls behind one table of functions, so that implementations can be held side by side.
 
+use crate::capacities::Capacities;
 use crate::simulator::Run;
 use crate::{calls, fast};
 
 /// One implementation of the calls. An answer's numbers stand in the order of specification 4.
 pub struct Engine {
-    pub map: fn(&[u8], u32, &mut [u8]) -> [u32; 7],
-    pub count: fn(&[u8], u32, u32) -> [u32; 3],
-    pub count_nets: fn(&[u8], u32, &[u8], &mut [u8]) -> [u32; 2],
-    pub verify: fn(&[u8], u32, &[u8]) -> [u32; 3],
+    pub map: fn(&[u8], Capacities, &mut [u8]) -> [u32; 7],
+    pub count: fn(&[u8], Capacities, u32) -> [u32; 3],
+    pub count_nets: fn(&[u8], Capacities, &[u8], &mut [u8]) -> [u32; 2],
+    pub verify: fn(&[u8], Capacities, &[u8]) -> [u32; 3],
     pub evaluate: fn(&[u8], &[u8], &mut [u8]) -> [u32; 2],
-    pub run: fn(&[u8], u32, &[u8], Run) -> [u32; 2],
-    pub step: fn(&[u8], u32, &[u8], &[u8], &mut [u8]) -> [u32; 2],
+    pub run: fn(&[u8], Capacities, &[u8], Run) -> [u32; 2],
+    pub step: fn(&[u8], Capacities, &[u8], &[u8], &mut [u8]) -> [u32; 2],
+    /// Takes the capacity of a buffer alone.
     pub levels: fn(&[u8], u32, &mut [u8]) -> [u32; 2],
-    pub strip: fn(u32, &[u8], &mut [u8]) -> [u32; 3],
+    pub strip: fn(Capacities, &[u8], &mut [u8]) -> [u32; 3],
 }
 
 pub const PLAIN: Engine = Engine {
@@ -87,7 +89,7 @@ impl Name {
 pub struct Call {
     pub name: Name,
     pub source: Vec<u8>,
-    pub capacity: u32,
+    pub capacities: Capacities,
     /// The count's record, or the run's number of rows.
     pub number: u32,
     /// The list of record indices.
@@ -107,15 +109,15 @@ pub struct Outcome {
 
 /// Makes the call.
 pub fn perform(engine: &Engine, call: &Call) -> Outcome {
-    let (source, capacity, mapped) = (&call.source[..], call.capacity, &call.mapped[..]);
+    let (source, capacities, mapped) = (&call.source[..], call.capacities, &call.mapped[..]);
     let mut areas = call.areas.clone();
     let answer = match call.name {
-        Name::Map => (engine.map)(source, capacity, &mut areas[0]).to_vec(),
-        Name::Count => (engine.count)(source, capacity, call.number).to_vec(),
+        Name::Map => (engine.map)(source, capacities, &mut areas[0]).to_vec(),
+        Name::Count => (engine.count)(source, capacities, call.number).to_vec(),
         Name::CountNets => {
-            (engine.count_nets)(source, capacity, &call.records, &mut areas[0]).to_vec()
+            (engine.count_nets)(source, capacities, &call.records, &mut areas[0]).to_vec()
         }
-        Name::Verify => (engine.verify)(source, capacity, mapped).to_vec(),
+        Name::Verify => (engine.verify)(source, capacities, mapped).to_vec(),
         Name::Evaluate => (engine.evaluate)(source, &call.rows, &mut areas[0]).to_vec(),
         Name::Run => {
             let (state, outputs) = areas.split_at_mut(1);
@@ -125,11 +127,11 @@ pub fn perform(engine: &Engine, call: &Call) -> Outcome {
                 state: &mut state[0],
                 outputs: &mut outputs[0],
             };
-            (engine.run)(source, capacity, mapped, run).to_vec()
+            (engine.run)(source, capacities, mapped, run).to_vec()
         }
-        Name::Step => (engine.step)(source, capacity, mapped, &call.rows, &mut areas[0]).to_vec(),
-        Name::Levels => (engine.levels)(source, capacity, &mut areas[0]).to_vec(),
-        Name::Strip => (engine.strip)(capacity, mapped, &mut areas[0]).to_vec(),
+        Name::Step => (engine.step)(source, capacities, mapped, &call.rows, &mut areas[0]).to_vec(),
+        Name::Levels => (engine.levels)(source, capacities.buffer, &mut areas[0]).to_vec(),
+        Name::Strip => (engine.strip)(capacities, mapped, &mut areas[0]).to_vec(),
     };
     Outcome { answer, areas }
 }

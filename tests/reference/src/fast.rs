@@ -4,6 +4,7 @@
 use std::mem::MaybeUninit;
 
 use crate::calls::NO_TREE;
+use crate::capacities::{Capacities, MAX_INPUT_CAPACITY};
 use crate::record::*;
 use crate::simulator::Run;
 
@@ -55,6 +56,28 @@ fn refused<const A: usize>((number, place): Refused) -> [u32; A] {
     answer[0] = number;
     answer[1] = place;
     answer
+}
+
+/// The capacity of a buffer.
+enum Buffers {
+    Two,
+    Three,
+    Four,
+}
+
+/// Checks 1 and 26.
+#[inline(always)]
+fn check_capacities(capacities: Capacities) -> Result<Buffers, Refused> {
+    let buffers = match capacities.buffer {
+        2 => Buffers::Two,
+        3 => Buffers::Three,
+        4 => Buffers::Four,
+        _ => return Err((1, 0)),
+    };
+    match capacities.input {
+        1..=MAX_INPUT_CAPACITY => Ok(buffers),
+        _ => Err((26, 0)),
+    }
 }
 
 /// The ten bytes of a record.
@@ -186,9 +209,20 @@ fn fill_row(source: &[Bytes], sinks: &Sinks, driver: usize, row: &mut [u16; LEVE
     largest
 }
 
-/// Walks the row downwards and clears it: the fewest buffers, or nothing.
+/// The capacity of a driver, where b is that of an input.
 #[inline(always)]
-fn walk_row<const S: usize>(row: &mut [u16; LEVELS], largest: usize) -> Option<u32> {
+fn driver_capacity(r: &Bytes, b: u32) -> u32 {
+    if r[0] == INPUT {
+        b
+    } else {
+        1
+    }
+}
+
+/// Walks the row downwards and clears it: the fewest buffers, or nothing if the driver would feed
+/// more than `most` slots.
+#[inline(always)]
+fn walk_row<const S: usize>(row: &mut [u16; LEVELS], largest: usize, most: u32) -> Option<u32> {
     let mut nodes = 0;
     let mut buffers = 0;
     for count in row[2..=largest.max(1)].iter_mut().rev() {
@@ -198,7 +232,7 @@ fn walk_row<const S: usize>(row: &mut [u16; LEVELS], largest: usize) -> Option<u
     }
     nodes += u32::from(row[1]);
     row[1] = 0;
-    (nodes <= 1).then_some(buffers)
+    (nodes <= most).then_some(buffers)
 }
 
 /// The slot and the distance of a driver's sink, if it has just one.
@@ -214,6 +248,7 @@ fn only_sink(source: &[Bytes], sinks: &Sinks, driver: usize) -> Option<(usize, u
 /// Check 8 for every driver, and the buffers of all nets.
 fn count_all<const S: usize>(
     source: &[Bytes],
+    b: u32,
     sinks: &Sinks,
     row: &mut [u16; LEVELS],
 ) -> Result<u32, Refused> {
@@ -227,7 +262,7 @@ fn count_all<const S: usize>(
             continue;
         }
         let largest = fill_row(source, sinks, driver, row);
-        match walk_row::<S>(row, largest) {
+        match walk_row::<S>(row, largest, driver_capacity(&source[driver], b)) {
             Some(fewest) => buffers += fewest,
             None => return Err((8, driver as u32)),
         }
@@ -276,8 +311,14 @@ fn write_tree<const S: usize>(
         *count = buffers as u16;
         buffers = nodes.div_ceil(S as u32);
     }
-    let mut start = driver;
-    for d in 1..=largest {
+    let mut start = writer.free;
+    nearer[1] = driver as u16;
+    for _ in 0..row[1] {
+        writer.buffer(own + 1, driver);
+    }
+    // Entry 1 stays 0: all nodes of distance 1 hang on the driver.
+    row[1] = 0;
+    for d in 2..=largest {
         nearer[d] = start as u16;
         let first = writer.free;
         for k in 0..usize::from(row[d]) {
@@ -290,7 +331,7 @@ fn write_tree<const S: usize>(
         let number = usize::from(at);
         let d = usize::from(level(&source[number / 4]) - own);
         writer.rewire(number, usize::from(nearer[d]) + usize::from(row[d]) / S);
-        row[d] += 1;
+        row[d] += u16::from(d > 1);
         at = sinks.next[number];
     }
     row[1..=largest].fill(0);
@@ -338,7 +379,11 @@ fn share(part: u32, whole: u32) -> u32 {
     }
 }
 
-fn map_checked<const S: usize>(source: &[u8], mapped: &mut [u8]) -> Result<[u32; 7], Refused> {
+fn map_checked<const S: usize>(
+    source: &[u8],
+    b: u32,
+    mapped: &mut [u8],
+) -> Result<[u32; 7], Refused> {
     let (source, totals) = check_source(source)?;
     let n = source.len();
     let mut first = Local::<u16, MAX_SOURCE>::new();
@@ -346,7 +391,7 @@ fn map_checked<const S: usize>(source: &[u8], mapped: &mut [u8]) -> Result<[u32;
     let lists = Sinks { first: first.first(n, NONE), next: next.first(4 * n, NONE) };
     let sinks = lists.fill(source);
     let mut row = [0; LEVELS];
-    let buffers = count_all::<S>(source, &sinks, &mut row)?;
+    let buffers = count_all::<S>(source, b, &sinks, &mut row)?;
     let m = n as u32 + buffers;
     if m as usize > MAX_MAPPED {
         return Err((9, 0));
@@ -361,23 +406,25 @@ fn map_checked<const S: usize>(source: &[u8], mapped: &mut [u8]) -> Result<[u32;
 }
 
 #[inline(never)]
-pub fn map(source: &[u8], capacity: u32, mapped: &mut [u8]) -> [u32; 7] {
-    let answer = match capacity {
-        2 => map_checked::<2>(source, mapped),
-        3 => map_checked::<3>(source, mapped),
-        4 => map_checked::<4>(source, mapped),
-        _ => Err((1, 0)),
+pub fn map(source: &[u8], capacities: Capacities, mapped: &mut [u8]) -> [u32; 7] {
+    let b = capacities.input;
+    let answer = match check_capacities(capacities) {
+        Ok(Buffers::Two) => map_checked::<2>(source, b, mapped),
+        Ok(Buffers::Three) => map_checked::<3>(source, b, mapped),
+        Ok(Buffers::Four) => map_checked::<4>(source, b, mapped),
+        Err(refusal) => Err(refusal),
     };
     answer.unwrap_or_else(refused)
 }
 
-fn count_checked<const S: usize>(source: &[u8], record: u32) -> Result<[u32; 3], Refused> {
+fn count_checked<const S: usize>(source: &[u8], b: u32, record: u32) -> Result<[u32; 3], Refused> {
     let (source, _) = check_source(source)?;
     let driver = record as usize;
     if source.get(driver).is_none_or(|r| r[0] == OUTPUT) {
         return Err((20, record));
     }
     let own = level(&source[driver]);
+    let most = driver_capacity(&source[driver], b);
     let mut row = [0; LEVELS];
     let mut largest = 0;
     for r in &source[driver + 1..] {
@@ -389,22 +436,23 @@ fn count_checked<const S: usize>(source: &[u8], record: u32) -> Result<[u32; 3],
             }
         }
     }
-    Ok([0, 0, walk_row::<S>(&mut row, largest).unwrap_or(NO_TREE)])
+    Ok([0, 0, walk_row::<S>(&mut row, largest, most).unwrap_or(NO_TREE)])
 }
 
 #[inline(never)]
-pub fn count(source: &[u8], capacity: u32, record: u32) -> [u32; 3] {
-    let answer = match capacity {
-        2 => count_checked::<2>(source, record),
-        3 => count_checked::<3>(source, record),
-        4 => count_checked::<4>(source, record),
-        _ => Err((1, 0)),
+pub fn count(source: &[u8], capacities: Capacities, record: u32) -> [u32; 3] {
+    let b = capacities.input;
+    let answer = match check_capacities(capacities) {
+        Ok(Buffers::Two) => count_checked::<2>(source, b, record),
+        Ok(Buffers::Three) => count_checked::<3>(source, b, record),
+        Ok(Buffers::Four) => count_checked::<4>(source, b, record),
+        Err(refusal) => Err(refusal),
     };
     answer.unwrap_or_else(refused)
 }
 
 /// The fewest buffers of every driver's net, 'no tree' where there is none.
-fn count_each<const S: usize>(source: &[Bytes], sinks: &Sinks, counted: &mut [u32]) {
+fn count_each<const S: usize>(source: &[Bytes], b: u32, sinks: &Sinks, counted: &mut [u32]) {
     let mut row = [0; LEVELS];
     for (driver, count) in counted.iter_mut().enumerate() {
         if sinks.first[driver] == NONE {
@@ -415,12 +463,14 @@ fn count_each<const S: usize>(source: &[Bytes], sinks: &Sinks, counted: &mut [u3
             continue;
         }
         let largest = fill_row(source, sinks, driver, &mut row);
-        *count = walk_row::<S>(&mut row, largest).unwrap_or(NO_TREE);
+        let most = driver_capacity(&source[driver], b);
+        *count = walk_row::<S>(&mut row, largest, most).unwrap_or(NO_TREE);
     }
 }
 
 fn count_nets_checked<const S: usize>(
     source: &[u8],
+    b: u32,
     records: &[u8],
     counts: &mut [u8],
 ) -> Result<[u32; 2], Refused> {
@@ -444,7 +494,7 @@ fn count_nets_checked<const S: usize>(
     let sinks = lists.fill(source);
     let mut counted = Local::<u32, MAX_SOURCE>::new();
     let counted = counted.first(n, 0);
-    count_each::<S>(source, &sinks, counted);
+    count_each::<S>(source, b, &sinks, counted);
     for (four, &two) in counts.iter_mut().zip(records) {
         *four = counted[usize::from(u16::from_le_bytes(two))].to_le_bytes();
     }
@@ -452,12 +502,18 @@ fn count_nets_checked<const S: usize>(
 }
 
 #[inline(never)]
-pub fn count_nets(source: &[u8], capacity: u32, records: &[u8], counts: &mut [u8]) -> [u32; 2] {
-    let answer = match capacity {
-        2 => count_nets_checked::<2>(source, records, counts),
-        3 => count_nets_checked::<3>(source, records, counts),
-        4 => count_nets_checked::<4>(source, records, counts),
-        _ => Err((1, 0)),
+pub fn count_nets(
+    source: &[u8],
+    capacities: Capacities,
+    records: &[u8],
+    counts: &mut [u8],
+) -> [u32; 2] {
+    let b = capacities.input;
+    let answer = match check_capacities(capacities) {
+        Ok(Buffers::Two) => count_nets_checked::<2>(source, b, records, counts),
+        Ok(Buffers::Three) => count_nets_checked::<3>(source, b, records, counts),
+        Ok(Buffers::Four) => count_nets_checked::<4>(source, b, records, counts),
+        Err(refusal) => Err(refusal),
     };
     answer.unwrap_or_else(refused)
 }
@@ -467,7 +523,7 @@ pub fn count_nets(source: &[u8], capacity: u32, records: &[u8], counts: &mut [u8
 fn check_fanins<const U: usize>(
     mapped: &[Bytes],
     k: usize,
-    feeds: &mut [u8],
+    feeds: &mut [u16],
 ) -> Result<(), Refused> {
     let r = &mapped[k];
     for j in 0..U {
@@ -491,7 +547,7 @@ fn check_kept<const U: usize>(
     old: &Bytes,
     mapped: &[Bytes],
     k: usize,
-    feeds: &mut [u8],
+    feeds: &mut [u16],
 ) -> Result<(), Refused> {
     let new = &mapped[k];
     if old[..4] != new[..4] || old[4 + 2 * U..] != new[4 + 2 * U..] {
@@ -545,7 +601,7 @@ fn check_traces(source: &[Bytes], mapped: &[Bytes], drivers: &mut [u16]) -> Resu
 fn check_buffers(
     mapped: &[Bytes],
     n: usize,
-    feeds: &mut [u8],
+    feeds: &mut [u16],
     drivers: &mut [u16],
 ) -> Result<(), Refused> {
     for k in n..mapped.len() {
@@ -560,13 +616,15 @@ fn check_buffers(
     Ok(())
 }
 
-/// Check 17.
+/// Check 17. An output feeds nothing.
 #[inline(always)]
-fn check_feeds<const S: usize>(n: usize, feeds: &[u8]) -> Result<(), Refused> {
-    if let Some(k) = feeds[..n].iter().position(|&fed| fed > 1) {
+fn check_feeds<const S: usize>(source: &[Bytes], b: u32, feeds: &[u16]) -> Result<(), Refused> {
+    let n = source.len();
+    let too_many = |(r, &fed): (&Bytes, &u16)| u32::from(fed) > driver_capacity(r, b);
+    if let Some(k) = source.iter().zip(feeds).position(too_many) {
         return Err((17, k as u32));
     }
-    if let Some(k) = feeds[n..].iter().position(|&fed| fed > S as u8) {
+    if let Some(k) = feeds[n..].iter().position(|&fed| fed > S as u16) {
         return Err((17, (n + k) as u32));
     }
     Ok(())
@@ -575,6 +633,7 @@ fn check_feeds<const S: usize>(n: usize, feeds: &[u8]) -> Result<(), Refused> {
 /// Checks 11 to 17 of a source that has passed 2 to 7: the mapped records.
 fn check_mapped<'a, const S: usize>(
     source: &[Bytes],
+    b: u32,
     mapped: &'a [u8],
 ) -> Result<&'a [Bytes], Refused> {
     let (mapped, rest) = mapped.as_chunks::<WIDTH>();
@@ -582,7 +641,7 @@ fn check_mapped<'a, const S: usize>(
     if !rest.is_empty() || m < n || m > MAX_MAPPED {
         return Err((11, 0));
     }
-    let mut feeds = Local::<u8, MAX_MAPPED>::new();
+    let mut feeds = Local::<u16, MAX_MAPPED>::new();
     let feeds = feeds.first(m, 0);
     for (k, old) in source.iter().enumerate() {
         match old[0] {
@@ -596,33 +655,35 @@ fn check_mapped<'a, const S: usize>(
     let drivers = drivers.first(m, NONE);
     check_buffers(mapped, n, feeds, drivers)?;
     check_traces(source, mapped, drivers)?;
-    check_feeds::<S>(n, feeds)?;
+    check_feeds::<S>(source, b, feeds)?;
     Ok(mapped)
 }
 
-/// What has passed 1 to 7 and 11 to 17.
+/// What has passed 1, 26, 2 to 7 and 11 to 17.
 struct Checked<'a> {
     n: usize,
     totals: Totals,
     mapped: &'a [Bytes],
 }
 
-fn check_both<'a>(source: &[u8], capacity: u32, mapped: &'a [u8]) -> Result<Checked<'a>, Refused> {
-    if !(2..=4).contains(&capacity) {
-        return Err((1, 0));
-    }
+fn check_both<'a>(
+    source: &[u8],
+    capacities: Capacities,
+    mapped: &'a [u8],
+) -> Result<Checked<'a>, Refused> {
+    let (s, b) = (check_capacities(capacities)?, capacities.input);
     let (source, totals) = check_source(source)?;
-    let mapped = match capacity {
-        2 => check_mapped::<2>(source, mapped)?,
-        3 => check_mapped::<3>(source, mapped)?,
-        _ => check_mapped::<4>(source, mapped)?,
+    let mapped = match s {
+        Buffers::Two => check_mapped::<2>(source, b, mapped)?,
+        Buffers::Three => check_mapped::<3>(source, b, mapped)?,
+        Buffers::Four => check_mapped::<4>(source, b, mapped)?,
     };
     Ok(Checked { n: source.len(), totals, mapped })
 }
 
 #[inline(never)]
-pub fn verify(source: &[u8], capacity: u32, mapped: &[u8]) -> [u32; 3] {
-    match check_both(source, capacity, mapped) {
+pub fn verify(source: &[u8], capacities: Capacities, mapped: &[u8]) -> [u32; 3] {
+    match check_both(source, capacities, mapped) {
         Ok(checked) => [0, 0, (checked.mapped.len() - checked.n) as u32],
         Err(refusal) => refused(refusal),
     }
@@ -690,12 +751,12 @@ fn advance(n: usize, mapped: &[Bytes], row: &[u8], before: &[u8], after: &mut [u
 
 fn step_checked(
     source: &[u8],
-    capacity: u32,
+    capacities: Capacities,
     mapped: &[u8],
     row: &[u8],
     state: &mut [u8],
 ) -> Result<[u32; 2], Refused> {
-    let Checked { n, totals, mapped } = check_both(source, capacity, mapped)?;
+    let Checked { n, totals, mapped } = check_both(source, capacities, mapped)?;
     let m = mapped.len();
     if row.len() != totals.inputs || state.len() != 2 * m {
         return Err((18, 0));
@@ -710,17 +771,23 @@ fn step_checked(
 }
 
 #[inline(never)]
-pub fn step(source: &[u8], capacity: u32, mapped: &[u8], row: &[u8], state: &mut [u8]) -> [u32; 2] {
-    step_checked(source, capacity, mapped, row, state).unwrap_or_else(refused)
+pub fn step(
+    source: &[u8],
+    capacities: Capacities,
+    mapped: &[u8],
+    row: &[u8],
+    state: &mut [u8],
+) -> [u32; 2] {
+    step_checked(source, capacities, mapped, row, state).unwrap_or_else(refused)
 }
 
 fn run_checked(
     source: &[u8],
-    capacity: u32,
+    capacities: Capacities,
     mapped: &[u8],
     areas: Run,
 ) -> Result<[u32; 2], Refused> {
-    let Checked { n, totals, mapped } = check_both(source, capacity, mapped)?;
+    let Checked { n, totals, mapped } = check_both(source, capacities, mapped)?;
     let (r, m) = (areas.row_count as usize, mapped.len());
     if r > MAX_ROWS
         || areas.rows.len() != r * totals.inputs
@@ -759,8 +826,8 @@ fn copy_outputs(source: &[Bytes], values: &[u8], outputs: &mut [u8]) {
 }
 
 #[inline(never)]
-pub fn run(source: &[u8], capacity: u32, mapped: &[u8], areas: Run) -> [u32; 2] {
-    run_checked(source, capacity, mapped, areas).unwrap_or_else(refused)
+pub fn run(source: &[u8], capacities: Capacities, mapped: &[u8], areas: Run) -> [u32; 2] {
+    run_checked(source, capacities, mapped, areas).unwrap_or_else(refused)
 }
 
 /// What stands for the number of sinks of a record that no slot may name: an output, or a record
@@ -915,7 +982,7 @@ const NO_SOURCE: Refused = (24, 0);
 /// What the reader and the verifier ask of record k, which uses U slots, but for what its slots
 /// name in the source and for the levels of inputs and outputs.
 #[inline(always)]
-fn check_own<const U: usize>(mapped: &[Bytes], k: usize, feeds: &mut [u8]) -> Result<(), Refused> {
+fn check_own<const U: usize>(mapped: &[Bytes], k: usize, feeds: &mut [u16]) -> Result<(), Refused> {
     let r = &mapped[k];
     let inverted = r[1] & !BITS[usize::from(r[0])] != 0;
     if inverted || level(r) > MAX_LEVEL || r[4 + 2 * U..] != [0xFF; WIDTH][4 + 2 * U..] {
@@ -925,7 +992,7 @@ fn check_own<const U: usize>(mapped: &[Bytes], k: usize, feeds: &mut [u8]) -> Re
 }
 
 /// The number of records before the first buffer, each checked.
-fn check_before_buffers(mapped: &[Bytes], feeds: &mut [u8]) -> Result<usize, Refused> {
+fn check_before_buffers(mapped: &[Bytes], feeds: &mut [u16]) -> Result<usize, Refused> {
     let mut depth = NONE;
     for (k, r) in mapped.iter().enumerate() {
         match r[0] {
@@ -960,6 +1027,7 @@ fn set_drivers(source: &mut [Bytes], mapped: &[Bytes], drivers: &mut [u16]) -> R
 
 /// Check 24: the source, made in a local array.
 fn source_of<'a, const S: usize>(
+    b: u32,
     mapped: &[u8],
     source: &'a mut Local<Bytes, MAX_SOURCE>,
 ) -> Result<&'a [Bytes], Refused> {
@@ -968,7 +1036,7 @@ fn source_of<'a, const S: usize>(
     if !rest.is_empty() || m > MAX_MAPPED {
         return Err(NO_SOURCE);
     }
-    let mut feeds = Local::<u8, MAX_MAPPED>::new();
+    let mut feeds = Local::<u16, MAX_MAPPED>::new();
     let feeds = feeds.first(m, 0);
     let n = check_before_buffers(mapped, feeds)?;
     if n > MAX_SOURCE {
@@ -977,15 +1045,19 @@ fn source_of<'a, const S: usize>(
     let mut drivers = Local::<u16, MAX_MAPPED>::new();
     let drivers = drivers.first(m, NONE);
     check_buffers(mapped, n, feeds, drivers)?;
-    check_feeds::<S>(n, feeds)?;
+    check_feeds::<S>(&mapped[..n], b, feeds)?;
     let source = source.copied(&mapped[..n]);
     set_drivers(source, mapped, drivers)?;
     Ok(source)
 }
 
-fn strip_checked<const S: usize>(mapped: &[u8], area: &mut [u8]) -> Result<[u32; 3], Refused> {
+fn strip_checked<const S: usize>(
+    b: u32,
+    mapped: &[u8],
+    area: &mut [u8],
+) -> Result<[u32; 3], Refused> {
     let mut source = Local::new();
-    let source = source_of::<S>(mapped, &mut source).map_err(|_| NO_SOURCE)?;
+    let source = source_of::<S>(b, mapped, &mut source).map_err(|_| NO_SOURCE)?;
     let n = source.len();
     match area.as_chunks_mut::<WIDTH>().0.get_mut(..n) {
         Some(area) => area.copy_from_slice(source),
@@ -995,12 +1067,13 @@ fn strip_checked<const S: usize>(mapped: &[u8], area: &mut [u8]) -> Result<[u32;
 }
 
 #[inline(never)]
-pub fn strip(capacity: u32, mapped: &[u8], source: &mut [u8]) -> [u32; 3] {
-    let answer = match capacity {
-        2 => strip_checked::<2>(mapped, source),
-        3 => strip_checked::<3>(mapped, source),
-        4 => strip_checked::<4>(mapped, source),
-        _ => Err((1, 0)),
+pub fn strip(capacities: Capacities, mapped: &[u8], source: &mut [u8]) -> [u32; 3] {
+    let b = capacities.input;
+    let answer = match check_capacities(capacities) {
+        Ok(Buffers::Two) => strip_checked::<2>(b, mapped, source),
+        Ok(Buffers::Three) => strip_checked::<3>(b, mapped, source),
+        Ok(Buffers::Four) => strip_checked::<4>(b, mapped, source),
+        Err(refusal) => Err(refusal),
     };
     answer.unwrap_or_else(refused)
 }

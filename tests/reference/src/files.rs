@@ -1,7 +1,8 @@
 //! What stands in the working directory of the program `sheet`, by seed: netlists as the verifier
 //! gets them, and files that are absent, longer or wrong.
 
-use crate::cases::{damaged, limit, sound, verify_call, Subject};
+use crate::capacities::Capacities;
+use crate::cases::{damaged, limit, other_input, sound, verify_call, Subject};
 use crate::generator::shuffle_buffers;
 use crate::mapper::mapping;
 use crate::random::Random;
@@ -34,7 +35,8 @@ impl File {
 /// About as many inputs as a source may have, with a few bytes more or none; they are mapped as
 /// they are.
 fn longest_source(random: &mut Random) -> (Subject, Vec<u8>) {
-    let mut subject = Subject::new(shapes::inputs(MAX_SOURCE - 1 + random.below(4)), 2);
+    let mut subject =
+        Subject::new(shapes::inputs(MAX_SOURCE - 1 + random.below(4)), Capacities::unbranched(2));
     let mapped = subject.source.clone();
     if random.one_in(2) {
         let extra = random.between(1, 2 * WIDTH);
@@ -48,8 +50,8 @@ fn longest_source(random: &mut Random) -> (Subject, Vec<u8>) {
 fn longest_mapped(random: &mut Random) -> (Subject, Vec<u8>) {
     let level = random.between(2998, 3000) as u16;
     let source = if random.one_in(2) { shapes::lines(2, level) } else { shapes::worked() };
-    let subject = Subject::new(source, 2);
-    let own = mapping(&subject.source, 2).expect("a tree on every net").records;
+    let subject = Subject::new(source, Capacities::unbranched(2));
+    let own = mapping(&subject.source, subject.own).expect("a tree on every net").records;
     let mut records = shapes::padded(&own, 2, MAPPED_BYTES / WIDTH - 1 + random.below(3));
     if random.one_in(2) {
         shuffle_buffers(random, &mut records, subject.records.len());
@@ -62,7 +64,7 @@ fn longest_mapped(random: &mut Random) -> (Subject, Vec<u8>) {
     (damaged(random, subject), mapped)
 }
 
-/// A source with its capacity, and a mapped netlist: most are small, two in 50 have about the most
+/// A source with its capacities, and a mapped netlist: most are small, two in 50 have about the most
 /// bytes that are read, one is at another limit.
 fn netlists(random: &mut Random, index: u64) -> (Subject, Vec<u8>) {
     let subject = match index % 50 {
@@ -71,19 +73,30 @@ fn netlists(random: &mut Random, index: u64) -> (Subject, Vec<u8>) {
         49 => limit(random),
         _ => sound(random, 40),
     };
+    let subject = other_input(random, subject);
     let subject = damaged(random, subject);
     let mapped = verify_call(random, &subject).mapped;
     (subject, mapped)
 }
 
-/// The file of the capacity: its low byte, or once in 20 times another; now and then with bytes
-/// behind it.
-fn capacity_bytes(random: &mut Random, capacity: u32) -> Vec<u8> {
+/// The file of the capacities: the low byte of s and the two low bytes of b, or once in 20 times
+/// others; now and then with bytes behind them, or without the last ones.
+fn capacity_bytes(random: &mut Random, capacities: Capacities) -> Vec<u8> {
     let any = random.byte();
     let other = random.pick(&[0, 1, 2, 3, 4, 5, 6, 50, 255, any]);
-    let s = if random.one_in(20) { other } else { capacity as u8 };
-    let behind = if random.one_in(8) { random.between(1, 9) } else { 0 };
-    [vec![s], random.bytes(behind)].concat()
+    let s = if random.one_in(20) { other } else { capacities.buffer as u8 };
+    let b = capacities.input as u16;
+    let b = if random.one_in(20) { b.swap_bytes() } else { b };
+    let mut bytes = [&[s], &b.to_le_bytes()[..]].concat();
+    match random.below(24) {
+        0..=2 => {
+            let behind = random.between(1, 9);
+            bytes.extend(random.bytes(behind));
+        }
+        3 => bytes.truncate(random.below(3)),
+        _ => {}
+    }
+    bytes
 }
 
 /// The file of these bytes: once in 16 times absent, empty, cut, or with bytes behind them.
@@ -106,6 +119,6 @@ fn file(random: &mut Random, mut bytes: Vec<u8>) -> File {
 pub fn files_by_seed(seed: u64, index: u64) -> [File; 3] {
     let mut random = Random::of(seed, index);
     let (subject, mapped) = netlists(&mut random, index);
-    let s = capacity_bytes(&mut random, subject.capacity);
+    let s = capacity_bytes(&mut random, subject.capacities);
     [s, subject.source, mapped].map(|bytes| file(&mut random, bytes))
 }

@@ -2,8 +2,9 @@
 
 use std::ops::Range;
 
+use crate::capacities::Capacities;
 use crate::levels::least_levels;
-use crate::net::{distances, fewest, sinks};
+use crate::net::{distances, fewest, fewest_of, sinks};
 use crate::random::Random;
 use crate::record::*;
 use crate::source::depth;
@@ -92,16 +93,26 @@ pub fn fanouts(records: &[Record]) -> Vec<usize> {
     fanouts
 }
 
+/// For each record how far above it its sinks must stand for a tree, wherever they stand then.
+pub fn gaps(records: &[Record], capacities: Capacities) -> Vec<usize> {
+    let fanouts = fanouts(records);
+    let gap = |(record, fanout): (&Record, usize)| match record.kind {
+        OUTPUT => 0,
+        kind => 1 + height(fanout.div_ceil(capacities.of(kind)), capacities.s()),
+    };
+    records.iter().zip(fanouts).map(gap).collect()
+}
+
 /// Whether the levels are in order and every net has a tree.
-fn every_net_has_a_tree(records: &[Record], s: usize) -> bool {
+fn every_net_has_a_tree(records: &[Record], capacities: Capacities) -> bool {
     let rising = records.iter().all(|record| {
         record.fanins().iter().all(|&fanin| records[usize::from(fanin)].level < record.level)
     });
-    rising && (0..records.len()).all(|k| fewest(&distances(records, k), s).is_some())
+    rising && (0..records.len()).all(|k| fewest_of(records, k, capacities).is_some())
 }
 
 /// Lowers gates, and all outputs together, as long as every net keeps its tree.
-fn lower(random: &mut Random, records: &mut Vec<Record>, s: usize) {
+fn lower(random: &mut Random, records: &mut Vec<Record>, capacities: Capacities) {
     for _ in 0..3 * records.len() {
         let k = random.below(records.len());
         let mut lowered = records.clone();
@@ -111,22 +122,27 @@ fn lower(random: &mut Random, records: &mut Vec<Record>, s: usize) {
                 record.level -= 1;
             }
         }
-        if every_net_has_a_tree(&lowered, s) {
+        if every_net_has_a_tree(&lowered, capacities) {
             *records = lowered;
         }
     }
 }
 
 /// A source of `size` records that passes 2 to 7.
-pub fn source(random: &mut Random, size: usize, s: usize, levels: Levels) -> Vec<Record> {
+pub fn source(
+    random: &mut Random,
+    size: usize,
+    capacities: Capacities,
+    levels: Levels,
+) -> Vec<Record> {
     let outputs = !random.one_in(6);
     let mut records = graph(random, size, outputs);
-    let fanouts = fanouts(&records);
+    let gaps = gaps(&records, capacities);
     let slack = random.pick(&[1, 1, 2, 4]);
     let far = random.pick(&[0, 0, 0, 6, 20]);
     set_levels(&mut records, |fanin| match levels {
         Levels::Tight => 1 + random.below(slack),
-        _ => 1 + height(fanouts[fanin], s) + random.below(slack),
+        _ => gaps[fanin] + random.below(slack),
     });
     if records.iter().all(|record| record.level <= MAX_LEVEL - far) {
         for output in records.iter_mut().filter(|record| record.kind == OUTPUT) {
@@ -134,7 +150,7 @@ pub fn source(random: &mut Random, size: usize, s: usize, levels: Levels) -> Vec
         }
     }
     if levels == Levels::Lowered && size <= 40 {
-        lower(random, &mut records, s);
+        lower(random, &mut records, capacities);
     }
     records
 }
@@ -186,7 +202,7 @@ pub fn steep(random: &mut Random, s: usize) -> Vec<Record> {
 
 /// How many buffers each distance gets in some legal tree: at least as many as are needed, more
 /// where the rest of the tree still has room. Entry d is for distance d.
-fn loose_buffers(random: &mut Random, net: &[usize], s: usize) -> Vec<usize> {
+fn loose_buffers(random: &mut Random, net: &[usize], s: usize, driver: usize) -> Vec<usize> {
     let largest = net.iter().copied().max().unwrap_or(0);
     let mut buffers = vec![0; largest + 1];
     for d in (2..=largest).rev() {
@@ -197,7 +213,7 @@ fn loose_buffers(random: &mut Random, net: &[usize], s: usize) -> Vec<usize> {
         // The nodes one level nearer, as sinks of a smaller net.
         let nearer = net.iter().copied().filter(|&distance| distance < d);
         let rest: Vec<usize> = nearer.chain(vec![d - 1; wanted]).collect();
-        buffers[d - 1] = if fewest(&rest, s).is_some() { wanted } else { least };
+        buffers[d - 1] = if fewest(&rest, s, driver).is_some() { wanted } else { least };
     }
     buffers
 }
@@ -208,10 +224,11 @@ fn add_loose_tree(
     records: &mut Vec<Record>,
     source: &[Record],
     driver: usize,
-    s: usize,
+    capacities: Capacities,
 ) {
     let sinks = sinks(source, driver);
-    let buffers = loose_buffers(random, &distances(source, driver), s);
+    let (s, most) = (capacities.s(), capacities.of(source[driver].kind));
+    let buffers = loose_buffers(random, &distances(source, driver), s, most);
     let mut parents = vec![driver as u16];
     for (d, &here) in buffers.iter().enumerate().skip(1) {
         let first = records.len();
@@ -222,7 +239,7 @@ fn add_loose_tree(
         random.shuffle(&mut places);
         let mut room: Vec<u16> = Vec::new();
         for parent in &parents {
-            room.extend(vec![*parent; if d == 1 { 1 } else { s }]);
+            room.extend(vec![*parent; if d == 1 { most } else { s }]);
         }
         random.shuffle(&mut room);
         for (&(record, slot), &parent) in places.iter().zip(&room) {
@@ -233,7 +250,12 @@ fn add_loose_tree(
 }
 
 /// Adds buffers that feed nothing on records that may feed one more slot.
-fn add_dangling(random: &mut Random, records: &mut Vec<Record>, s: usize, tries: usize) {
+fn add_dangling(
+    random: &mut Random,
+    records: &mut Vec<Record>,
+    capacities: Capacities,
+    tries: usize,
+) {
     let mut feeds = fanouts(records);
     for _ in 0..tries {
         if records.is_empty() || records.len() >= MAX_MAPPED {
@@ -241,12 +263,7 @@ fn add_dangling(random: &mut Random, records: &mut Vec<Record>, s: usize, tries:
         }
         // Now and then a chain on the last buffer, to go above D.
         let on = if random.one_in(2) { records.len() - 1 } else { random.below(records.len()) };
-        let may_feed = match records[on].kind {
-            OUTPUT => 0,
-            BUFFER => s,
-            _ => 1,
-        };
-        if feeds[on] < may_feed && records[on].level < MAX_LEVEL {
+        if feeds[on] < capacities.of(records[on].kind) && records[on].level < MAX_LEVEL {
             feeds[on] += 1;
             feeds.push(0);
             records.push(Record::buffer(records[on].level + 1, on as u16));
@@ -291,17 +308,21 @@ pub fn reverse_buffers(records: &mut [Record], n: usize) {
 
 /// A legal mapped netlist made by random splitting, with buffers that feed nothing and in any
 /// order; nothing if a net has no tree or there are too many records.
-pub fn foreign(random: &mut Random, source: &[Record], s: usize) -> Option<Vec<Record>> {
-    let total: Option<usize> = (0..source.len()).map(|k| fewest(&distances(source, k), s)).sum();
+pub fn foreign(
+    random: &mut Random,
+    source: &[Record],
+    capacities: Capacities,
+) -> Option<Vec<Record>> {
+    let total: Option<usize> = (0..source.len()).map(|k| fewest_of(source, k, capacities)).sum();
     if total? > MAX_MAPPED / 8 {
         return None;
     }
     let mut records = source.to_vec();
     for driver in (0..source.len()).filter(|&k| source[k].is_driver()) {
-        add_loose_tree(random, &mut records, source, driver, s);
+        add_loose_tree(random, &mut records, source, driver, capacities);
     }
     let tries = random.pick(&[0, 0, 2, 10, 30]);
-    add_dangling(random, &mut records, s, tries);
+    add_dangling(random, &mut records, capacities, tries);
     if !random.one_in(3) {
         shuffle_buffers(random, &mut records, source.len());
     }

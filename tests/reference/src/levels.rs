@@ -1,9 +1,10 @@
 //! Specification 2.7, 4.10: the least levels of a source, and the copy of it that has them.
 
+use crate::capacities::check_capacity;
 use crate::net::fewest;
 use crate::record::*;
 use crate::refusal::{refuse, Refusal};
-use crate::source::{check_capacity, check_source, check_unlevelled, indices_of};
+use crate::source::{check_source, check_unlevelled, indices_of};
 
 /// The least h for which s to the power h is at least n.
 fn height(n: usize, s: usize) -> u32 {
@@ -57,7 +58,7 @@ pub fn write(source: &[u8], capacity: u32, area: &mut [u8]) -> Result<(), Refusa
     Ok(())
 }
 
-/// Whether none of 2 to 8 refuses a source.
+/// Whether none of 2 to 8 refuses a source, with inputs that feed one slot and so with any others.
 pub fn passes(source: &[u8], s: usize) -> bool {
     let Ok(records) = check_source(source) else {
         return false;
@@ -69,5 +70,5 @@ pub fn passes(source: &[u8], s: usize) -> bool {
             nets[driver].push(usize::from(record.level - records[driver].level));
         }
     }
-    nets.iter().all(|net| fewest(net, s).is_some())
+    nets.iter().all(|net| fewest(net, s, 1).is_some())
 }

@@ -6,6 +6,7 @@
 //! `sheet` is what the program of that name prints, `files` makes what it reads by seed.
 
 pub mod calls;
+pub mod capacities;
 pub mod cases;
 pub mod damage;
 pub mod engine;
@@ -16,6 +17,7 @@ pub mod levels;
 pub mod mapper;
 pub mod net;
 pub mod random;
+pub mod reach;
 pub mod record;
 pub mod refusal;
 pub mod search;

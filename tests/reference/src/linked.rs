@@ -1,5 +1,6 @@
 //! The calls of include/aqfp.h, imported from the static library.
 
+use crate::capacities::Capacities;
 use crate::engine::Engine;
 use crate::simulator::Run;
 
@@ -8,6 +9,7 @@ extern "C" {
         source: *const u8,
         source_len: usize,
         capacity: u32,
+        input_capacity: u32,
         mapped: *mut u8,
         mapped_len: usize,
         answer: *mut u8,
@@ -16,6 +18,7 @@ extern "C" {
         source: *const u8,
         source_len: usize,
         capacity: u32,
+        input_capacity: u32,
         record: u32,
         answer: *mut u8,
     ) -> u32;
@@ -23,6 +26,7 @@ extern "C" {
         source: *const u8,
         source_len: usize,
         capacity: u32,
+        input_capacity: u32,
         records: *const u8,
         records_len: usize,
         counts: *mut u8,
@@ -33,6 +37,7 @@ extern "C" {
         source: *const u8,
         source_len: usize,
         capacity: u32,
+        input_capacity: u32,
         mapped: *const u8,
         mapped_len: usize,
         answer: *mut u8,
@@ -50,6 +55,7 @@ extern "C" {
         source: *const u8,
         source_len: usize,
         capacity: u32,
+        input_capacity: u32,
         mapped: *const u8,
         mapped_len: usize,
         row_count: u32,
@@ -65,6 +71,7 @@ extern "C" {
         source: *const u8,
         source_len: usize,
         capacity: u32,
+        input_capacity: u32,
         mapped: *const u8,
         mapped_len: usize,
         row: *const u8,
@@ -83,6 +90,7 @@ extern "C" {
     ) -> u32;
     fn aqfp_strip(
         capacity: u32,
+        input_capacity: u32,
         mapped: *const u8,
         mapped_len: usize,
         source: *mut u8,
@@ -105,13 +113,14 @@ fn numbers<const A: usize>(bytes: &[u8], returned: u32) -> [u32; A] {
 // written areas apart from all others, and the answer has the length that the interface states.
 // Answer areas start out filled, so that a byte left unwritten shows.
 
-fn map(source: &[u8], capacity: u32, mapped: &mut [u8]) -> [u32; 7] {
+fn map(source: &[u8], capacities: Capacities, mapped: &mut [u8]) -> [u32; 7] {
     let mut answer = [0xA5; 28];
     let returned = unsafe {
         aqfp_map(
             source.as_ptr(),
             source.len(),
-            capacity,
+            capacities.buffer,
+            capacities.input,
             mapped.as_mut_ptr(),
             mapped.len(),
             answer.as_mut_ptr(),
@@ -120,20 +129,34 @@ fn map(source: &[u8], capacity: u32, mapped: &mut [u8]) -> [u32; 7] {
     numbers(&answer, returned)
 }
 
-fn count(source: &[u8], capacity: u32, record: u32) -> [u32; 3] {
+fn count(source: &[u8], capacities: Capacities, record: u32) -> [u32; 3] {
     let mut answer = [0xA5; 12];
-    let returned =
-        unsafe { aqfp_count(source.as_ptr(), source.len(), capacity, record, answer.as_mut_ptr()) };
+    let returned = unsafe {
+        aqfp_count(
+            source.as_ptr(),
+            source.len(),
+            capacities.buffer,
+            capacities.input,
+            record,
+            answer.as_mut_ptr(),
+        )
+    };
     numbers(&answer, returned)
 }
 
-fn count_nets(source: &[u8], capacity: u32, records: &[u8], counts: &mut [u8]) -> [u32; 2] {
+fn count_nets(
+    source: &[u8],
+    capacities: Capacities,
+    records: &[u8],
+    counts: &mut [u8],
+) -> [u32; 2] {
     let mut answer = [0xA5; 8];
     let returned = unsafe {
         aqfp_count_nets(
             source.as_ptr(),
             source.len(),
-            capacity,
+            capacities.buffer,
+            capacities.input,
             records.as_ptr(),
             records.len(),
             counts.as_mut_ptr(),
@@ -144,13 +167,14 @@ fn count_nets(source: &[u8], capacity: u32, records: &[u8], counts: &mut [u8]) -
     numbers(&answer, returned)
 }
 
-fn verify(source: &[u8], capacity: u32, mapped: &[u8]) -> [u32; 3] {
+fn verify(source: &[u8], capacities: Capacities, mapped: &[u8]) -> [u32; 3] {
     let mut answer = [0xA5; 12];
     let returned = unsafe {
         aqfp_verify(
             source.as_ptr(),
             source.len(),
-            capacity,
+            capacities.buffer,
+            capacities.input,
             mapped.as_ptr(),
             mapped.len(),
             answer.as_mut_ptr(),
@@ -175,13 +199,14 @@ fn evaluate(source: &[u8], row: &[u8], values: &mut [u8]) -> [u32; 2] {
     numbers(&answer, returned)
 }
 
-fn run(source: &[u8], capacity: u32, mapped: &[u8], areas: Run) -> [u32; 2] {
+fn run(source: &[u8], capacities: Capacities, mapped: &[u8], areas: Run) -> [u32; 2] {
     let mut answer = [0xA5; 8];
     let returned = unsafe {
         aqfp_run(
             source.as_ptr(),
             source.len(),
-            capacity,
+            capacities.buffer,
+            capacities.input,
             mapped.as_ptr(),
             mapped.len(),
             areas.row_count,
@@ -197,13 +222,20 @@ fn run(source: &[u8], capacity: u32, mapped: &[u8], areas: Run) -> [u32; 2] {
     numbers(&answer, returned)
 }
 
-fn step(source: &[u8], capacity: u32, mapped: &[u8], row: &[u8], state: &mut [u8]) -> [u32; 2] {
+fn step(
+    source: &[u8],
+    capacities: Capacities,
+    mapped: &[u8],
+    row: &[u8],
+    state: &mut [u8],
+) -> [u32; 2] {
     let mut answer = [0xA5; 8];
     let returned = unsafe {
         aqfp_step(
             source.as_ptr(),
             source.len(),
-            capacity,
+            capacities.buffer,
+            capacities.input,
             mapped.as_ptr(),
             mapped.len(),
             row.as_ptr(),
@@ -231,11 +263,12 @@ fn levels(source: &[u8], capacity: u32, levelled: &mut [u8]) -> [u32; 2] {
     numbers(&answer, returned)
 }
 
-fn strip(capacity: u32, mapped: &[u8], source: &mut [u8]) -> [u32; 3] {
+fn strip(capacities: Capacities, mapped: &[u8], source: &mut [u8]) -> [u32; 3] {
     let mut answer = [0xA5; 12];
     let returned = unsafe {
         aqfp_strip(
-            capacity,
+            capacities.buffer,
+            capacities.input,
             mapped.as_ptr(),
             mapped.len(),
             source.as_mut_ptr(),

@@ -1,11 +1,12 @@
-//! The mapper: checks 1 to 10 and the mapped netlist in the order of specification 2.5.
+//! The mapper: checks 1, 26, 2 to 10 and the mapped netlist in the order of specification 2.5.
 
-use crate::net::{buffers_by_distance, distances, fewest, sinks, Sink};
+use crate::capacities::Capacities;
+use crate::net::{buffers_by_distance, distances, fewest_of, sinks, Sink};
 use crate::record::*;
 use crate::refusal::{refuse, Refusal};
-use crate::source::{check_capacity, check_source, depth, number_of};
+use crate::source::{check_source, depth, number_of};
 
-/// What the mapper writes for a source and a capacity, before check 10.
+/// What the mapper writes for a source and capacities, before check 10.
 pub struct Mapping {
     pub records: Vec<Record>,
     /// The index of each record's first buffer, were it a driver; one more entry for the end.
@@ -19,11 +20,10 @@ enum Node {
 }
 
 /// Checks 8 and 9, and where each driver's buffers start.
-fn block_starts(source: &[Record], s: usize) -> Result<Vec<usize>, Refusal> {
+fn block_starts(source: &[Record], capacities: Capacities) -> Result<Vec<usize>, Refusal> {
     let mut starts = vec![source.len()];
     for k in 0..source.len() {
-        let net = if source[k].is_driver() { distances(source, k) } else { Vec::new() };
-        match fewest(&net, s) {
+        match fewest_of(source, k, capacities) {
             Some(buffers) => starts.push(starts[k] + buffers),
             None => return refuse(8, k),
         }
@@ -42,10 +42,11 @@ fn nodes_at(d: usize, first_buffer: usize, buffers: usize, sinks: &[Sink]) -> Ve
 }
 
 /// Adds the tree of one driver; its buffers go to the end of the records.
-fn add_tree(records: &mut Vec<Record>, source: &[Record], driver: usize, s: usize) {
+fn add_tree(records: &mut Vec<Record>, source: &[Record], driver: usize, capacities: Capacities) {
     let sinks = sinks(source, driver);
     let net = distances(source, driver);
-    let buffers = buffers_by_distance(&net, s).expect("check 8 has passed");
+    let (s, most) = (capacities.s(), capacities.of(source[driver].kind));
+    let buffers = buffers_by_distance(&net, s, most).expect("check 8 has passed");
     let mut nearer = driver;
     for (d, &here) in buffers.iter().enumerate().skip(1) {
         let first = records.len();
@@ -62,15 +63,15 @@ fn add_tree(records: &mut Vec<Record>, source: &[Record], driver: usize, s: usiz
     }
 }
 
-/// Checks 1 to 9, then the mapped netlist.
-pub fn mapping(bytes: &[u8], capacity: u32) -> Result<Mapping, Refusal> {
-    let s = check_capacity(capacity)?;
+/// Checks 1, 26, 2 to 9, then the mapped netlist.
+pub fn mapping(bytes: &[u8], capacities: Capacities) -> Result<Mapping, Refusal> {
+    capacities.check()?;
     let source = check_source(bytes)?;
-    let starts = block_starts(&source, s)?;
+    let starts = block_starts(&source, capacities)?;
     let mut records = source.clone();
     for driver in (0..source.len()).filter(|&k| source[k].is_driver()) {
         assert_eq!(records.len(), starts[driver]);
-        add_tree(&mut records, &source, driver, s);
+        add_tree(&mut records, &source, driver, capacities);
     }
     Ok(Mapping { records, starts })
 }
@@ -87,8 +88,8 @@ fn share(part: usize, whole: usize) -> usize {
 }
 
 /// The mapper: the seven numbers after number and place, with the area written.
-pub fn map(source: &[u8], capacity: u32, area: &mut [u8]) -> Result<[u32; 5], Refusal> {
-    let records = mapping(source, capacity)?.records;
+pub fn map(source: &[u8], capacities: Capacities, area: &mut [u8]) -> Result<[u32; 5], Refusal> {
+    let records = mapping(source, capacities)?.records;
     let bytes = encode(&records);
     if area.len() < bytes.len() {
         return refuse(10, 0);

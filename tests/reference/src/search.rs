@@ -1,8 +1,6 @@
 //! A search over all legal trees of one net, straight from the paragraph "Legal": actual buffers,
-//! each hanging on a node one level below, a driver feeding at most one slot and a buffer at most
-//! s. For nets of few sinks.
-
-use crate::net::DRIVER_FEEDS;
+//! each hanging on a node one level below, driver and buffers feeding at most as many slots as their
+//! capacities. For nets of few sinks.
 
 /// A node that may feed others: the driver, at distance 0, or a buffer.
 struct Node {
@@ -62,14 +60,14 @@ impl Search<'_> {
     }
 }
 
-/// The fewest buffers of any legal tree, or nothing if there is none. A tree in which every
-/// buffer leads to a sink has at most one buffer for each level that each sink stands above 1,
-/// and leaving out the other buffers of a legal tree leaves it legal; so no tree of that size or
-/// below is none at all.
-pub fn fewest_of_all_trees(sinks: &[usize], s: usize) -> Option<usize> {
+/// The fewest buffers of any legal tree on a driver of that capacity, or nothing if there is none.
+/// A tree in which every buffer leads to a sink has at most one buffer for each level that each
+/// sink stands above 1, and leaving out the other buffers of a legal tree leaves it legal; so no
+/// tree of that size or below is none at all.
+pub fn fewest_of_all_trees(sinks: &[usize], s: usize, driver: usize) -> Option<usize> {
     let most: usize = sinks.iter().map(|distance| distance - 1).sum();
     (0..=most).find(|&buffers| {
-        let driver = Node { distance: 0, feeds: 0, may_feed: DRIVER_FEEDS };
+        let driver = Node { distance: 0, feeds: 0, may_feed: driver };
         Search { sinks, s, nodes: vec![driver] }.place_buffers(buffers)
     })
 }

@@ -2,8 +2,9 @@
 
 use std::collections::BTreeSet;
 
-use crate::generator::{fanouts, height, reorder, set_levels};
-use crate::net::{distances, fewest};
+use crate::capacities::Capacities;
+use crate::generator::{fanouts, gaps, height, reorder, set_levels};
+use crate::net::fewest_of;
 use crate::random::Random;
 use crate::record::*;
 use crate::source::depth;
@@ -35,6 +36,38 @@ pub fn net(distances: &[usize]) -> Vec<Record> {
     for &distance in distances {
         records.push(Record::new(AND, 0, distance as u16, &[0, 1]));
     }
+    records
+}
+
+/// An input with a sink at each distance given, then a gate with the same, if it is asked for. Each
+/// sink is a gate with another input of its own, so that no other net lacks a tree.
+pub fn twins(distances: &[usize], gate: bool) -> Vec<Record> {
+    let drivers = 1 + usize::from(gate);
+    let mut free = drivers..;
+    let mut others = inputs(drivers + drivers * distances.len() + usize::from(gate));
+    let mut records = Vec::new();
+    let at = others.len() as u16;
+    let mut next = || free.next().unwrap_or(0) as u16;
+    if gate {
+        records.push(Record::new(OR, 1, 1, &[1, next()]));
+    }
+    for (driver, level) in [(0, 0), (at, 1)].into_iter().take(drivers) {
+        for &distance in distances {
+            records.push(Record::new(AND, 0, level + distance as u16, &[driver, next()]));
+        }
+    }
+    others.extend(records);
+    others
+}
+
+/// Two inputs that two gates name each, one level above them: with inputs that feed two slots it has
+/// no buffers.
+pub fn unbuffered() -> Vec<Record> {
+    let mut records = inputs(2);
+    records.push(Record::new(AND, 0, 1, &[0, 1]));
+    records.push(Record::new(OR, 2, 1, &[0, 1]));
+    records.push(Record::new(OUTPUT, 0, 2, &[3]));
+    records.push(Record::new(OUTPUT, 0, 2, &[2]));
     records
 }
 
@@ -81,6 +114,13 @@ pub fn wide(size: usize, s: usize) -> Vec<Record> {
     records
 }
 
+/// One input that every other record, an output one level above it, names.
+pub fn near(size: usize) -> Vec<Record> {
+    let mut records = inputs(1);
+    records.resize(size, Record::new(OUTPUT, 0, 1, &[0]));
+    records
+}
+
 /// One input that all three slots of every other record name.
 pub fn wide_majorities(size: usize, s: usize) -> Vec<Record> {
     let level = 1 + height(3 * (size - 1), s) as u16;
@@ -101,6 +141,28 @@ pub fn sinks(number: usize) -> Vec<Record> {
 pub fn sinks_at(number: usize, level: u16) -> Vec<Record> {
     let mut records = sinks(number);
     records[1..].iter_mut().for_each(|record| record.level = level);
+    records
+}
+
+/// A gate, on an input of its own, with so many sinks at one distance: gates that name it once and
+/// another input once.
+pub fn on_a_gate(sinks: usize, distance: u16) -> Vec<Record> {
+    let mut records = inputs(2);
+    records.push(Record::new(AND, 0, 2, &[0, 0]));
+    records.resize(3 + sinks, Record::new(OR, 0, 2 + distance, &[2, 1]));
+    records
+}
+
+/// Inputs with about `branches` sinks each: majorities at levels 1 to 3 in turns, which name each
+/// input so many times one after the other.
+pub fn fans(size: usize, branches: usize) -> Vec<Record> {
+    let majorities = size * branches / (branches + SLOTS);
+    let mut records = inputs(size - majorities);
+    let last = records.len() - 1;
+    for k in 0..majorities {
+        let fanins = [0, 1, 2].map(|j| ((SLOTS * k + j) / branches).min(last) as u16);
+        records.push(Record::new(MAJ, (k % 8) as u8, 1 + (k % 3) as u16, &fanins));
+    }
     records
 }
 
@@ -170,8 +232,8 @@ pub fn treeless_at_last(records: &[Record]) -> Vec<Record> {
 
 /// A layered random netlist: gates in layers of about a sixteenth of the records, fanins mostly
 /// from the layer before, a few drivers with many sinks, average fanout between 2 and 3. Every net
-/// has a tree for capacity s.
-pub fn layered(random: &mut Random, size: usize, s: usize) -> Vec<Record> {
+/// has a tree with these capacities.
+pub fn layered(random: &mut Random, size: usize, capacities: Capacities) -> Vec<Record> {
     let width = (size / 16).max(2);
     let outputs = width / 2;
     let mut records = inputs(width);
@@ -195,15 +257,15 @@ pub fn layered(random: &mut Random, size: usize, s: usize) -> Vec<Record> {
         let fanin = random.between(gates_end - width, gates_end - 1) as u16;
         records.push(Record::new(OUTPUT, 0, 0, &[fanin]));
     }
-    let fanouts = fanouts(&records);
-    set_levels(&mut records, |fanin| 1 + height(fanouts[fanin], s));
+    let gaps = gaps(&records, capacities);
+    set_levels(&mut records, |fanin| gaps[fanin]);
     records
 }
 
 /// The records that the mapper writes, or nothing if some net has no tree.
-pub fn mapped_size(records: &[Record], s: usize) -> Option<usize> {
+pub fn mapped_size(records: &[Record], capacities: Capacities) -> Option<usize> {
     let buffers: Option<usize> =
-        (0..records.len()).map(|k| fewest(&distances(records, k), s)).sum();
+        (0..records.len()).map(|k| fewest_of(records, k, capacities)).sum();
     buffers.map(|buffers| records.len() + buffers)
 }
 
@@ -218,14 +280,14 @@ pub fn raised(records: &[Record], by: usize) -> Vec<Record> {
 
 /// The records with the outputs raised until the mapped netlist has about, and at most, `most`
 /// records. The source has outputs and a tree on every net.
-pub fn raised_to(records: &[Record], s: usize, most: usize) -> Vec<Record> {
-    let old = mapped_size(records, s).expect("a tree on every net");
+pub fn raised_to(records: &[Record], capacities: Capacities, most: usize) -> Vec<Record> {
+    let old = mapped_size(records, capacities).expect("a tree on every net");
     let ends: BTreeSet<u16> = (records.iter().filter(|record| record.kind == OUTPUT))
         .map(|output| output.slots[0])
         .collect();
     let room = usize::from(MAX_LEVEL - depth(records));
     let mut by = (most.saturating_sub(old) / ends.len()).min(room);
-    while by > 0 && mapped_size(&raised(records, by), s).is_none_or(|size| size > most) {
+    while by > 0 && mapped_size(&raised(records, by), capacities).is_none_or(|size| size > most) {
         by -= 1;
     }
     raised(records, by)

@@ -3,9 +3,10 @@
 
 use std::fmt::Display;
 
+use crate::capacities::Capacities;
 use crate::record::*;
 use crate::refusal::{refuse, Refusal};
-use crate::source::{check_capacity, check_source, number_of};
+use crate::source::{check_source, number_of};
 use crate::verifier;
 
 /// The most bytes that are read of a source: one record more than it may have.
@@ -13,14 +14,14 @@ pub const SOURCE_BYTES: usize = WIDTH * (MAX_SOURCE + 1);
 /// A mapped netlist of more bytes is refused by 11.
 pub const MAPPED_BYTES: usize = 60_000;
 
-/// Checks 1 to 7 and 11 to 17, with this program's limit in 11: the mapped netlist's records.
-fn check(source: &[u8], capacity: u32, mapped: &[u8]) -> Result<Vec<Record>, Refusal> {
+/// Checks 1, 26, 2 to 7 and 11 to 17, with this program's limit in 11: the mapped netlist's records.
+fn check(source: &[u8], capacities: Capacities, mapped: &[u8]) -> Result<Vec<Record>, Refusal> {
     if mapped.len() > MAPPED_BYTES {
-        check_capacity(capacity)?;
+        capacities.check()?;
         check_source(source)?;
         return refuse(11, 0);
     }
-    let (_, records) = verifier::check(source, capacity, mapped)?;
+    let (_, records) = verifier::check(source, capacities, mapped)?;
     Ok(records)
 }
 
@@ -44,12 +45,19 @@ pub fn lines(records: &[Record]) -> String {
     text + &line("sum", records)
 }
 
+/// The capacities that the first bytes of a file hold: s, then b with its low byte first. A byte that
+/// is missing counts as 0.
+pub fn capacities_of(bytes: &[u8]) -> Capacities {
+    let byte = |at: usize| bytes.get(at).map_or(0, |&byte| u32::from(byte));
+    Capacities::new(byte(0), byte(1) + 256 * byte(2))
+}
+
 /// What is printed for the whole contents of `s`, `source` and `mapped`; a file that is missing or
 /// cannot be read has none.
 pub fn sheet(s: &[u8], source: &[u8], mapped: &[u8]) -> String {
-    let capacity = s.first().map_or(0, |&s| u32::from(s));
+    let capacities = capacities_of(s);
     let source = &source[..source.len().min(SOURCE_BYTES)];
-    match check(source, capacity, mapped) {
+    match check(source, capacities, mapped) {
         Ok(records) => lines(&records),
         Err(Refusal { number, place }) => format!("{number} {place}\n"),
     }

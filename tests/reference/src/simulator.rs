@@ -1,5 +1,6 @@
 //! Plain logic, one step and the phase run: checks 18 and 19.
 
+use crate::capacities::Capacities;
 use crate::record::*;
 use crate::refusal::{refuse, Refusal};
 use crate::source::{check_source, depth, indices_of, number_of};
@@ -65,12 +66,12 @@ fn next(mapped: &[Record], before: &[u8], row: &[u8]) -> Vec<u8> {
 /// One step: checks as a run of one row that has no output area.
 pub fn step(
     source: &[u8],
-    capacity: u32,
+    capacities: Capacities,
     mapped: &[u8],
     row: &[u8],
     state: &mut [u8],
 ) -> Result<(), Refusal> {
-    let (source, mapped) = verifier::check(source, capacity, mapped)?;
+    let (source, mapped) = verifier::check(source, capacities, mapped)?;
     let m = mapped.len();
     if row.len() != number_of(INPUT, &source) || state.len() != 2 * m {
         return refuse(18, 0);
@@ -91,8 +92,13 @@ pub struct Run<'a> {
 }
 
 /// The phase run: checks as the verifier, then 18, 19.
-pub fn run(source: &[u8], capacity: u32, mapped: &[u8], areas: Run) -> Result<(), Refusal> {
-    let (source, mapped) = verifier::check(source, capacity, mapped)?;
+pub fn run(
+    source: &[u8],
+    capacities: Capacities,
+    mapped: &[u8],
+    areas: Run,
+) -> Result<(), Refusal> {
+    let (source, mapped) = verifier::check(source, capacities, mapped)?;
     let r = areas.row_count as usize;
     let (m, inputs) = (mapped.len(), number_of(INPUT, &source));
     let outputs = indices_of(OUTPUT, &source);

@@ -1,15 +1,7 @@
-//! Checks 1 to 7, and what an accepted source says of itself.
+//! Checks 2 to 7, and what an accepted source says of itself.
 
 use crate::record::*;
 use crate::refusal::{refuse, Refusal};
-
-/// Check 1.
-pub fn check_capacity(capacity: u32) -> Result<usize, Refusal> {
-    match capacity {
-        2..=4 => Ok(capacity as usize),
-        _ => refuse(1, 0),
-    }
-}
 
 /// Check 5: a bit that the kind does not have.
 fn forbidden_inversion(record: &Record) -> bool {

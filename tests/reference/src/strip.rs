@@ -1,8 +1,9 @@
 //! Specification 4.11: the source of a mapped netlist.
 
+use crate::capacities::Capacities;
 use crate::record::*;
 use crate::refusal::{refuse, Refusal};
-use crate::source::{check_capacity, number_of};
+use crate::source::number_of;
 use crate::verifier::verify;
 
 /// The record at which a fanin, traced back through buffers, ends. Check 15 lets each step go one
@@ -37,19 +38,19 @@ fn only_source(mapped: &[Record]) -> Option<Vec<Record>> {
     mapped[..n].iter().map(|record| traced(mapped, record)).collect()
 }
 
-/// Checks 1 and 24: the source for which the verifier accepts the mapped netlist.
-pub fn source_of(capacity: u32, mapped: &[u8]) -> Result<Vec<u8>, Refusal> {
-    check_capacity(capacity)?;
+/// Checks 1, 26 and 24: the source for which the verifier accepts the mapped netlist.
+pub fn source_of(capacities: Capacities, mapped: &[u8]) -> Result<Vec<u8>, Refusal> {
+    capacities.check()?;
     let source = only_source(&decode(mapped)).map(|records| encode(&records));
     match source {
-        Some(source) if verify(&source, capacity, mapped).is_ok() => Ok(source),
+        Some(source) if verify(&source, capacities, mapped).is_ok() => Ok(source),
         _ => refuse(24, 0),
     }
 }
 
 /// Stripping: the number of records of the source, with the area written.
-pub fn strip(capacity: u32, mapped: &[u8], area: &mut [u8]) -> Result<u32, Refusal> {
-    let source = source_of(capacity, mapped)?;
+pub fn strip(capacities: Capacities, mapped: &[u8], area: &mut [u8]) -> Result<u32, Refusal> {
+    let source = source_of(capacities, mapped)?;
     if area.len() < source.len() {
         return refuse(25, 0);
     }

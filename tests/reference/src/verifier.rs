@@ -1,9 +1,9 @@
-//! The verifier (specification 4.3): checks 1 to 7, then 11 to 17.
+//! The verifier (specification 4.3): checks 1, 26, 2 to 7, then 11 to 17.
 
-use crate::net::DRIVER_FEEDS;
+use crate::capacities::Capacities;
 use crate::record::*;
 use crate::refusal::{refuse, Refusal};
-use crate::source::{check_capacity, check_source, number_of};
+use crate::source::{check_source, number_of};
 
 /// Check 11: the mapped netlist's records.
 fn check_length(n: usize, bytes: &[u8]) -> Result<Vec<Record>, Refusal> {
@@ -79,13 +79,13 @@ fn check_traces(source: &[Record], mapped: &[Record]) -> Result<(), Refusal> {
 }
 
 /// Check 17.
-fn check_feeding(mapped: &[Record], s: usize) -> Result<(), Refusal> {
+fn check_feeding(mapped: &[Record], capacities: Capacities) -> Result<(), Refusal> {
     let mut feeds = vec![0; mapped.len()];
     for fanin in mapped.iter().flat_map(|record| record.fanins()) {
         feeds[usize::from(*fanin)] += 1;
     }
     for (k, record) in mapped.iter().enumerate() {
-        if feeds[k] > if record.kind == BUFFER { s } else { DRIVER_FEEDS } {
+        if feeds[k] > capacities.of(record.kind) {
             return refuse(17, k);
         }
     }
@@ -95,22 +95,22 @@ fn check_feeding(mapped: &[Record], s: usize) -> Result<(), Refusal> {
 /// Both netlists' records, if the verifier accepts them.
 pub fn check(
     source: &[u8],
-    capacity: u32,
+    capacities: Capacities,
     mapped: &[u8],
 ) -> Result<(Vec<Record>, Vec<Record>), Refusal> {
-    let s = check_capacity(capacity)?;
+    capacities.check()?;
     let source = check_source(source)?;
     let mapped = check_length(source.len(), mapped)?;
     for k in 0..mapped.len() {
         check_record(&source, &mapped, k)?;
     }
     check_traces(&source, &mapped)?;
-    check_feeding(&mapped, s)?;
+    check_feeding(&mapped, capacities)?;
     Ok((source, mapped))
 }
 
 /// The number of buffers of an accepted mapped netlist.
-pub fn verify(source: &[u8], capacity: u32, mapped: &[u8]) -> Result<u32, Refusal> {
-    let (_, mapped) = check(source, capacity, mapped)?;
+pub fn verify(source: &[u8], capacities: Capacities, mapped: &[u8]) -> Result<u32, Refusal> {
+    let (_, mapped) = check(source, capacities, mapped)?;
     Ok(number_of(BUFFER, &mapped) as u32)
 }

@@ -1,5 +1,6 @@
 //! The record view and the block view. Lengths count their whole records only.
 
+use crate::capacities::Capacities;
 use crate::mapper::mapping;
 use crate::record::*;
 
@@ -14,9 +15,15 @@ pub fn record_view<'a>(source: &'a [u8], mapped: &'a [u8], k: usize) -> &'a [u8]
     &area[WIDTH * k..WIDTH * (k + 1)]
 }
 
-/// The block of one driver's buffers, by the mapper's order for that source and capacity.
-pub fn block_view<'a>(source: &[u8], capacity: u32, mapped: &'a [u8], driver: usize) -> &'a [u8] {
-    let Ok(mapping) = mapping(source, capacity) else {
+/// The block of one driver's buffers, by the mapper's order for that source and these
+/// capacities.
+pub fn block_view<'a>(
+    source: &[u8],
+    capacities: Capacities,
+    mapped: &'a [u8],
+    driver: usize,
+) -> &'a [u8] {
+    let Ok(mapping) = mapping(source, capacities) else {
         return &[];
     };
     if driver + 1 >= mapping.starts.len() || !mapping.records[driver].is_driver() {

@@ -1,6 +1,7 @@
 //! Least levels: the worked case, a search over all assignments, the limits and the refusals.
 
-use reference::cases::{any_call, damaged, limit, sound};
+use reference::capacities::Capacities;
+use reference::cases::{any_call, damaged, limit, sound, unbranched};
 use reference::engine::{perform, Name, Outcome, FAST, PLAIN};
 use reference::generator::{source, steep, Levels};
 use reference::levels::{least_levels, passes};
@@ -41,6 +42,10 @@ fn hold_levels(records: &[Record], s: u32, expected: &[u16]) {
         assert!(levelled(&source, s, source.len()) == ([0, 0], wanted.clone()), "s {s}");
     }
     assert!(passes(&wanted, s as usize), "2 to 8 of the copy, s {s}");
+    for b in [1, 2, 4095] {
+        let number = (FAST.map)(&wanted, Capacities::new(s, b), &mut [])[0];
+        assert!(matches!(number, 0 | 9 | 10), "{number}, 2 to 8 of the copy, s {s}, b {b}");
+    }
 }
 
 fn hold_refusal(source: &[u8], s: u32, len: usize, refusal: [u32; 2]) {
@@ -200,7 +205,7 @@ fn some_larger_sources() {
     for index in 0..1500 {
         let mut random = Random::of(12, index);
         let most = random.between(5, 6);
-        let records = sound(&mut random, most).records;
+        let records = unbranched(&mut random, most).records;
         if records.len() < 5 {
             continue;
         }
@@ -226,11 +231,11 @@ fn levels_by_seed() {
             refused += usize::from(answer[0] == 22);
             continue;
         }
-        let s = call.capacity as usize;
+        let s = call.capacities.s();
         let (old, new) = (decode(&call.source), decode(&areas[0]));
         assert_eq!(with_levels(&old, |_| 0), with_levels(&new, |_| 0), "seed 13, index {index}");
         assert!(passes(&areas[0], s), "seed 13, index {index}");
-        let raised = Rules::of(&old, call.capacity).raised();
+        let raised = Rules::of(&old, call.capacities.buffer).raised();
         assert!(new.iter().zip(raised).all(|(record, level)| u32::from(record.level) == level));
         kept += 1;
     }
@@ -405,7 +410,7 @@ fn levels_brought_are_ignored() {
     for index in 0..500 {
         let mut random = Random::of(15, index);
         let s = random.between(2, 4);
-        let records = source(&mut random, 40, s, Levels::Roomy);
+        let records = source(&mut random, 40, Capacities::unbranched(s as u32), Levels::Roomy);
         let levels = least_levels(&records, s);
         let least: Vec<u16> = levels.iter().map(|&level| level as u16).collect();
         hold_levels(&records, s as u32, &least);

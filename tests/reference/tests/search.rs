@@ -1,5 +1,7 @@
 //! The recursion and the formula against the search over all legal trees.
 
+use std::ops::RangeInclusive;
+
 use reference::net::{fewest, fewest_by_formula};
 use reference::search::fewest_of_all_trees;
 
@@ -19,13 +21,15 @@ fn nets(sinks: usize, most: usize) -> Vec<Vec<usize>> {
     all
 }
 
-fn agree(sinks: usize, most: usize) -> (usize, usize) {
+/// For each capacity of the driver given; answers how many nets have a tree and how many have none.
+fn agree(sinks: usize, most: usize, drivers: RangeInclusive<usize>) -> (usize, usize) {
     let (mut trees, mut none) = (0, 0);
     for net in nets(sinks, most) {
-        for s in 2..=4 {
-            let found = fewest_of_all_trees(&net, s);
-            assert_eq!(fewest(&net, s), found, "s {s}, distances {net:?}");
-            assert_eq!(fewest_by_formula(&net, s), found, "s {s}, distances {net:?}");
+        for (s, driver) in (2..=4).flat_map(|s| drivers.clone().map(move |driver| (s, driver))) {
+            let found = fewest_of_all_trees(&net, s, driver);
+            let words = format!("s {s}, driver {driver}, distances {net:?}");
+            assert_eq!(fewest(&net, s, driver), found, "{words}");
+            assert_eq!(fewest_by_formula(&net, s, driver), found, "{words}");
             *if found.is_some() { &mut trees } else { &mut none } += 1;
         }
     }
@@ -35,15 +39,20 @@ fn agree(sinks: usize, most: usize) -> (usize, usize) {
 #[test]
 fn few_sinks() {
     for sinks in 0..=4 {
-        let (trees, none) = agree(sinks, 4);
-        assert!(trees > 0 && (none > 0 || sinks < 2));
+        for driver in 1..=5 {
+            let (trees, none) = agree(sinks, 4, driver..=driver);
+            assert!(trees > 0 && (none > 0) == (sinks > driver), "{sinks} sinks, driver {driver}");
+        }
     }
 }
 
 #[test]
 fn more_sinks() {
-    assert!(agree(5, 4).0 > 0);
-    assert!(agree(6, 3).0 > 0);
+    for driver in 1..=5 {
+        let (trees, none) = agree(6, 3, driver..=driver);
+        assert!(trees > 0 && none > 0, "driver {driver}");
+    }
+    assert!(agree(5, 4, 1..=5).0 > 0);
 }
 
 #[test]
@@ -54,9 +63,12 @@ fn formula_on_longer_nets() {
         let sinks = random.below(40);
         let net: Vec<usize> = (0..sinks).map(|_| 1 + random.below(12)).collect();
         let far: Vec<usize> = net.iter().map(|distance| distance + random.below(14)).collect();
+        let driver = if random.one_in(2) { 1 } else { random.between(2, 40) };
         for s in 2..=4 {
-            assert_eq!(fewest(&far, s), fewest_by_formula(&far, s), "s {s}, distances {far:?}");
-            *if fewest(&far, s).is_some() { &mut trees } else { &mut none } += 1;
+            let found = fewest(&far, s, driver);
+            let words = format!("s {s}, driver {driver}, distances {far:?}");
+            assert_eq!(found, fewest_by_formula(&far, s, driver), "{words}");
+            *if found.is_some() { &mut trees } else { &mut none } += 1;
         }
     }
     assert!(trees > 100 && none > 100);

@@ -3,6 +3,7 @@
 
 use std::collections::{BTreeMap, BTreeSet};
 
+use reference::capacities::Capacities;
 use reference::files::{files_by_seed, File};
 use reference::mapper::mapping;
 use reference::record::*;
@@ -13,7 +14,7 @@ use reference::verifier::verify;
 const WORKED: &str = "0 2 0 0 0\n1 0 0 2 0\n2 0 1 1 0\n3 0 0 0 2\nsum 2 1 3 2\n";
 
 fn mapped(source: &[Record], s: u32) -> Vec<Record> {
-    mapping(&encode(source), s).expect("a tree on every net").records
+    mapping(&encode(source), Capacities::unbranched(s)).expect("a tree on every net").records
 }
 
 #[test]
@@ -21,21 +22,41 @@ fn worked_case() {
     let source = encode(&shapes::worked());
     for s in 2..=4 {
         let mapped = encode(&mapped(&shapes::worked(), s.into()));
-        assert_eq!(sheet(&[s], &source, &mapped), WORKED, "s {s}");
+        for b in [&[1, 0][..], &[2, 0], &[0, 1], &[255, 15]] {
+            assert_eq!(sheet(&[&[s], b].concat(), &source, &mapped), WORKED, "s {s}, b {b:?}");
+        }
     }
 }
 
-/// The first byte counts, and it is a number, not a digit.
+/// The first three bytes count, and they are numbers, not digits; one that is missing is 0.
 #[test]
 fn capacities() {
     let (source, mapped) = (encode(&shapes::worked()), encode(&shapes::worked_mapped()));
-    for s in [&[2][..], &[2, 5], &[4, 0, 0], &[3; 100]] {
+    for s in [&[2, 1][..], &[2, 5], &[4, 0, 1], &[3; 100], &[2, 255, 15], &[2, 1, 0, 255]] {
         assert_eq!(sheet(s, &source, &mapped), WORKED, "{s:?}");
     }
-    for s in [&[][..], &[0], &[1], &[5], &[50], &[255], &[5, 2], &[0, 2]] {
+    for s in [&[][..], &[0], &[1], &[5], &[50], &[255], &[5, 2], &[0, 2], &[5, 0, 0], &[1, 1, 0]] {
         assert_eq!(sheet(s, &source, &mapped), "1 0\n", "{s:?}");
         assert_eq!(sheet(s, &[], &[]), "1 0\n", "{s:?}");
     }
+    for s in [&[2][..], &[4, 0], &[3, 0, 0], &[2, 0, 0, 1], &[2, 0, 16], &[2, 1, 16]] {
+        assert_eq!(sheet(s, &source, &mapped), "26 0\n", "{s:?}");
+        assert_eq!(sheet(s, &source[1..], &mapped), "26 0\n", "{s:?}");
+    }
+}
+
+/// Inputs that branch: with the b that they need, and with one less.
+#[test]
+fn branching_inputs() {
+    let source = encode(&shapes::unbuffered());
+    let text = "0 2 0 0 0\n1 0 2 0 0\n2 0 0 0 2\nsum 2 2 0 2\n";
+    assert_eq!(sheet(&[2, 2, 0], &source, &source), text);
+    assert_eq!(sheet(&[2, 1, 0], &source, &source), "17 0\n");
+    let crowd = encode(&shapes::sinks_at(300, 1));
+    let text = "0 1 0 0 0\n1 0 100 0 0\nsum 1 100 0 0\n";
+    assert_eq!(sheet(&[2, 44, 1], &crowd, &crowd), text);
+    assert_eq!(sheet(&[2, 43, 1], &crowd, &crowd), "17 0\n");
+    assert_eq!(sheet(&[2, 44], &crowd, &crowd), "17 0\n");
 }
 
 #[test]
@@ -43,9 +64,10 @@ fn empty_files() {
     let (source, mapped) = (encode(&shapes::worked()), encode(&shapes::worked_mapped()));
     assert_eq!(sheet(&[], &[], &[]), "1 0\n");
     for s in 2..=4 {
-        assert_eq!(sheet(&[s], &[], &[]), "sum 0 0 0 0\n");
-        assert_eq!(sheet(&[s], &source, &[]), "11 0\n");
-        assert_eq!(sheet(&[s], &[], &mapped), "13 0\n");
+        assert_eq!(sheet(&[s], &[], &[]), "26 0\n");
+        assert_eq!(sheet(&[s, 1], &[], &[]), "sum 0 0 0 0\n");
+        assert_eq!(sheet(&[s, 1], &source, &[]), "11 0\n");
+        assert_eq!(sheet(&[s, 1], &[], &mapped), "13 0\n");
     }
 }
 
@@ -55,13 +77,14 @@ fn level_without_records() {
     let input = shapes::inputs(1);
     let records = [&input[..], &[Record::buffer(2, 0)]].concat();
     assert_eq!(lines(&records), "0 1 0 0 0\n1 0 0 0 0\n2 0 0 1 0\nsum 1 0 1 0\n");
-    assert_eq!(sheet(&[2], &encode(&input), &encode(&records)), "15 1\n");
+    assert_eq!(sheet(&[2, 1, 0], &encode(&input), &encode(&records)), "15 1\n");
 }
 
 /// The worked case changed for each number from 4 on, with its place.
 #[test]
 fn refusals() {
-    let on = |source: &[Record], mapped: &[Record]| sheet(&[2], &encode(source), &encode(mapped));
+    let on =
+        |source: &[Record], mapped: &[Record]| sheet(&[2, 1, 0], &encode(source), &encode(mapped));
     let changes: [(fn(&mut [Record]), &str); 4] = [
         (|records| records[1].kind = 5, "4 1\n"),
         (|records| records[2].inversion = 4, "5 2\n"),
@@ -107,7 +130,7 @@ fn long_sources() {
         (81_939, "3 0\n"),
     ];
     for (len, text) in texts {
-        assert_eq!(sheet(&[2], &inputs[..len], mapped), text, "{len} bytes");
+        assert_eq!(sheet(&[2, 1, 0], &inputs[..len], mapped), text, "{len} bytes");
     }
 }
 
@@ -127,19 +150,19 @@ fn mapped_of_60_000_bytes() {
         text += &format!("{level} 0 0 2 0\n");
     }
     text += "2999 0 0 0 2\nsum 2 0 5996 2\n";
-    assert_eq!(sheet(&[2], &source, &bytes), text);
-    assert_eq!(sheet(&[2], &source, &bytes[..59_999]), "11 0\n");
-    assert_eq!(sheet(&[2], &source, &[&bytes[..], &[5]].concat()), "11 0\n");
+    assert_eq!(sheet(&[2, 1, 0], &source, &bytes), text);
+    assert_eq!(sheet(&[2, 1, 0], &source, &bytes[..59_999]), "11 0\n");
+    assert_eq!(sheet(&[2, 1, 0], &source, &[&bytes[..], &[5]].concat()), "11 0\n");
     // One record more is legal, and too long for this program alone; so are many.
     for total in [6_001, 7_000, MAX_MAPPED] {
         let longer = encode(&shapes::padded(&shapes::worked_mapped(), 2, total));
         let worked = encode(&shapes::worked());
-        assert_eq!(verify(&worked, 2, &longer), Ok(total as u32 - 5));
-        assert_eq!(sheet(&[2], &worked, &longer), "11 0\n", "{total} records");
+        assert_eq!(verify(&worked, Capacities::unbranched(2), &longer), Ok(total as u32 - 5));
+        assert_eq!(sheet(&[2, 1, 0], &worked, &longer), "11 0\n", "{total} records");
     }
 }
 
-/// 11 comes after 1 to 7 and before 12, also where it is for the length alone.
+/// 11 comes after 1, 26 and 2 to 7 and before 12, also where it is for the length alone.
 #[test]
 fn order_of_11() {
     let chains = long_chains();
@@ -153,16 +176,18 @@ fn order_of_11() {
         encode(&source)
     };
     let source = encode(&chains);
-    assert_eq!(sheet(&[2], &source, &whole[..60_000]), "12 0\n");
+    assert_eq!(sheet(&[2, 1, 0], &source, &whole[..60_000]), "12 0\n");
     for mapped in [odd, &whole] {
-        assert_eq!(sheet(&[2], &source, mapped), "11 0\n");
-        assert_eq!(sheet(&[5], &source, mapped), "1 0\n");
-        assert_eq!(sheet(&[2], &source[1..], mapped), "2 0\n");
-        assert_eq!(sheet(&[2], &encode(&shapes::inputs(4097)), mapped), "3 0\n");
-        assert_eq!(sheet(&[2], &changed(|source| source[1].kind = 5), mapped), "4 1\n");
-        assert_eq!(sheet(&[2], &changed(|source| source[2].inversion = 1), mapped), "5 2\n");
-        assert_eq!(sheet(&[2], &changed(|source| source[3].slots[0] = 3), mapped), "6 3\n");
-        assert_eq!(sheet(&[2], &changed(|source| source[3].level = 2998), mapped), "7 3\n");
+        assert_eq!(sheet(&[2, 1, 0], &source, mapped), "11 0\n");
+        assert_eq!(sheet(&[5, 0, 0], &source, mapped), "1 0\n");
+        assert_eq!(sheet(&[2, 0, 0], &source, mapped), "26 0\n");
+        assert_eq!(sheet(&[2, 0, 16], &source[1..], mapped), "26 0\n");
+        assert_eq!(sheet(&[2, 1, 0], &source[1..], mapped), "2 0\n");
+        assert_eq!(sheet(&[2, 1, 0], &encode(&shapes::inputs(4097)), mapped), "3 0\n");
+        assert_eq!(sheet(&[2, 1, 0], &changed(|source| source[1].kind = 5), mapped), "4 1\n");
+        assert_eq!(sheet(&[2, 1, 0], &changed(|source| source[2].inversion = 1), mapped), "5 2\n");
+        assert_eq!(sheet(&[2, 1, 0], &changed(|source| source[3].slots[0] = 3), mapped), "6 3\n");
+        assert_eq!(sheet(&[2, 1, 0], &changed(|source| source[3].level = 2998), mapped), "7 3\n");
     }
 }
 
@@ -235,14 +260,14 @@ fn files_meet_every_number() {
                 File::Missing => "missing",
                 File::Folder => "folder",
                 File::Holding(bytes) if bytes.is_empty() => "empty",
-                File::Holding(bytes) if bytes.len() == [1, 40_960, 60_000][k] => "longest",
-                File::Holding(bytes) if bytes.len() > [1, 40_970, 60_000][k] => "too long",
+                File::Holding(bytes) if bytes.len() == [3, 40_960, 60_000][k] => "longest",
+                File::Holding(bytes) if bytes.len() > [3, 40_970, 60_000][k] => "too long",
                 File::Holding(_) => continue,
             };
             sorts.insert((sort, k));
         }
     }
-    let numbers = (0..=7).chain(11..=17).map(|number| number.to_string());
+    let numbers = (0..=7).chain(11..=17).chain([26]).map(|number| number.to_string());
     for first in numbers.chain(["sum".to_string()]) {
         assert!(met.get(&first).is_some_and(|&met| met > 4), "{first}: {met:?}");
     }

@@ -3,9 +3,12 @@
 
 use std::collections::BTreeMap;
 
-use reference::cases::{any_call, crowded_call, damaged, limit, sound};
+use reference::capacities::Capacities;
+use reference::cases::{
+    any_call, crowded_call, crowded_input_call, damaged, limit, other_input, sound,
+};
 use reference::engine::{perform, Name, Outcome, FAST, PLAIN};
-use reference::generator::{foreign, reverse_buffers, source, Levels, ALL_LEVELS};
+use reference::generator::{fanouts, foreign, reverse_buffers, source, Levels, ALL_LEVELS};
 use reference::mapper::mapping;
 use reference::random::Random;
 use reference::record::*;
@@ -15,29 +18,34 @@ use reference::verifier::{trace, verify};
 
 const FILL: u8 = 0xA5;
 
+/// Inputs that do not branch.
+fn one(s: u32) -> Capacities {
+    Capacities::unbranched(s)
+}
+
 /// Answer and area of both implementations, over an area that is filled before.
-fn stripped(s: u32, mapped: &[u8], len: usize) -> ([u32; 3], Vec<u8>) {
+fn stripped(s: Capacities, mapped: &[u8], len: usize) -> ([u32; 3], Vec<u8>) {
     let [plain, fast] = [PLAIN, FAST].map(|engine| {
         let mut area = vec![FILL; len];
         ((engine.strip)(s, mapped, &mut area), area)
     });
-    assert!(plain == fast, "plain {:?}, fast {:?}, s {s}, {mapped:?}", plain.0, fast.0);
+    assert!(plain == fast, "plain {:?}, fast {:?}, {s:?}, {mapped:?}", plain.0, fast.0);
     plain
 }
 
-fn hold_refusal(s: u32, mapped: &[u8], len: usize, number: u32) {
+fn hold_refusal(s: Capacities, mapped: &[u8], len: usize, number: u32) {
     let found = stripped(s, mapped, len);
-    assert_eq!(found, ([number, 0, 0], vec![FILL; len]), "s {s}, area of {len}");
+    assert_eq!(found, ([number, 0, 0], vec![FILL; len]), "{s:?}, area of {len}");
 }
 
 /// The mapped netlist has this source: in an area that fits, or in a longer one, whose other bytes
 /// stay. Shorter areas are refused.
-fn hold_source(s: u32, mapped: &[u8], source: &[u8]) {
+fn hold_source(s: Capacities, mapped: &[u8], source: &[u8]) {
     let right = source.len();
     for more in [0, 1, WIDTH, 25] {
         let area = [source, &vec![FILL; more]].concat();
         let answer = [0, 0, (right / WIDTH) as u32];
-        assert!(stripped(s, mapped, right + more) == (answer, area), "s {s}, {more} bytes more");
+        assert!(stripped(s, mapped, right + more) == (answer, area), "{s:?}, {more} bytes more");
     }
     for len in [0, right.saturating_sub(WIDTH), right.saturating_sub(1)] {
         if len < right {
@@ -46,7 +54,7 @@ fn hold_source(s: u32, mapped: &[u8], source: &[u8]) {
     }
 }
 
-fn hold_no_source(s: u32, mapped: &[u8]) {
+fn hold_no_source(s: Capacities, mapped: &[u8]) {
     for len in [0, mapped.len().saturating_sub(1), mapped.len(), 40_960] {
         hold_refusal(s, mapped, len, 24);
     }
@@ -55,15 +63,24 @@ fn hold_no_source(s: u32, mapped: &[u8]) {
 #[test]
 fn source_of_the_case() {
     let (source, mapped) = (encode(&shapes::worked()), encode(&shapes::worked_mapped()));
-    assert_eq!(stripped(2, &mapped, 50), ([0, 0, 5], source.clone()));
-    assert_eq!(stripped(2, &mapped, 49), ([25, 0, 0], vec![FILL; 49]));
+    assert_eq!(stripped(one(2), &mapped, 50), ([0, 0, 5], source.clone()));
+    assert_eq!(stripped(one(2), &mapped, 49), ([25, 0, 0], vec![FILL; 49]));
     for s in 2..=4 {
-        hold_source(s, &mapped, &source);
-        hold_source(s, &[], &[]);
+        for b in [1, 2, 3, 4095] {
+            hold_source(Capacities::new(s, b), &mapped, &source);
+            hold_source(Capacities::new(s, b), &[], &[]);
+        }
+        for b in [0, 4096, 65_536, 65_537, 4_294_967_295] {
+            hold_refusal(Capacities::new(s, b), &mapped, 50, 26);
+            hold_refusal(Capacities::new(s, b), &mapped[1..], 0, 26);
+            hold_refusal(Capacities::new(s, b), &[], 0, 26);
+        }
     }
     for s in [0, 1, 5, 258, 4_294_967_295] {
-        hold_refusal(s, &mapped, 50, 1);
-        hold_refusal(s, &mapped[1..], 0, 1);
+        for b in [0, 1, 4096] {
+            hold_refusal(Capacities::new(s, b), &mapped, 50, 1);
+            hold_refusal(Capacities::new(s, b), &mapped[1..], 0, 1);
+        }
     }
 }
 
@@ -99,30 +116,30 @@ fn every_source(mapped: &[Record], n: usize) -> Vec<Vec<Record>> {
 }
 
 /// All sources for which the plain verifier accepts the mapped netlist.
-fn sources(s: u32, mapped: &[u8]) -> Vec<Vec<u8>> {
+fn sources(s: Capacities, mapped: &[u8]) -> Vec<Vec<u8>> {
     let records = decode(mapped);
     let all = (0..=records.len()).flat_map(|n| every_source(&records, n));
     all.map(|source| encode(&source)).filter(|source| verify(source, s, mapped).is_ok()).collect()
 }
 
 /// The search and what is stripped. Answers whether there is a source.
-fn hold_search(s: u32, mapped: &[u8]) -> bool {
+fn hold_search(s: Capacities, mapped: &[u8]) -> bool {
     let found = sources(s, mapped);
     match &found[..] {
         [] => hold_no_source(s, mapped),
         [source] => hold_source(s, mapped, source),
-        several => panic!("{} sources, s {s}, {mapped:?}", several.len()),
+        several => panic!("{} sources, {s:?}, {mapped:?}", several.len()),
     }
     !found.is_empty()
 }
 
 /// No source that differs in one byte is accepted as well.
-fn hold_every_byte(s: u32, mapped: &[u8], source: &[u8]) {
+fn hold_every_byte(s: Capacities, mapped: &[u8], source: &[u8]) {
     for at in 0..source.len() {
         for change in 1..=255 {
             let mut other = source.to_vec();
             other[at] ^= change;
-            assert!(verify(&other, s, mapped).is_err(), "s {s}, byte {at}, {mapped:?}");
+            assert!(verify(&other, s, mapped).is_err(), "{s:?}, byte {at}, {mapped:?}");
         }
     }
 }
@@ -142,25 +159,31 @@ fn every_record(limit: usize) -> Vec<Record> {
 fn all_small_netlists() {
     for size in 0..=3 {
         let records = every_record(size);
-        let (mut with, mut without) = (0, 0);
+        let (mut with, mut without, mut only) = (0, 0, 0);
         for choice in choices(size, records.len()) {
             let mapped: Vec<Record> = choice.iter().map(|&k| records[usize::from(k)]).collect();
-            *if hold_search(2, &encode(&mapped)) { &mut with } else { &mut without } += 1;
+            let mapped = encode(&mapped);
+            let [narrow, wide] = [1, 2].map(|b| hold_search(Capacities::new(2, b), &mapped));
+            *if narrow { &mut with } else { &mut without } += 1;
+            assert!(wide || !narrow, "{mapped:?}");
+            only += usize::from(wide && !narrow);
         }
         assert!(with > 0 && (without > 0 || size == 0), "{size}: {with} with, {without} without");
+        assert!((only > 0) == (size > 1), "{size}: {only} with b = 2 alone");
     }
 }
 
 #[test]
 fn some_larger_netlists() {
-    let (mut plain, mut buffered, mut without, mut reordered) = (0, 0, 0, 0);
+    let (mut plain, mut buffered, mut without, mut reordered, mut branching) = (0, 0, 0, 0, 0);
     for index in 0..20_000 {
         let mut random = Random::of(16, index);
         let subject = sound(&mut random, 5);
+        let subject = other_input(&mut random, subject);
         let call = any_call(&mut random, &subject, Name::Strip);
-        let (s, mapped) = (call.capacity, &call.mapped[..]);
+        let (s, mapped) = (call.capacities, &call.mapped[..]);
         let slots: usize = decode(mapped).iter().map(|record| used_slots(record.kind)).sum();
-        if mapped.len() > 9 * WIDTH || slots > 10 {
+        if s.check().is_err() || mapped.len() > 9 * WIDTH || slots > 10 {
             continue;
         }
         if !hold_search(s, mapped) {
@@ -168,6 +191,7 @@ fn some_larger_netlists() {
             continue;
         }
         let source = sources(s, mapped).concat();
+        branching += usize::from(sources(one(s.buffer), mapped).is_empty());
         *if source.len() < mapped.len() { &mut buffered } else { &mut plain } += 1;
         reordered +=
             usize::from(mapping(&source, s).is_ok_and(|own| encode(&own.records) != mapped));
@@ -175,7 +199,7 @@ fn some_larger_netlists() {
             hold_every_byte(s, mapped, &source);
         }
     }
-    let met = [plain, buffered, without, reordered];
+    let met = [plain, buffered, without, reordered, branching];
     assert!(met.iter().all(|&met| met > 500), "{met:?}");
 }
 
@@ -183,44 +207,49 @@ fn some_larger_netlists() {
 #[test]
 fn causes_of_no_source() {
     for (cause, mapped) in shapes::without_source() {
-        assert!(sources(2, &mapped).is_empty(), "{cause}");
-        hold_no_source(2, &mapped);
+        assert!(sources(one(2), &mapped).is_empty(), "{cause}");
+        hold_no_source(one(2), &mapped);
     }
-    assert!(hold_search(2, &encode(&shapes::worked_mapped())));
-    assert!(hold_search(2, &encode(&shapes::two_gates(false))));
+    assert!(hold_search(one(2), &encode(&shapes::worked_mapped())));
+    assert!(hold_search(one(2), &encode(&shapes::two_gates(false))));
     let mut three = shapes::worked_mapped();
     three.push(Record::buffer(2, 5));
-    assert!(!hold_search(2, &encode(&three)));
-    assert!(hold_search(3, &encode(&three)));
+    assert!(!hold_search(one(2), &encode(&three)));
+    assert!(hold_search(one(3), &encode(&three)));
 }
 
 /// What the mapper writes has the source that was mapped.
 #[test]
 fn mapped_and_stripped() {
-    let mut mapped = 0;
+    let (mut mapped, mut branching) = (0, 0);
     for index in 0..3000 {
         let mut random = Random::of(17, index);
-        let s = random.between(2, 4);
+        let s = random.between(2, 4) as u32;
+        let s = Capacities::new(s, random.pick(&[1, 2, 3, 4, 4095]));
         let size = random.below(80);
         let levels = random.pick(&ALL_LEVELS);
         let bytes = encode(&source(&mut random, size, s, levels));
-        if let Ok(own) = mapping(&bytes, s as u32) {
-            hold_source(s as u32, &encode(&own.records), &bytes);
+        if let Ok(own) = mapping(&bytes, s) {
+            hold_source(s, &encode(&own.records), &bytes);
             mapped += 1;
+            let fanouts = fanouts(&own.records);
+            let wide = |k: usize| own.records[k].kind == INPUT && fanouts[k] > 1;
+            branching += usize::from((0..own.records.len()).any(wide));
         }
     }
-    assert!(mapped > 1500, "{mapped} mapped");
+    assert!(mapped > 1500 && branching > 500, "{mapped} mapped, {branching} branching");
     for s in 2..=4 {
+        let capacities = one(s as u32);
         let shapes = [
             shapes::chains(200),
             shapes::wide(300, s),
             shapes::wide_majorities(90, s),
             shapes::lines(14, MAX_LEVEL),
-            shapes::layered(&mut Random::new(18), 400, s),
+            shapes::layered(&mut Random::new(18), 400, capacities),
         ];
         for records in shapes {
-            let own = mapping(&encode(&records), s as u32).expect("a tree on every net");
-            hold_source(s as u32, &encode(&own.records), &encode(&records));
+            let own = mapping(&encode(&records), capacities).expect("a tree on every net");
+            hold_source(capacities, &encode(&own.records), &encode(&records));
         }
     }
 }
@@ -236,14 +265,14 @@ fn buffers(mapped: &[Record]) -> BTreeMap<(u16, u16), usize> {
 
 /// The source is mapped again, in an area as long as the mapped netlist, with no more buffers at any
 /// level of any net. Answers how many fewer there are.
-fn hold_no_more(s: u32, mapped: &[Record], source: &[u8]) -> usize {
+fn hold_no_more(s: Capacities, mapped: &[Record], source: &[u8]) -> usize {
     let mut area = vec![0; WIDTH * mapped.len()];
     let answer = (PLAIN.map)(source, s, &mut area);
-    assert_eq!(answer[0], 0, "s {s}, {mapped:?}");
+    assert_eq!(answer[0], 0, "{s:?}, {mapped:?}");
     let again = buffers(&decode(&area[..WIDTH * answer[2] as usize]));
     let theirs = buffers(mapped);
     for (place, ours) in &again {
-        assert!(theirs.get(place).is_some_and(|theirs| ours <= theirs), "s {s}, {mapped:?}");
+        assert!(theirs.get(place).is_some_and(|theirs| ours <= theirs), "{s:?}, {mapped:?}");
     }
     theirs.values().sum::<usize>() - again.values().sum::<usize>()
 }
@@ -254,14 +283,15 @@ fn foreign_netlists() {
     let (mut fewer, mut same, mut falling) = (0, 0, 0);
     for index in 0..2000 {
         let mut random = Random::of(19, index);
-        let s = random.between(2, 4);
+        let s = random.between(2, 4) as u32;
+        let s = Capacities::new(s, random.pick(&[1, 2, 3, 4, 300]));
         let size = random.below(60);
         let levels = random.pick(&[Levels::Roomy, Levels::Lowered]);
         let records = source(&mut random, size, s, levels);
         let other = foreign(&mut random, &records, s).expect("a tree on every net");
         let bytes = encode(&records);
-        hold_source(s as u32, &encode(&other), &bytes);
-        let saved = hold_no_more(s as u32, &other, &bytes);
+        hold_source(s, &encode(&other), &bytes);
+        let saved = hold_no_more(s, &other, &bytes);
         *if saved > 0 { &mut fewer } else { &mut same } += 1;
         let after = |(k, record): (usize, &Record)| usize::from(record.slots[0]) > k;
         falling += usize::from(other.iter().enumerate().skip(records.len()).any(after));
@@ -275,14 +305,14 @@ fn foreign_netlists() {
 fn falling_chains() {
     for pairs in [1, 14] {
         let source = encode(&shapes::lines(pairs, MAX_LEVEL));
-        let mut records = mapping(&source, 2).expect("chains").records;
+        let mut records = mapping(&source, one(2)).expect("chains").records;
         reverse_buffers(&mut records, 2 * pairs);
-        hold_source(2, &encode(&records), &source);
-        assert_eq!(hold_no_more(2, &records, &source), 0);
+        hold_source(one(2), &encode(&records), &source);
+        assert_eq!(hold_no_more(one(2), &records, &source), 0);
         // The chain's first buffer, now the last record, closes a cycle.
         let last = records.len() - 1;
         records[last].slots[0] = 2 * pairs as u16;
-        hold_no_source(2, &encode(&records));
+        hold_no_source(one(2), &encode(&records));
     }
 }
 
@@ -293,6 +323,7 @@ fn stripped_by_seed() {
     for index in 0..6000 {
         let mut random = Random::of(20, index);
         let subject = if index % 200 == 199 { limit(&mut random) } else { sound(&mut random, 60) };
+        let subject = other_input(&mut random, subject);
         let subject = damaged(&mut random, subject);
         let call = any_call(&mut random, &subject, Name::Strip);
         let Outcome { answer, areas } = perform(&PLAIN, &call);
@@ -307,11 +338,11 @@ fn stripped_by_seed() {
         }
         let len = WIDTH * answer[2] as usize;
         let source = &areas[0][..len];
-        assert!(verify(source, call.capacity, &call.mapped).is_ok(), "seed 20, index {index}");
+        assert!(verify(source, call.capacities, &call.mapped).is_ok(), "seed 20, index {index}");
         assert_eq!(areas[0][len..], call.areas[0][len..], "seed 20, index {index}");
-        hold_no_more(call.capacity, &decode(&call.mapped), source);
+        hold_no_more(call.capacities, &decode(&call.mapped), source);
     }
-    assert_eq!(met.keys().copied().collect::<Vec<_>>(), [0, 1, 24, 25]);
+    assert_eq!(met.keys().copied().collect::<Vec<_>>(), [0, 1, 24, 25, 26]);
     assert!(met.values().all(|&met| met > 100) && met[&0] > 2000, "{met:?}");
 }
 
@@ -320,34 +351,45 @@ fn stripped_by_seed() {
 fn largest_sizes() {
     let inputs = encode(&shapes::inputs(MAX_SOURCE + 1));
     let largest = WIDTH * MAX_SOURCE;
-    hold_source(2, &inputs[..largest], &inputs[..largest]);
-    hold_no_source(2, &inputs);
+    hold_source(one(2), &inputs[..largest], &inputs[..largest]);
+    hold_no_source(one(2), &inputs);
     let source = encode(&shapes::worked());
     let full = shapes::padded(&shapes::worked_mapped(), 2, MAX_MAPPED + 1);
-    hold_source(2, &encode(&full[..MAX_MAPPED]), &source);
-    hold_no_source(2, &encode(&full));
+    hold_source(one(2), &encode(&full[..MAX_MAPPED]), &source);
+    hold_no_source(one(2), &encode(&full));
     let mut both = shapes::inputs(MAX_SOURCE);
     both.push(Record::buffer(1, 4095));
     let both = shapes::padded(&both, 4, MAX_MAPPED);
-    hold_source(4, &encode(&both), &inputs[..largest]);
+    hold_source(one(4), &encode(&both), &inputs[..largest]);
     let mut chain = shapes::inputs(1);
     chain.extend((1..=MAX_LEVEL + 1).map(|level| Record::buffer(level, level - 1)));
-    hold_source(2, &encode(&chain[..usize::from(MAX_LEVEL) + 1]), &inputs[..WIDTH]);
-    hold_no_source(2, &encode(&chain));
+    hold_source(one(2), &encode(&chain[..usize::from(MAX_LEVEL) + 1]), &inputs[..WIDTH]);
+    hold_no_source(one(2), &encode(&chain));
 }
 
-/// One buffer feeds about 65,536 slots, or 256 and 257.
+/// One buffer or one input feeds about 65,536 slots, or 256 and 257.
 #[test]
 fn feeding_does_not_wrap() {
     for index in 0..10 {
-        hold_no_source(4, &crowded_call(&mut Random::of(21, index)).mapped);
+        let most = Capacities::new(4, 4095);
+        hold_no_source(most, &crowded_input_call(&mut Random::of(23, index)).mapped);
+        hold_no_source(one(4), &crowded_call(&mut Random::of(21, index)).mapped);
     }
     for fed in [4, 5, 255, 256, 257, 258, 260, 512] {
         let mut records = vec![Record::new(INPUT, 0, 0, &[]), Record::buffer(1, 0)];
         records.resize(2 + fed, Record::buffer(2, 1));
         match fed {
-            4 => hold_source(4, &encode(&records), &encode(&shapes::inputs(1))),
-            _ => hold_no_source(4, &encode(&records)),
+            4 => hold_source(one(4), &encode(&records), &encode(&shapes::inputs(1))),
+            _ => hold_no_source(one(4), &encode(&records)),
         }
     }
+    for fed in [2, 255, 256, 257, 300, 512, 4095] {
+        let mut records = shapes::inputs(1);
+        records.resize(1 + fed as usize, Record::buffer(1, 0));
+        let mapped = encode(&records);
+        hold_source(Capacities::new(2, fed), &mapped, &mapped[..WIDTH]);
+        hold_no_source(Capacities::new(4, fed - 1), &mapped);
+    }
+    let over = [&shapes::inputs(1)[..], &[Record::buffer(1, 0); 4096]].concat();
+    hold_no_source(Capacities::new(4, 4095), &encode(&over));
 }

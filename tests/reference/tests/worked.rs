@@ -1,15 +1,17 @@
 //! The worked cases (specification 8).
 
-use reference::calls::{answer_bytes, count, evaluate, map, run, step, verify, NO_TREE};
+use reference::calls::{answer_bytes, evaluate, map, run, step, verify, NO_TREE};
+use reference::capacities::Capacities;
 use reference::engine::{Engine, FAST, PLAIN};
+use reference::mapper::mapping;
 use reference::net::{fewest, fewest_by_formula};
-use reference::record::{encode, Record};
+use reference::record::*;
 use reference::search::fewest_of_all_trees;
 use reference::shapes;
 use reference::simulator::Run;
 use reference::views::{block_view, record_view};
 
-/// P1 to P12: capacity, distances, fewest buffers.
+/// P1 to P12, of a gate or of an input with b = 1: s, distances, fewest buffers.
 const NETS: [(usize, &[usize], Option<usize>); 12] = [
     (2, &[], Some(0)),
     (2, &[1], Some(0)),
@@ -23,6 +25,18 @@ const NETS: [(usize, &[usize], Option<usize>); 12] = [
     (2, &[2, 3, 3], Some(2)),
     (2, &[2, 3, 3, 3], None),
     (4, &[2, 2, 2, 2, 2], None),
+];
+
+/// Nets of an input with another b: b, s, distances, fewest buffers.
+const BRANCHING: [(usize, usize, &[usize], Option<usize>); 8] = [
+    (2, 2, &[1, 1], Some(0)),
+    (2, 2, &[1, 1, 1], None),
+    (2, 2, &[2, 2], Some(1)),
+    (2, 2, &[2, 2, 2], Some(2)),
+    (2, 2, &[1, 2], Some(1)),
+    (2, 2, &[2, 3, 3, 3], Some(4)),
+    (2, 4, &[2, 2, 2, 2, 2], Some(2)),
+    (3, 2, &[1, 1, 3], Some(2)),
 ];
 
 /// Shares (8.3): gates, buffers, JJs, share.
@@ -45,16 +59,177 @@ fn worked_mapped() -> Vec<u8> {
     encode(&shapes::worked_mapped())
 }
 
+/// Inputs that do not branch.
+fn one(s: u32) -> Capacities {
+    Capacities::unbranched(s)
+}
+
+/// The fewest buffers of a net by every way to count them.
+fn hold_net(b: usize, s: usize, distances: &[usize], expected: Option<usize>) {
+    let words = format!("b {b}, s {s}, {distances:?}");
+    assert_eq!(fewest(distances, s, b), expected, "{words}");
+    assert_eq!(fewest_by_formula(distances, s, b), expected, "{words}");
+    assert_eq!(fewest_of_all_trees(distances, s, b), expected, "{words}");
+    let source = encode(&shapes::net(distances));
+    let capacities = Capacities::new(s as u32, b as u32);
+    let number = expected.map_or(NO_TREE, |buffers| buffers as u32);
+    for engine in [PLAIN, FAST] {
+        assert_eq!((engine.count)(&source, capacities, 0), [0, 0, number], "{words}");
+    }
+    hold_counts(&source, capacities, &[0, 1, 0], &[number; 3]);
+}
+
 #[test]
 fn nets_by_every_way_to_count() {
     for (s, distances, expected) in NETS {
-        assert_eq!(fewest(distances, s), expected, "{s} {distances:?}");
-        assert_eq!(fewest_by_formula(distances, s), expected, "{s} {distances:?}");
-        assert_eq!(fewest_of_all_trees(distances, s), expected, "{s} {distances:?}");
-        let source = encode(&shapes::net(distances));
-        let number = expected.map_or(NO_TREE, |buffers| buffers as u32);
-        assert_eq!(count(&source, s as u32, 0), [0, 0, number], "{s} {distances:?}");
-        hold_counts(&source, s as u32, &[0, 1, 0], &[number; 3]);
+        hold_net(1, s, distances, expected);
+    }
+    for (b, s, distances, expected) in BRANCHING {
+        hold_net(b, s, distances, expected);
+    }
+}
+
+/// A gate has the nets of the first table whatever b is; the mapper writes as many buffers.
+#[test]
+fn gates_do_not_branch() {
+    for (b, s, distances, expected) in BRANCHING {
+        let at_gate = fewest(distances, s, 1);
+        let twins = shapes::twins(distances, true);
+        let gate = twins.iter().position(Record::is_gate).expect("a gate");
+        for b in [1, b as u32, 4095] {
+            let capacities = Capacities::new(s as u32, b);
+            let number = at_gate.map_or(NO_TREE, |buffers| buffers as u32);
+            for engine in [PLAIN, FAST] {
+                let counted = (engine.count)(&encode(&twins), capacities, gate as u32);
+                assert_eq!(counted, [0, 0, number], "b {b}, s {s}, {distances:?}");
+            }
+        }
+        let alone = shapes::twins(distances, false);
+        let capacities = Capacities::new(s as u32, b as u32);
+        match (mapping(&encode(&alone), capacities), expected) {
+            (Ok(own), Some(buffers)) => {
+                assert_eq!(own.starts[1] - own.starts[0], buffers, "{distances:?}");
+            }
+            (Err(refusal), None) => assert_eq!([refusal.number, refusal.place], [8, 0]),
+            _ => panic!("b {b}, s {s}, {distances:?}"),
+        }
+    }
+}
+
+/// The sinks at distances 1, 1 and 3 of an input with b = 3, mapped: three nodes on the input, the
+/// buffer first.
+#[test]
+fn nodes_of_distance_1_hang_on_the_driver() {
+    let source = shapes::twins(&[1, 3, 1], false);
+    let input = Record::new(INPUT, 0, 0, &[]);
+    let expected = [
+        input,
+        input,
+        input,
+        input,
+        Record::new(AND, 0, 1, &[0, 1]),
+        Record::new(AND, 0, 3, &[8, 10]),
+        Record::new(AND, 0, 1, &[0, 3]),
+        Record::buffer(1, 0),
+        Record::buffer(2, 7),
+        Record::buffer(1, 2),
+        Record::buffer(2, 9),
+    ];
+    for engine in [PLAIN, FAST] {
+        let mut area = vec![0; 110];
+        let answer = (engine.map)(&encode(&source), Capacities::new(2, 3), &mut area);
+        assert_eq!(answer, [0, 0, 11, 4, 0, 26, 31]);
+        assert_eq!(decode(&area), expected);
+        assert_eq!((engine.verify)(&encode(&source), Capacities::new(2, 3), &area), [0, 0, 4]);
+        assert_eq!((engine.verify)(&encode(&source), Capacities::new(2, 2), &area), [17, 0, 0]);
+        let treeless = (engine.map)(&encode(&source), Capacities::new(2, 2), &mut area);
+        assert_eq!(treeless, [8, 0, 0, 0, 0, 0, 0]);
+    }
+}
+
+/// 26 for b at and beyond its limits, as a number of 32 bits; after 1 and before all others.
+#[test]
+fn limits_of_b() {
+    let (source, mapped) = (worked(), worked_mapped());
+    for engine in [PLAIN, FAST] {
+        for b in [1, 2, 4094, 4095] {
+            let capacities = Capacities::new(2, b);
+            let mut area = [0; 80];
+            assert_eq!((engine.map)(&source, capacities, &mut area)[..3], [0, 0, 8], "b {b}");
+            assert_eq!(area[..], mapped, "b {b}");
+            assert_eq!((engine.verify)(&source, capacities, &mapped), [0, 0, 3], "b {b}");
+        }
+        for b in [0, 4096, 4097, 65_535, 65_536, 65_537, 69_631, u32::MAX] {
+            for (s, number) in [(2, 26), (4, 26), (5, 1), (0, 1)] {
+                let capacities = Capacities::new(s, b);
+                let refused = [number, 0, 0];
+                for source in [&source[..], &source[1..], &[]] {
+                    let mut area = [7; 80];
+                    assert_eq!((engine.map)(source, capacities, &mut area)[..3], refused);
+                    assert_eq!(area, [7; 80]);
+                    assert_eq!((engine.count)(source, capacities, 9), refused);
+                    hold_refusal(source, capacities, &[9], 3, [number, 0]);
+                    for mapped in [&mapped[..], &mapped[1..], &[]] {
+                        assert_eq!((engine.verify)(source, capacities, mapped), refused);
+                        assert_eq!((engine.strip)(capacities, mapped, &mut area), refused);
+                        let step = (engine.step)(source, capacities, mapped, &[2], &mut area);
+                        assert_eq!(step, [number, 0]);
+                        let (state, outputs) = (&mut area[..], &mut [][..]);
+                        let areas = Run { row_count: 10_001, rows: &[], state, outputs };
+                        assert_eq!((engine.run)(source, capacities, mapped, areas), [number, 0]);
+                        assert_eq!(area, [7; 80]);
+                    }
+                }
+            }
+        }
+    }
+}
+
+/// An input that feeds as many slots as it may, about one byte and at the limit, and one more; a gate
+/// with as many.
+#[test]
+fn crowds() {
+    for b in [2, 3, 255, 256, 257, 300, 4095] {
+        for (sinks, fits) in [(b, true), (b + 1, false)] {
+            let source = encode(&shapes::sinks_at(sinks, 1));
+            let capacities = Capacities::new(2, b as u32);
+            for engine in [PLAIN, FAST] {
+                let mut area = vec![0; source.len()];
+                let [number, _, m, buffers, ..] = (engine.map)(&source, capacities, &mut area);
+                let verified = (engine.verify)(&source, capacities, &source);
+                let stripped = (engine.strip)(capacities, &source, &mut vec![0; source.len()]);
+                if fits {
+                    let records = (source.len() / WIDTH) as u32;
+                    assert_eq!([number, m, buffers], [0, records, 0], "b {b}");
+                    assert!(area == source, "b {b}");
+                    assert_eq!((verified, stripped), ([0, 0, 0], [0, 0, records]), "b {b}");
+                } else {
+                    assert_eq!([number, m, buffers], [8, 0, 0], "b {b}");
+                    assert_eq!((verified, stripped), ([17, 0, 0], [24, 0, 0]), "b {b}");
+                }
+            }
+        }
+        let gate = encode(&shapes::on_a_gate(2, 1));
+        let capacities = Capacities::new(2, b as u32);
+        assert_eq!(map(&gate, capacities, &mut [0; 200]), [8, 2, 0, 0, 0, 0, 0], "b {b}");
+    }
+}
+
+/// Without buffers the waves need no more steps than there are levels of gates.
+#[test]
+fn waves_without_buffers() {
+    let source = encode(&shapes::unbuffered());
+    let rows = [0, 0, 0, 1, 1, 0, 1, 1];
+    for engine in [PLAIN, FAST] {
+        let (mut state, mut outputs) = ([9; 12], [9; 8]);
+        let areas = Run { row_count: 4, rows: &rows, state: &mut state, outputs: &mut outputs };
+        assert_eq!((engine.run)(&source, Capacities::new(2, 2), &source, areas), [0, 0]);
+        // Row by row: or with the second input inverted, then and.
+        assert_eq!(outputs, [1, 0, 0, 0, 1, 0, 1, 1]);
+        let (mut state, mut outputs) = ([9; 12], [9; 8]);
+        let areas = Run { row_count: 4, rows: &rows, state: &mut state, outputs: &mut outputs };
+        assert_eq!((engine.run)(&source, one(2), &source, areas), [17, 0]);
+        assert_eq!((state, outputs), ([9; 12], [9; 8]));
     }
 }
 
@@ -63,7 +238,7 @@ fn shares() {
     for (gates, buffers, jjs, share) in SHARES {
         let source = encode(&shapes::priced(gates, buffers));
         for engine in [PLAIN, FAST] {
-            let answer = (engine.map)(&source, 2, &mut vec![0; 10_000]);
+            let answer = (engine.map)(&source, one(2), &mut vec![0; 10_000]);
             assert_eq!(
                 [answer[0], answer[3], answer[5], answer[6]],
                 [0, buffers as u32, jjs, share]
@@ -77,94 +252,100 @@ fn indices(list: &[u16]) -> Vec<u8> {
 }
 
 /// Answer and counts of a list, over an area that is filled before.
-fn listed(engine: &Engine, source: &[u8], s: u32, list: &[u8], len: usize) -> ([u32; 2], Vec<u8>) {
+fn listed(
+    engine: &Engine,
+    source: &[u8],
+    capacities: Capacities,
+    list: &[u8],
+    len: usize,
+) -> ([u32; 2], Vec<u8>) {
     let mut counts = vec![0xA5; len];
-    ((engine.count_nets)(source, s, list, &mut counts), counts)
+    ((engine.count_nets)(source, capacities, list, &mut counts), counts)
 }
 
-fn hold_counts(source: &[u8], s: u32, list: &[u16], counts: &[u32]) {
+fn hold_counts(source: &[u8], capacities: Capacities, list: &[u16], counts: &[u32]) {
     for engine in [PLAIN, FAST] {
-        let found = listed(&engine, source, s, &indices(list), 4 * list.len());
-        assert_eq!(found, ([0, 0], answer_bytes(counts)), "{s} {list:?}");
+        let found = listed(&engine, source, capacities, &indices(list), 4 * list.len());
+        assert_eq!(found, ([0, 0], answer_bytes(counts)), "{capacities:?} {list:?}");
     }
 }
 
-fn hold_refusal(source: &[u8], s: u32, list: &[u8], len: usize, refusal: [u32; 2]) {
+fn hold_refusal(source: &[u8], capacities: Capacities, list: &[u8], len: usize, refusal: [u32; 2]) {
     for engine in [PLAIN, FAST] {
-        assert_eq!(listed(&engine, source, s, list, len), (refusal, vec![0xA5; len]));
+        assert_eq!(listed(&engine, source, capacities, list, len), (refusal, vec![0xA5; len]));
     }
 }
 
 #[test]
 fn listed_counts_of_the_case() {
-    hold_counts(&worked(), 2, &[0, 1, 2], &[2, 1, 0]);
-    hold_counts(&worked(), 2, &[2, 0, 0, 1, 0], &[0, 2, 2, 1, 2]);
-    hold_counts(&worked(), 2, &[], &[]);
-    hold_counts(&[], 2, &[], &[]);
-    hold_counts(&worked(), 3, &[1; 65_535], &[1; 65_535]);
+    hold_counts(&worked(), one(2), &[0, 1, 2], &[2, 1, 0]);
+    hold_counts(&worked(), one(2), &[2, 0, 0, 1, 0], &[0, 2, 2, 1, 2]);
+    hold_counts(&worked(), one(2), &[], &[]);
+    hold_counts(&[], one(2), &[], &[]);
+    hold_counts(&worked(), one(3), &[1; 65_535], &[1; 65_535]);
     let far = encode(&shapes::lines(300, 4095));
-    hold_counts(&far, 2, &[299, 0, 43], &[4094; 3]);
+    hold_counts(&far, one(2), &[299, 0, 43], &[4094; 3]);
 }
 
 #[test]
 fn listed_counts_refused() {
     let worked = worked();
-    hold_refusal(&worked, 5, &indices(&[9]), 3, [1, 0]);
-    hold_refusal(&worked[1..], 2, &indices(&[9]), 3, [2, 0]);
+    hold_refusal(&worked, one(5), &indices(&[9]), 3, [1, 0]);
+    hold_refusal(&worked[1..], one(2), &indices(&[9]), 3, [2, 0]);
     for (len, counts) in [(1, 2), (1, 0), (3, 6), (3, 4), (2, 3), (2, 5), (2, 8), (2, 0), (0, 4)] {
-        hold_refusal(&worked, 2, &indices(&[0, 9])[..len], counts, [21, 0]);
+        hold_refusal(&worked, one(2), &indices(&[0, 9])[..len], counts, [21, 0]);
     }
-    hold_refusal(&worked, 2, &[0; 131_072], 262_144, [21, 0]);
-    hold_refusal(&worked, 2, &[0; 131_071], 262_142, [21, 0]);
-    hold_refusal(&worked, 2, &indices(&[9, 0]), 7, [21, 0]);
+    hold_refusal(&worked, one(2), &[0; 131_072], 262_144, [21, 0]);
+    hold_refusal(&worked, one(2), &[0; 131_071], 262_142, [21, 0]);
+    hold_refusal(&worked, one(2), &indices(&[9, 0]), 7, [21, 0]);
     for absent in [3, 4, 5, 256, 4096, 65_535] {
-        hold_refusal(&worked, 2, &indices(&[2, 1, absent, 5]), 16, [20, 2]);
+        hold_refusal(&worked, one(2), &indices(&[2, 1, absent, 5]), 16, [20, 2]);
     }
     let mut longest = [0; 131_070];
     longest[131_068] = 3;
-    hold_refusal(&worked, 2, &longest, 262_140, [20, 65_534]);
-    hold_refusal(&[], 2, &indices(&[0]), 4, [20, 0]);
+    hold_refusal(&worked, one(2), &longest, 262_140, [20, 65_534]);
+    hold_refusal(&[], one(2), &indices(&[0]), 4, [20, 0]);
 }
 
 #[test]
 fn map_case() {
     let mut area = vec![0xA5; 90];
-    assert_eq!(map(&worked(), 2, &mut area), [0, 0, 8, 3, 3, 12, 50]);
+    assert_eq!(map(&worked(), one(2), &mut area), [0, 0, 8, 3, 3, 12, 50]);
     assert_eq!(area[..80], worked_mapped());
     assert_eq!(area[80..], [0xA5; 10]);
 }
 
 #[test]
 fn map_case_area_and_capacity() {
-    assert_eq!(map(&worked(), 2, &mut [0xA5; 80]), [0, 0, 8, 3, 3, 12, 50]);
+    assert_eq!(map(&worked(), one(2), &mut [0xA5; 80]), [0, 0, 8, 3, 3, 12, 50]);
     let mut short = [0xA5; 79];
-    assert_eq!(map(&worked(), 2, &mut short), [10, 0, 0, 0, 0, 0, 0]);
+    assert_eq!(map(&worked(), one(2), &mut short), [10, 0, 0, 0, 0, 0, 0]);
     assert_eq!(short, [0xA5; 79]);
-    assert_eq!(map(&worked(), 5, &mut [0xA5; 80]), [1, 0, 0, 0, 0, 0, 0]);
-    assert_eq!(map(&[], 2, &mut []), [0; 7]);
+    assert_eq!(map(&worked(), one(5), &mut [0xA5; 80]), [1, 0, 0, 0, 0, 0, 0]);
+    assert_eq!(map(&[], one(2), &mut []), [0; 7]);
 }
 
 #[test]
 fn too_many_records() {
     // 15 chains of 4,094 buffers and 30 records are over 60,000; 14 are not.
     let source = encode(&shapes::lines(15, 4095));
-    assert_eq!(map(&source, 2, &mut []), [9, 0, 0, 0, 0, 0, 0]);
+    assert_eq!(map(&source, one(2), &mut []), [9, 0, 0, 0, 0, 0, 0]);
     let source = encode(&shapes::lines(14, 4095));
     let mut area = vec![0; 600_000];
-    assert_eq!(map(&source, 2, &mut area)[..4], [0, 0, 28 + 14 * 4094, 14 * 4094]);
+    assert_eq!(map(&source, one(2), &mut area)[..4], [0, 0, 28 + 14 * 4094, 14 * 4094]);
 }
 
 #[test]
 fn verify_case() {
     let mapped = worked_mapped();
-    assert_eq!(verify(&worked(), 2, &mapped), [0, 0, 3]);
+    assert_eq!(verify(&worked(), one(2), &mapped), [0, 0, 3]);
     let mut wrong = mapped.clone();
     wrong[24] = 7;
     wrong[26] = 5;
-    assert_eq!(verify(&worked(), 2, &wrong), [16, 2, 0]);
+    assert_eq!(verify(&worked(), one(2), &wrong), [16, 2, 0]);
     let mut twice = mapped.clone();
     twice.extend(Record::buffer(1, 0).write());
-    assert_eq!(verify(&worked(), 2, &twice), [17, 0, 0]);
+    assert_eq!(verify(&worked(), one(2), &twice), [17, 0, 0]);
 }
 
 #[test]
@@ -172,12 +353,12 @@ fn waves_of_the_case() {
     let rows = [1, 1, 0, 1, 1, 0, 1, 1];
     let (mut state, mut outputs) = ([9; 16], [9; 8]);
     let areas = Run { row_count: 4, rows: &rows, state: &mut state, outputs: &mut outputs };
-    assert_eq!(run(&worked(), 2, &worked_mapped(), areas), [0, 0]);
+    assert_eq!(run(&worked(), one(2), &worked_mapped(), areas), [0, 0]);
     assert_eq!(outputs, [1, 1, 0, 0, 0, 1, 1, 1]);
     let mut stepped = [0; 16];
     for t in 0..7 {
         let row = if t < 4 { &rows[2 * t..2 * t + 2] } else { &[0, 0] };
-        assert_eq!(step(&worked(), 2, &worked_mapped(), row, &mut stepped), [0, 0]);
+        assert_eq!(step(&worked(), one(2), &worked_mapped(), row, &mut stepped), [0, 0]);
     }
     assert_eq!(stepped, state);
     for (t, row) in rows.chunks(2).enumerate() {
@@ -194,9 +375,13 @@ fn views_of_the_case() {
     assert_eq!(record_view(&source, &mapped, 5), &mapped[50..60]);
     assert_eq!(record_view(&source, &mapped, 8), &[] as &[u8]);
     assert_eq!(record_view(&source, &mapped[..39], 3), &[] as &[u8]);
-    assert_eq!(block_view(&source, 2, &mapped, 0), &mapped[50..70]);
-    assert_eq!(block_view(&source, 2, &mapped, 1), &mapped[70..80]);
-    assert_eq!(block_view(&source, 2, &mapped[..79], 1), &[] as &[u8]);
-    assert_eq!(block_view(&source, 2, &mapped, 3), &[] as &[u8]);
-    assert_eq!(block_view(&source, 5, &mapped, 0), &[] as &[u8]);
+    assert_eq!(block_view(&source, one(2), &mapped, 0), &mapped[50..70]);
+    assert_eq!(block_view(&source, one(2), &mapped, 1), &mapped[70..80]);
+    assert_eq!(block_view(&source, one(2), &mapped[..79], 1), &[] as &[u8]);
+    assert_eq!(block_view(&source, one(2), &mapped, 3), &[] as &[u8]);
+    assert_eq!(block_view(&source, one(5), &mapped, 0), &[] as &[u8]);
+    for b in [0, 4096, 65_537] {
+        assert_eq!(block_view(&source, Capacities::new(2, b), &mapped, 0), &[] as &[u8]);
+    }
+    assert_eq!(block_view(&source, Capacities::new(2, 4095), &mapped, 1), &mapped[70..80]);
 }

@@ -1,4 +1,4 @@
--- `count_net` meets its contract: checks 1 to 7, then 20, then the driver's count.
+-- `count_net` meets its contract: capacities and source, then 20, then the driver's count.
 use Rattle.fanout.proofs.Call.{call-input, call-present, call-refused, call-counted, call-no-driver}
 use borrow.Author.Needs.{needs}
 use Rattle.fanout.proofs.count_net.Statement.{statement}

@@ -1,26 +1,11 @@
--- `map_input` meets its contract: the capacity is the first byte, the source what follows it.
+-- `map_input` meets its contract: the capacities, then the source.
 use borrow.Author.Needs.{needs}
-use Rattle.map.proofs.Inputs.{input-empty, input-split}
+use Rattle.map.proofs.Inputs.{input-short, input-split}
 use Rattle.map.proofs.map_input.Statement.{statement}
 use Rattle.map.proofs.map_input.Tie as tie
 
-map-netlist-requires : tie.Need-map-netlist-requires
-map-netlist-requires c κs = search needs
-
-same-length : tie.Need-same-length
-same-length c = search needs
-
-returns : tie.Need-returns
-returns c = search input-empty
-
-shared-slice-read-wide : tie.Need-shared-slice-read-wide
-shared-slice-read-wide c = search needs
-
-wide-requires : tie.Need-wide-requires
-wide-requires c κs = search needs
-
-cast-capacity : tie.Need-cast-capacity
-cast-capacity c = search needs
+read-capacities-requires : tie.Need-read-capacities-requires
+read-capacities-requires c κs = search needs
 
 sub-map-netlist : tie.Need-sub-map-netlist
 sub-map-netlist c = search needs
@@ -30,6 +15,24 @@ part-map-netlist-start c = search needs
 
 part-map-netlist-end : tie.Need-part-map-netlist-end
 part-map-netlist-end c = search needs
+
+map-netlist-requires : tie.Need-map-netlist-requires
+map-netlist-requires c κs = search needs
+
+same-length : tie.Need-same-length
+same-length c = search needs
+
+returns : tie.Need-returns
+returns c = search input-short
+
+sub-map-netlist-2 : tie.Need-sub-map-netlist-2
+sub-map-netlist-2 c = search needs
+
+part-map-netlist-start-2 : tie.Need-part-map-netlist-start-2
+part-map-netlist-start-2 c = search needs
+
+part-map-netlist-end-2 : tie.Need-part-map-netlist-end-2
+part-map-netlist-end-2 c = search needs
 
 map-netlist-requires-2 : tie.Need-map-netlist-requires-2
 map-netlist-requires-2 c κs = search needs
@@ -44,15 +47,16 @@ pub map-input-spec : {M : Type 1} → statement M
 map-input-spec =
     tie.close
     (tie.spec
-    map-netlist-requires
-    same-length
-    returns
-    shared-slice-read-wide
-    wide-requires
-    cast-capacity
+    read-capacities-requires
     sub-map-netlist
     part-map-netlist-start
     part-map-netlist-end
+    map-netlist-requires
+    same-length
+    returns
+    sub-map-netlist-2
+    part-map-netlist-start-2
+    part-map-netlist-end-2
     map-netlist-requires-2
     same-length-2
     returns-2)

@@ -1,4 +1,4 @@
--- `map_netlist` meets its contract: 1 to 7 first.
+-- `map_netlist` meets its contract: capacities and source first.
 use Rattle.mapper.proofs.Answering.{refused-input, kept-input}
 use borrow.Author.Needs.{needs}
 use Rattle.mapper.proofs.map_netlist.Statement.{statement}

@@ -1,4 +1,4 @@
--- `capacity_of` meets its contract: each return follows from the test that led there.
+-- `capacity_of` meets its contract: each return follows from the tests that led there.
 use borrow.Author.Tests.{eq-eqb, ne-eqb}
 use Rattle.netlist.proofs.capacity_of.Statement.{statement}
 use Rattle.netlist.proofs.capacity_of.Tie as tie
@@ -7,7 +7,10 @@ returns : tie.Need-returns
 returns c = rw (eq-eqb _ _ (c .if1 .taken))
 
 returns-2 : tie.Need-returns-2
-returns-2 c = rw (ne-eqb _ _ (c .if1 .left))
+returns-2 c = rw (ne-eqb _ _ (c .before .if1 .left), eq-eqb _ _ (c .if2 .taken))
+
+returns-3 : tie.Need-returns-3
+returns-3 c = rw (ne-eqb _ _ (c .before .if1 .left), ne-eqb _ _ (c .if2 .left))
 
 pub capacity-of-spec : {M : Type 1} → statement M
-capacity-of-spec = tie.close (tie.spec returns returns-2)
+capacity-of-spec = tie.close (tie.spec returns returns-2 returns-3)

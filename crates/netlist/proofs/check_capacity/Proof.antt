@@ -4,8 +4,8 @@ use Rattle.facts.proofs.Reflect.{check-bad, check-good}
 use Rattle.netlist.proofs.check_capacity.Statement.{statement}
 use Rattle.netlist.proofs.check_capacity.Tie as tie
 
-bad-capacity-requires : tie.Need-bad-capacity-requires
-bad-capacity-requires c κs = search needs
+is-outside-requires : tie.Need-is-outside-requires
+is-outside-requires c κs = search needs
 
 returns : tie.Need-returns
 returns c = search check-bad
@@ -14,4 +14,4 @@ returns-2 : tie.Need-returns-2
 returns-2 c = search check-good
 
 pub check-capacity-spec : {M : Type 1} → statement M
-check-capacity-spec = tie.close (tie.spec bad-capacity-requires returns returns-2)
+check-capacity-spec = tie.close (tie.spec is-outside-requires returns returns-2)

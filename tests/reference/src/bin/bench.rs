@@ -8,11 +8,13 @@
 //! the verifier's on the same mapped netlists, where the bar is 2.5. Both answers are compared before
 //! a row is timed. Areas that a call writes are touched once before and not cleared between calls. A
 //! row of layered netlists goes round as many of them as have 65,536 records together, so that no size
-//! is timed on inputs that the processor has learnt by heart.
+//! is timed on inputs that the processor has learnt by heart. Inputs feed one slot (b = 1), but where
+//! the shape names another b.
 
 use std::hint::black_box;
 use std::time::{Duration, Instant};
 
+use reference::capacities::{Capacities, MAX_INPUT_CAPACITY};
 use reference::engine::{perform, Call, Engine, Name, FAST};
 use reference::fast;
 use reference::generator::{fanouts, reverse_buffers};
@@ -24,6 +26,8 @@ use reference::simulator::Run;
 use reference::source::{depth, number_of};
 
 const S: usize = 2;
+/// Inputs do not branch, but in the rows that say so.
+const NARROW: Capacities = Capacities::unbranched(S as u32);
 const SEED: u64 = 30_001;
 const SIZES: [usize; 4] = [512, 1024, 2048, 4096];
 const RUN_ROWS: usize = 16;
@@ -38,7 +42,7 @@ struct Subject {
     shape: &'static str,
     source: Vec<u8>,
     mapped: Vec<u8>,
-    capacity: u32,
+    capacities: Capacities,
     /// The record that is counted.
     driver: u32,
 }
@@ -50,15 +54,20 @@ fn indices(records: &[usize]) -> Vec<u8> {
 
 impl Subject {
     fn new(shape: &'static str, records: &[Record], driver: u32) -> Subject {
-        Subject::of_capacity(S, shape, records, driver)
+        Subject::with(NARROW, shape, records, driver)
     }
 
-    fn of_capacity(s: usize, shape: &'static str, records: &[Record], driver: u32) -> Subject {
-        let (source, capacity) = (encode(records), s as u32);
+    fn with(
+        capacities: Capacities,
+        shape: &'static str,
+        records: &[Record],
+        driver: u32,
+    ) -> Subject {
+        let source = encode(records);
         let mut mapped = vec![0; WIDTH * MAX_MAPPED];
-        let answer = fast::map(&source, capacity, &mut mapped);
+        let answer = fast::map(&source, capacities, &mut mapped);
         mapped.truncate(WIDTH * answer[2] as usize);
-        Subject { shape, source, mapped, capacity, driver }
+        Subject { shape, source, mapped, capacities, driver }
     }
 
     /// The same source with the mapped netlist changed.
@@ -101,7 +110,7 @@ impl Subject {
         Call {
             name,
             source: self.source.clone(),
-            capacity: self.capacity,
+            capacities: self.capacities,
             number: if name == Name::Count { self.driver } else { rows as u32 },
             records: indices(&drivers),
             mapped: self.mapped.clone(),
@@ -115,21 +124,21 @@ impl Subject {
 #[inline(always)]
 fn make(engine: &Engine, call: &mut Call) {
     let (source, mapped, rows) = (black_box(&call.source[..]), &call.mapped[..], &call.rows[..]);
-    let (capacity, number) = (call.capacity, call.number);
+    let (capacities, number) = (call.capacities, call.number);
     let areas = &mut call.areas;
     match call.name {
         Name::Map => {
-            black_box((engine.map)(source, capacity, &mut areas[0]));
+            black_box((engine.map)(source, capacities, &mut areas[0]));
         }
         Name::Count => {
-            black_box((engine.count)(source, capacity, number));
+            black_box((engine.count)(source, capacities, number));
         }
         Name::CountNets => {
             let records = black_box(&call.records[..]);
-            black_box((engine.count_nets)(source, capacity, records, &mut areas[0]));
+            black_box((engine.count_nets)(source, capacities, records, &mut areas[0]));
         }
         Name::Verify => {
-            black_box((engine.verify)(source, capacity, mapped));
+            black_box((engine.verify)(source, capacities, mapped));
         }
         Name::Evaluate => {
             black_box((engine.evaluate)(source, rows, &mut areas[0]));
@@ -138,16 +147,16 @@ fn make(engine: &Engine, call: &mut Call) {
             let (state, outputs) = areas.split_at_mut(1);
             let (state, outputs) = (&mut state[0][..], &mut outputs[0][..]);
             let run = Run { row_count: number, rows, state, outputs };
-            black_box((engine.run)(source, capacity, mapped, run));
+            black_box((engine.run)(source, capacities, mapped, run));
         }
         Name::Step => {
-            black_box((engine.step)(source, capacity, mapped, rows, &mut areas[0]));
+            black_box((engine.step)(source, capacities, mapped, rows, &mut areas[0]));
         }
         Name::Levels => {
-            black_box((engine.levels)(source, capacity, &mut areas[0]));
+            black_box((engine.levels)(source, capacities.buffer, &mut areas[0]));
         }
         Name::Strip => {
-            black_box((engine.strip)(capacity, black_box(mapped), &mut areas[0]));
+            black_box((engine.strip)(capacities, black_box(mapped), &mut areas[0]));
         }
     }
 }
@@ -369,7 +378,12 @@ fn refused_shapes() -> [Subject; 4] {
     let far = shapes::three_far(MAX_SOURCE / 2);
     [
         Subject::new("lines to the highest level", &shapes::lines(2048, MAX_LEVEL), 0),
-        Subject::of_capacity(3, "two near sinks, one far", &shapes::near_and_far(3072), 0),
+        Subject::with(
+            Capacities::unbranched(3),
+            "two near sinks, one far",
+            &shapes::near_and_far(3072),
+            0,
+        ),
         Subject::new("three far sinks", &far, 0),
         Subject::new("three far sinks, no tree at last", &shapes::treeless_at_last(&far), 0),
     ]
@@ -384,11 +398,11 @@ fn long_chains() -> [[Subject; 1]; 2] {
 }
 
 /// A layered netlist, whose widest net is counted.
-fn layered(seed: u64, size: usize) -> Subject {
-    let records = shapes::layered(&mut Random::of(SEED, seed), size, S);
+fn layered(capacities: Capacities, shape: &'static str, seed: u64, size: usize) -> Subject {
+    let records = shapes::layered(&mut Random::of(SEED, seed), size, capacities);
     let fanouts = fanouts(&records);
     let widest = (0..size).max_by_key(|&k| fanouts[k]).unwrap_or(0);
-    Subject::new("layered", &records, widest as u32)
+    Subject::with(capacities, shape, &records, widest as u32)
 }
 
 /// The rows of one size: chain, wide, layered.
@@ -397,15 +411,29 @@ fn shapes_of(size: usize) -> [Vec<Subject>; 3] {
     [
         vec![Subject::new("chain", &shapes::chains(size), 0)],
         vec![Subject::new("wide", &shapes::wide(size, S), 0)],
-        (0..round).map(|seed| layered(seed, size)).collect(),
+        (0..round).map(|seed| layered(NARROW, "layered", seed, size)).collect(),
+    ]
+}
+
+/// The rows of one size in which inputs branch: layered; one input that feeds all others, as many as
+/// an input may feed at the largest size; inputs with three sinks at each of the distances 1 to 3.
+fn branching_shapes_of(size: usize) -> [Vec<Subject>; 3] {
+    let round = (LAYERED / size) as u64;
+    let few = Capacities::new(S as u32, 4);
+    let many = Capacities::new(S as u32, MAX_INPUT_CAPACITY);
+    let one = shapes::near(size);
+    [
+        (0..round).map(|seed| layered(few, "layered, b = 4", seed, size)).collect(),
+        vec![Subject::with(many, "all on one input, b = 4,095", &one, 0)],
+        vec![Subject::with(many, "nine on each input, b = 4,095", &shapes::fans(size, 9), 0)],
     ]
 }
 
 /// Layered netlists with outputs raised until the mapped netlist has about this many records.
 fn sized(most: usize) -> Subject {
     let size = (most / 8).clamp(128, MAX_SOURCE);
-    let layered = shapes::layered(&mut Random::new(SEED), size, S);
-    Subject::new("layered, raised", &shapes::raised_to(&layered, S, most), 0)
+    let layered = shapes::layered(&mut Random::new(SEED), size, NARROW);
+    Subject::new("layered, raised", &shapes::raised_to(&layered, NARROW, most), 0)
 }
 
 fn main() {
@@ -464,6 +492,15 @@ fn main() {
     for chain in &long_chains {
         print_row(chain, Name::Levels);
     }
+    let branching: Vec<[Vec<Subject>; 3]> =
+        SIZES.iter().map(|&size| branching_shapes_of(size)).collect();
+    for name in [Name::Map, Name::Verify] {
+        for shape in 0..3 {
+            for shapes in &branching {
+                print_row(&shapes[shape], name);
+            }
+        }
+    }
 
     println!();
     println!("| call | shape | N = 512, us | N = 4096, us | growth |");
@@ -476,6 +513,11 @@ fn main() {
         }
     }
     print_growth(&small[2], &large[2], Name::Evaluate);
+    for name in [Name::Map, Name::Verify] {
+        for (small, large) in branching[0].iter().zip(&branching[SIZES.len() - 1]) {
+            print_growth(small, large, name);
+        }
+    }
 
     println!();
     println!("| call | refused | N | number | ours, us | slowest accepted, us | ratio |");

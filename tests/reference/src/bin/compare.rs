@@ -4,17 +4,19 @@
 //!
 //! Every answer and every byte of every area is held to the plain implementation's, every copy with
 //! least levels to checks 2 to 8, and every source stripped to what mapping it again gives. Prints one
-//! line; at the first difference prints the call, and exits with status 1.
+//! line, which says too how often inputs branched; at the first difference prints the call, and exits with status 1.
 
 use std::collections::BTreeMap;
 use std::env;
 use std::panic::catch_unwind;
 use std::process::ExitCode;
 
+use reference::capacities::Capacities;
 use reference::cases::calls_by_seed;
 use reference::engine::{perform, Call, Name, Outcome, NAMES, PLAIN};
 use reference::levels;
 use reference::linked::LINKED;
+use reference::reach::{reached, Reached, ALL_REACHED};
 use reference::record::WIDTH;
 
 /// Longer areas are shown by their first bytes.
@@ -27,7 +29,8 @@ fn hex(bytes: &[u8]) -> String {
 
 fn show_call(call: &Call) {
     eprintln!("  source {}", hex(&call.source));
-    eprintln!("  capacity {}, record or row count {}", call.capacity, call.number);
+    let Capacities { buffer, input } = call.capacities;
+    eprintln!("  capacities {buffer} and {input}, record or row count {}", call.number);
     eprintln!("  records {}", hex(&call.records));
     eprintln!("  mapped {}", hex(&call.mapped));
     eprintln!("  rows {}", hex(&call.rows));
@@ -50,14 +53,19 @@ struct Tally {
     calls: [usize; NAMES.len()],
     accepted: [usize; NAMES.len()],
     refused: BTreeMap<u32, usize>,
+    reached: BTreeMap<Reached, usize>,
 }
 
 impl Tally {
-    fn add(&mut self, name: Name, number: u32) {
-        self.calls[name as usize] += 1;
-        match number {
-            0 => self.accepted[name as usize] += 1,
-            _ => *self.refused.entry(number).or_default() += 1,
+    fn add(&mut self, call: &Call, outcome: &Outcome) {
+        let name = call.name as usize;
+        self.calls[name] += 1;
+        match outcome.answer[0] {
+            0 => self.accepted[name] += 1,
+            number => *self.refused.entry(number).or_default() += 1,
+        }
+        if let Some(reached) = reached(call, outcome) {
+            *self.reached.entry(reached).or_default() += 1;
         }
     }
 
@@ -71,11 +79,16 @@ impl Tally {
         };
         let refused: Vec<String> =
             self.refused.iter().map(|(number, met)| format!("{number}:{met}")).collect();
+        let reached = ALL_REACHED.map(|reached| {
+            let met = self.reached.get(&reached).copied().unwrap_or(0);
+            format!("{} {met}", reached.words())
+        });
         println!(
-            "{netlists} netlists of seed {seed}: {}; accepted {}; refused {}; no difference",
+            "{netlists} netlists of seed {seed}: {}; accepted {}; refused {}; {}; no difference",
             by_name(&self.calls),
             by_name(&self.accepted),
-            refused.join(" ")
+            refused.join(" "),
+            reached.join(", ")
         );
     }
 }
@@ -84,7 +97,7 @@ impl Tally {
 fn copy_passes(call: &Call, outcome: &Outcome) -> bool {
     call.name != Name::Levels
         || outcome.answer[0] != 0
-        || levels::passes(&outcome.areas[0], call.capacity as usize)
+        || levels::passes(&outcome.areas[0], call.capacities.s())
 }
 
 /// Whether the source of an accepted call for stripping is mapped again with no more buffers, in an
@@ -95,7 +108,7 @@ fn maps_again(call: &Call, outcome: &Outcome) -> bool {
     }
     let n = outcome.answer[2] as usize;
     let source = &outcome.areas[0][..WIDTH * n];
-    let again = (LINKED.map)(source, call.capacity, &mut vec![0; call.mapped.len()]);
+    let again = (LINKED.map)(source, call.capacities, &mut vec![0; call.mapped.len()]);
     again[0] == 0 && n + again[3] as usize <= call.mapped.len() / WIDTH
 }
 
@@ -108,7 +121,7 @@ fn same(seed: u64, index: u64, tally: &mut Tally) -> bool {
             *found == expected && copy_passes(&call, found) && maps_again(&call, found)
         };
         if found.as_ref().is_ok_and(same) {
-            tally.add(call.name, expected.answer[0]);
+            tally.add(&call, &expected);
             continue;
         }
         eprintln!("DIFFERENCE: seed {seed}, netlist {index}, {:?}", call.name);

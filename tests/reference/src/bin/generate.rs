@@ -8,7 +8,8 @@ use std::process::ExitCode;
 use std::{env, fs};
 
 use reference::calls::answer_bytes;
-use reference::cases::{any_call, damaged, sound, Subject, FILL};
+use reference::capacities::Capacities;
+use reference::cases::{any_call, damaged, other_input, sound_with, unbranched, Subject, FILL};
 use reference::engine::{perform, Call, Name, PLAIN};
 use reference::generator::reverse_buffers;
 use reference::mapper::mapping;
@@ -19,12 +20,12 @@ use reference::source::{check_source, number_of};
 use reference::views::{block_view, record_view};
 
 const SEED: u64 = 20_001;
-/// Accepted cases of a family found by chance.
+/// Accepted cases of a family found by chance, with inputs that do not branch.
 const ACCEPTED: usize = 150;
-/// A case found by chance is at most this long.
+/// A case found by chance is at most this long, but for the capacity of an input.
 const CASE_BYTES: usize = 700;
 const TRIES: u64 = 200_000;
-/// A family that has fewer cases of some number than this is not written.
+/// A family of which a part has fewer cases of some number than this is not written.
 const LEAST: usize = 3;
 
 type Fields = Vec<Vec<u8>>;
@@ -35,104 +36,214 @@ struct Case {
     fields: Fields,
 }
 
-struct Family {
-    name: &'static str,
-    /// The numbers that must be met, and how many cases of each refusal are found by chance.
+/// Cases worked out, then cases found by chance.
+#[derive(Clone, Copy)]
+struct Part {
+    /// The numbers that must be met.
     numbers: &'static [u32],
+    /// How many accepted cases, and how many of each refusal, are found by chance.
+    accepted: usize,
     refused: usize,
+    /// The most bytes of a case found by chance.
+    longest: usize,
     worked: fn() -> Vec<Case>,
     by_chance: fn(&mut Random) -> Case,
 }
 
+/// The first part has inputs that do not branch; a call that takes b has a second, in which they do.
+struct Family {
+    name: &'static str,
+    parts: &'static [Part],
+}
+
+/// What first parts have in common; those with b are four bytes longer.
+const FIRST: Part = Part {
+    numbers: &[0, 1],
+    accepted: ACCEPTED,
+    refused: 60,
+    longest: CASE_BYTES,
+    worked: Vec::new,
+    by_chance: record_view_case,
+};
+const FIRST_WITH_B: Part = Part { longest: CASE_BYTES + 4, ..FIRST };
+
+/// What second parts have in common.
+const SECOND: Part = Part { accepted: 25, refused: 10, longest: 500, ..FIRST };
+
 const FAMILIES: [Family; 12] = [
     Family {
         name: "reader",
-        numbers: &[0, 2, 4, 5, 6, 7],
-        refused: 60,
-        worked: worked_reader,
-        by_chance: |random| reader_case(&any_subject(random).source),
+        parts: &[Part {
+            numbers: &[0, 2, 4, 5, 6, 7],
+            worked: worked_reader,
+            by_chance: |random| reader_case(&any_subject(random).source),
+            ..FIRST
+        }],
     },
     Family {
         name: "count",
-        numbers: &[0, 1, 2, 4, 5, 6, 7, 20],
-        refused: 32,
-        worked: worked_count,
-        by_chance: |random| chance_case(random, Name::Count),
+        parts: &[
+            Part {
+                numbers: &[0, 1, 2, 4, 5, 6, 7, 20],
+                refused: 32,
+                worked: worked_count,
+                by_chance: |random| chance_case(random, Name::Count),
+                ..FIRST_WITH_B
+            },
+            Part {
+                numbers: &[0, 26],
+                worked: branching_count,
+                by_chance: |random| branching_case(random, Name::Count),
+                ..SECOND
+            },
+        ],
     },
     Family {
         name: "count_nets",
-        numbers: &[0, 1, 2, 4, 5, 6, 7, 20, 21],
-        refused: 32,
-        worked: worked_count_nets,
-        by_chance: |random| chance_case(random, Name::CountNets),
+        parts: &[
+            Part {
+                numbers: &[0, 1, 2, 4, 5, 6, 7, 20, 21],
+                refused: 32,
+                worked: worked_count_nets,
+                by_chance: |random| chance_case(random, Name::CountNets),
+                ..FIRST_WITH_B
+            },
+            Part {
+                numbers: &[0, 26],
+                worked: branching_count_nets,
+                by_chance: |random| branching_case(random, Name::CountNets),
+                ..SECOND
+            },
+        ],
     },
     Family {
         name: "mapper",
-        numbers: &[0, 1, 2, 4, 5, 6, 7, 8, 9, 10],
-        refused: 24,
-        worked: worked_mapper,
-        by_chance: |random| chance_case(random, Name::Map),
+        parts: &[
+            Part {
+                numbers: &[0, 1, 2, 4, 5, 6, 7, 8, 9, 10],
+                refused: 24,
+                worked: worked_mapper,
+                by_chance: |random| chance_case(random, Name::Map),
+                ..FIRST_WITH_B
+            },
+            Part {
+                numbers: &[0, 8, 26],
+                worked: branching_mapper,
+                by_chance: |random| branching_case(random, Name::Map),
+                ..SECOND
+            },
+        ],
     },
     Family {
         name: "verifier",
-        numbers: &[0, 1, 2, 4, 5, 6, 7, 11, 12, 13, 14, 15, 16, 17],
-        refused: 16,
-        worked: worked_verifier,
-        by_chance: |random| chance_case(random, Name::Verify),
+        parts: &[
+            Part {
+                numbers: &[0, 1, 2, 4, 5, 6, 7, 11, 12, 13, 14, 15, 16, 17],
+                refused: 16,
+                worked: worked_verifier,
+                by_chance: |random| chance_case(random, Name::Verify),
+                ..FIRST_WITH_B
+            },
+            Part {
+                numbers: &[0, 17, 26],
+                worked: branching_verifier,
+                by_chance: |random| branching_case(random, Name::Verify),
+                ..SECOND
+            },
+        ],
     },
     Family {
         name: "evaluate",
-        numbers: &[0, 2, 4, 5, 6, 7, 18, 19],
-        refused: 32,
-        worked: worked_evaluate,
-        by_chance: |random| chance_case(random, Name::Evaluate),
+        parts: &[Part {
+            numbers: &[0, 2, 4, 5, 6, 7, 18, 19],
+            refused: 32,
+            worked: worked_evaluate,
+            by_chance: |random| chance_case(random, Name::Evaluate),
+            ..FIRST
+        }],
     },
     Family {
         name: "run",
-        numbers: &[0, 1, 2, 4, 5, 6, 7, 11, 12, 13, 14, 15, 16, 17, 18, 19],
-        refused: 14,
-        worked: worked_run,
-        by_chance: |random| chance_case(random, Name::Run),
+        parts: &[
+            Part {
+                numbers: &[0, 1, 2, 4, 5, 6, 7, 11, 12, 13, 14, 15, 16, 17, 18, 19],
+                refused: 14,
+                worked: worked_run,
+                by_chance: |random| chance_case(random, Name::Run),
+                ..FIRST_WITH_B
+            },
+            Part {
+                numbers: &[0, 17, 26],
+                worked: branching_run,
+                by_chance: |random| branching_case(random, Name::Run),
+                ..SECOND
+            },
+        ],
     },
     Family {
         name: "step",
-        numbers: &[0, 1, 2, 4, 5, 6, 7, 11, 12, 13, 14, 15, 16, 17, 18, 19],
-        refused: 15,
-        worked: worked_step,
-        by_chance: |random| chance_case(random, Name::Step),
+        parts: &[
+            Part {
+                numbers: &[0, 1, 2, 4, 5, 6, 7, 11, 12, 13, 14, 15, 16, 17, 18, 19],
+                refused: 15,
+                worked: worked_step,
+                by_chance: |random| chance_case(random, Name::Step),
+                ..FIRST_WITH_B
+            },
+            Part {
+                numbers: &[0, 17, 26],
+                worked: branching_step,
+                by_chance: |random| branching_case(random, Name::Step),
+                ..SECOND
+            },
+        ],
     },
     Family {
         name: "levels",
-        numbers: &[0, 1, 2, 4, 5, 6, 22, 23],
-        refused: 10,
-        worked: worked_levels,
-        by_chance: |random| chance_case(random, Name::Levels),
+        parts: &[Part {
+            numbers: &[0, 1, 2, 4, 5, 6, 22, 23],
+            refused: 10,
+            worked: worked_levels,
+            by_chance: |random| chance_case(random, Name::Levels),
+            ..FIRST
+        }],
     },
     Family {
         name: "strip",
-        numbers: &[0, 1, 24, 25],
-        refused: 24,
-        worked: worked_strip,
-        by_chance: |random| chance_case(random, Name::Strip),
+        parts: &[
+            Part {
+                numbers: &[0, 1, 24, 25],
+                refused: 24,
+                worked: worked_strip,
+                by_chance: |random| chance_case(random, Name::Strip),
+                ..FIRST_WITH_B
+            },
+            Part {
+                numbers: &[0, 24, 26],
+                worked: branching_strip,
+                by_chance: |random| branching_case(random, Name::Strip),
+                ..SECOND
+            },
+        ],
     },
-    Family {
-        name: "record_view",
-        numbers: &[0, 1],
-        refused: 60,
-        worked: Vec::new,
-        by_chance: record_view_case,
-    },
+    Family { name: "record_view", parts: &[FIRST] },
     Family {
         name: "block_view",
-        numbers: &[0, 1],
-        refused: 60,
-        worked: Vec::new,
-        by_chance: block_view_case,
+        parts: &[
+            Part {
+                by_chance: |random| {
+                    let subject = any_subject(random);
+                    block_view_case(random, subject)
+                },
+                ..FIRST_WITH_B
+            },
+            Part { worked: branching_block_view, by_chance: branching_block_case, ..SECOND },
+        ],
     },
 ];
 
 fn any_subject(random: &mut Random) -> Subject {
-    let subject = sound(random, 14);
+    let subject = unbranched(random, 14);
     damaged(random, subject)
 }
 
@@ -147,8 +258,9 @@ fn reader_case(source: &[u8]) -> Case {
 /// The fields of a call: what goes in, the answer, and the areas after it.
 fn call_case(call: &Call) -> Case {
     let outcome = perform(&PLAIN, call);
-    let capacity = answer_bytes(&[call.capacity]);
-    let numbers = answer_bytes(&[call.capacity, call.number]);
+    let Capacities { buffer, input } = call.capacities;
+    let capacities = answer_bytes(&[buffer, input]);
+    let numbers = answer_bytes(&[buffer, input, call.number]);
     let mut fields = Vec::new();
     if call.name != Name::Strip {
         fields.push(call.source.clone());
@@ -156,16 +268,16 @@ fn call_case(call: &Call) -> Case {
     match call.name {
         Name::Map => {
             assert!(call.areas[0].iter().all(|&byte| byte == FILL));
-            fields.push(answer_bytes(&[call.capacity, call.areas[0].len() as u32]));
+            fields.push(answer_bytes(&[buffer, input, call.areas[0].len() as u32]));
         }
         Name::Count => fields.push(numbers),
-        Name::CountNets => fields.extend([capacity, call.records.clone()]),
-        Name::Verify => fields.extend([capacity, call.mapped.clone()]),
+        Name::CountNets => fields.extend([capacities, call.records.clone()]),
+        Name::Verify => fields.extend([capacities, call.mapped.clone()]),
         Name::Evaluate => fields.push(call.rows.clone()),
         Name::Run => fields.extend([numbers, call.mapped.clone(), call.rows.clone()]),
-        Name::Step => fields.extend([capacity, call.mapped.clone(), call.rows.clone()]),
-        Name::Levels => fields.push(capacity),
-        Name::Strip => fields.extend([capacity, call.mapped.clone()]),
+        Name::Step => fields.extend([capacities, call.mapped.clone(), call.rows.clone()]),
+        Name::Levels => fields.push(answer_bytes(&[buffer])),
+        Name::Strip => fields.extend([capacities, call.mapped.clone()]),
     }
     if call.name != Name::Map {
         fields.extend(call.areas.clone());
@@ -190,27 +302,32 @@ fn record_view_case(random: &mut Random) -> Case {
     Case { number, fields: vec![source, mapped, answer_bytes(&[k as u32]), part] }
 }
 
+/// The fields of a block view.
+fn view_case(source: Vec<u8>, capacities: Capacities, mapped: Vec<u8>, driver: usize) -> Case {
+    let part = block_view(&source, capacities, &mapped, driver).to_vec();
+    let numbers = answer_bytes(&[capacities.buffer, capacities.input, driver as u32]);
+    Case { number: u32::from(part.is_empty()), fields: vec![source, numbers, mapped, part] }
+}
+
 /// The block view looks at the mapped area's length only, so the area holds any bytes.
-fn block_view_case(random: &mut Random) -> Case {
-    let subject = any_subject(random);
-    let m = mapping(&subject.source, subject.capacity).map_or(5, |mapping| mapping.records.len());
+fn block_view_case(random: &mut Random, subject: Subject) -> Case {
+    let Subject { source, capacities, .. } = subject;
+    let m = mapping(&source, capacities).map_or(5, |mapping| mapping.records.len());
     let len = match random.below(3) {
         0 => random.below(WIDTH * m + 1),
         _ => WIDTH * m + random.below(12),
     };
     let mapped = random.bytes(len);
-    let driver = random.below(subject.source.len() / WIDTH + 2);
-    let part = block_view(&subject.source, subject.capacity, &mapped, driver).to_vec();
-    let numbers = answer_bytes(&[subject.capacity, driver as u32]);
-    Case { number: u32::from(part.is_empty()), fields: vec![subject.source, numbers, mapped, part] }
+    let driver = random.below(source.len() / WIDTH + 2);
+    view_case(source, capacities, mapped, driver)
 }
 
-/// A call with no areas and no rows.
-fn bare(name: Name, source: &[Record], capacity: u32) -> Call {
+/// A call with no areas and no rows, whose inputs do not branch.
+fn bare(name: Name, source: &[Record], s: u32) -> Call {
     Call {
         name,
         source: encode(source),
-        capacity,
+        capacities: Capacities::unbranched(s),
         number: 0,
         records: Vec::new(),
         mapped: Vec::new(),
@@ -382,7 +499,7 @@ fn worked_mapper() -> Vec<Case> {
 
 /// What the mapper writes for a source.
 fn mapped(source: &[Record], s: u32) -> Vec<Record> {
-    mapping(&encode(source), s).expect("a sound source").records
+    mapping(&encode(source), Capacities::unbranched(s)).expect("a sound source").records
 }
 
 /// The worked case (specification 8.2) changed in each of its bytes, and under every capacity.
@@ -610,38 +727,421 @@ fn worked_strip() -> Vec<Case> {
     calls.iter().map(call_case).collect()
 }
 
+/// The nets of specification 8.1 with another b: b, s, distances.
+const NETS: [(u32, u32, &[usize]); 8] = [
+    (2, 2, &[1, 1]),
+    (2, 2, &[1, 1, 1]),
+    (2, 2, &[2, 2]),
+    (2, 2, &[2, 2, 2]),
+    (2, 2, &[1, 2]),
+    (2, 2, &[2, 3, 3, 3]),
+    (2, 4, &[2, 2, 2, 2, 2]),
+    (3, 2, &[1, 1, 3]),
+];
+
+/// Capacities of an input at and beyond the limits.
+const LIMITS: [u32; 9] = [0, 1, 2, 4094, 4095, 4096, 65_536, 65_537, 4_294_967_295];
+
+/// Slots that one input is to feed at distance 1, with b: on both sides of a byte and of b.
+const CROWDS: [(usize, u32); 4] = [(256, 300), (257, 300), (300, 300), (301, 300)];
+
+/// The call with other capacities.
+fn with(call: Call, s: u32, b: u32) -> Call {
+    Call { capacities: Capacities::new(s, b), ..call }
+}
+
+/// The call as it is, then with both capacities wrong, with b wrong, and with b wrong and the source
+/// ragged: 1, then 26, comes first.
+fn in_order(call: &Call) -> Vec<Call> {
+    let mut calls = vec![call.clone()];
+    for (s, b) in [(5, 0), (5, 1), (0, 4096), (2, 0), (4, 4096)] {
+        calls.push(with(call.clone(), s, b));
+        let mut ragged = with(call.clone(), s, b);
+        ragged.source.push(0);
+        calls.push(ragged);
+    }
+    calls
+}
+
+/// A subject of at most 12 records whose inputs may feed several slots, with b as it is or another.
+fn branching_subject(random: &mut Random) -> Subject {
+    let input = random.pick(&[2, 2, 3, 3, 4, 5, 6, 4095]);
+    let subject = sound_with(random, 12, input);
+    other_input(random, subject)
+}
+
+/// A call that is answered otherwise with b = 1, or with b + 1, or by 26.
+fn branching_case(random: &mut Random, name: Name) -> Case {
+    loop {
+        let subject = branching_subject(random);
+        let call = any_call(random, &subject, name);
+        let outcome = perform(&PLAIN, &call);
+        let Capacities { buffer, input } = call.capacities;
+        let other = |b: u32| perform(&PLAIN, &with(call.clone(), buffer, b)) != outcome;
+        if outcome.answer[0] == 26 || other(1) || input < 4095 && other(input + 1) {
+            return call_case(&call);
+        }
+    }
+}
+
+/// A block view that is another with b = 1, or that 26 makes empty.
+fn branching_block_case(random: &mut Random) -> Case {
+    loop {
+        let subject = branching_subject(random);
+        let own = subject.capacities;
+        let case = block_view_case(random, subject);
+        let [source, numbers, mapped, part] = &case.fields[..] else {
+            continue;
+        };
+        let other = Capacities::unbranched(own.buffer);
+        let driver = usize::from(numbers[8]);
+        if block_view(source, other, mapped, driver) != &part[..] {
+            return case;
+        }
+    }
+}
+
+/// The nets of 8.1 with another b, at an input and at a gate; b at its limits; as many sinks as an
+/// input may feed, and one more.
+fn branching_count() -> Vec<Case> {
+    let on = |source: &[Record], s: u32, b: u32, record: usize| Call {
+        number: record as u32,
+        ..with(bare(Name::Count, source, s), s, b)
+    };
+    let mut calls = Vec::new();
+    for (b, s, net) in NETS {
+        calls.push(on(&shapes::net(net), s, b, 0));
+        let twins = shapes::twins(net, true);
+        let gate = twins.iter().position(Record::is_gate).unwrap_or(0);
+        calls.extend([on(&twins, s, b, 0), on(&twins, s, b, gate), on(&twins, s, 4095, gate)]);
+    }
+    for b in LIMITS {
+        calls.push(on(&shapes::net(&[1, 1]), 2, b, 0));
+        calls.push(on(&shapes::on_a_gate(2, 1), 2, b, 2));
+    }
+    for b in 1..=6 {
+        for sinks in [b, b + 1] {
+            calls.push(on(&shapes::sinks_at(sinks as usize, 1), 2, b, 0));
+            calls.push(on(&shapes::sinks_at(3 * sinks as usize - 2, 2), 3, b, 0));
+        }
+    }
+    let more = [(255, 255), (256, 255), (4095, 4095), (4096, 4095)];
+    for (sinks, b) in CROWDS.into_iter().chain(more) {
+        calls.push(on(&shapes::sinks_at(sinks, 1), 2, b, 0));
+    }
+    calls.extend(in_order(&on(&shapes::worked(), 2, 2, 9)));
+    calls.iter().map(call_case).collect()
+}
+
+/// Lists of the two drivers with the same sinks, an input and a gate; b at its limits.
+fn branching_count_nets() -> Vec<Case> {
+    let on = |source: &[Record], s: u32, b: u32, list: &[usize]| {
+        let records: Vec<u8> = list.iter().flat_map(|&k| (k as u16).to_le_bytes()).collect();
+        let areas = vec![vec![FILL; 2 * records.len()]];
+        Call { records, areas, ..with(bare(Name::CountNets, source, s), s, b) }
+    };
+    let mut calls = Vec::new();
+    for (b, s, net) in NETS {
+        let twins = shapes::twins(net, true);
+        let gate = twins.iter().position(Record::is_gate).unwrap_or(0);
+        for b in [1, b, 4095] {
+            calls.push(on(&twins, s, b, &[gate, 0, 1, gate, 0]));
+        }
+    }
+    for b in LIMITS {
+        calls.push(on(&shapes::twins(&[1, 1], true), 2, b, &[0, 6]));
+    }
+    for (sinks, b) in [(256, 300), (301, 300)] {
+        calls.push(on(&shapes::sinks_at(sinks, 1), 3, b, &[0, 1, 0]));
+    }
+    calls.extend(in_order(&on(&shapes::worked(), 2, 2, &[9])));
+    calls.iter().map(call_case).collect()
+}
+
+/// The nets of 8.1 with another b, alone and beside a gate with the same sinks; areas that fit and one
+/// byte short; b at its limits; as many nodes as an input may feed, and one more.
+fn branching_mapper() -> Vec<Case> {
+    let on = |source: &[Record], s: u32, b: u32, len: usize| with(map_on(source, s, len), s, b);
+    let fitting = |source: &[Record], s: u32, b: u32| {
+        let own = mapping(&encode(source), Capacities::new(s, b));
+        on(source, s, b, own.map_or(30, |own| WIDTH * own.records.len()))
+    };
+    let mut calls = Vec::new();
+    for (b, s, net) in NETS {
+        calls.push(fitting(&shapes::twins(net, false), s, b));
+        calls.push(fitting(&shapes::twins(net, false), s, 4095));
+        calls.push(on(&shapes::twins(net, true), s, 4095, 30));
+    }
+    let near = shapes::twins(&[1, 1], false);
+    for b in LIMITS {
+        calls.push(on(&near, 2, b, 50));
+        calls.push(on(&near, 2, b, 49));
+    }
+    for b in 2..=6 {
+        for sinks in [b, b + 1] {
+            calls.push(fitting(&shapes::sinks_at(sinks as usize, 1), 2, b));
+            calls.push(fitting(&shapes::sinks_at(3 * sinks as usize - 2, 2), 3, b));
+            calls.push(fitting(&shapes::sinks_at(2 * sinks as usize - 1, 2), 2, b));
+        }
+        calls.push(fitting(&shapes::fans(12, b as usize), 2, b));
+    }
+    for (sinks, b) in CROWDS {
+        calls.push(fitting(&shapes::sinks_at(sinks, 1), 2, b));
+    }
+    calls.push(fitting(&shapes::sinks_at(4 * 64, 2), 4, 64));
+    calls.push(fitting(&shapes::sinks_at(4 * 64 + 1, 2), 4, 64));
+    calls.push(fitting(&shapes::unbuffered(), 2, 2));
+    calls.push(fitting(&shapes::unbuffered(), 2, 1));
+    calls.extend(in_order(&on(&shapes::worked(), 2, 2, 0)));
+    calls.iter().map(call_case).collect()
+}
+
+/// What the mapper writes for a source with these capacities.
+fn branched(source: &[Record], s: u32, b: u32) -> Vec<Record> {
+    mapping(&encode(source), Capacities::new(s, b)).expect("a tree on every net").records
+}
+
+/// Sources with the b that they need, and a mapped netlist for it.
+fn branching_netlists() -> Vec<(Vec<Record>, u32, u32, Vec<Record>)> {
+    let mut all = Vec::new();
+    let sources = [
+        (2, shapes::unbuffered()),
+        (3, shapes::twins(&[1, 1, 1], false)),
+        (3, shapes::twins(&[1, 2, 3, 3, 3], false)),
+        (3, shapes::sinks_at(6, 2)),
+        (4, shapes::fans(11, 4)),
+        (5, shapes::sinks_at(5, 1)),
+    ];
+    for (b, source) in sources {
+        let mapped = branched(&source, 2, b);
+        all.push((source, 2, b, mapped));
+    }
+    // Another tree: two buffers on the input where one is enough.
+    let source = shapes::twins(&[2, 2], false);
+    let mut mapped = branched(&source, 2, 2);
+    let second = mapped.len() as u16;
+    mapped[4].slots[0] = second;
+    mapped.push(Record::buffer(1, 0));
+    all.push((source, 2, 2, mapped));
+    all
+}
+
+/// One input that feeds so many slots, its source and its mapped netlist being the same.
+fn crowd(sinks: usize) -> Vec<Record> {
+    shapes::sinks_at(sinks, 1)
+}
+
+/// Mapped netlists judged with less than their b, with it and with more; b at its limits; gates that
+/// feed two slots, and buffers that feed more than s; an input that feeds more than a byte counts.
+fn branching_verifier() -> Vec<Case> {
+    let on = |source: &[Record], s: u32, b: u32, mapped: &[Record]| Call {
+        mapped: encode(mapped),
+        ..with(bare(Name::Verify, source, s), s, b)
+    };
+    let mut calls = Vec::new();
+    for (source, s, b, mapped) in branching_netlists() {
+        for b in [1, b - 1, b, b + 1, 4095] {
+            calls.push(on(&source, s, b, &mapped));
+        }
+    }
+    let source = shapes::worked();
+    for b in LIMITS {
+        calls.push(on(&source, 2, b, &shapes::worked_mapped()));
+    }
+    // A second and a third slot on an input, on the gate and on a buffer.
+    let extras = [Record::buffer(1, 0), Record::buffer(3, 2), Record::buffer(2, 5)];
+    for extra in extras {
+        for number in 1..=2 {
+            let mut mapped = shapes::worked_mapped();
+            mapped.resize(mapped.len() + number, extra);
+            for b in [2, 3, 4] {
+                calls.push(on(&source, 2, b, &mapped));
+            }
+        }
+    }
+    // The first of several that feed too much, by index; 16 comes before.
+    let mut several = shapes::worked_mapped();
+    several.extend([extras[2], extras[1], extras[0], Record::buffer(1, 1)]);
+    for b in [1, 2] {
+        calls.push(on(&source, 2, b, &several));
+    }
+    several[2].slots.swap(0, 1);
+    calls.push(on(&source, 2, 1, &several));
+    for (sinks, b) in CROWDS {
+        calls.push(on(&crowd(sinks), 2, b, &crowd(sinks)));
+    }
+    let call = on(&source, 2, 2, &shapes::worked_mapped()[..4]);
+    calls.extend(in_order(&call));
+    calls.iter().map(call_case).collect()
+}
+
+/// A run of three rows, the mapped netlist as it is given.
+fn branching_run_on(source: &[Record], s: u32, b: u32, mapped: &[Record]) -> Call {
+    let mut random = Random::new(SEED);
+    Call {
+        number: 3,
+        rows: random.bits(3 * number_of(INPUT, source)),
+        areas: vec![vec![FILL; 2 * mapped.len()], vec![FILL; 3 * number_of(OUTPUT, source)]],
+        mapped: encode(mapped),
+        ..with(bare(Name::Run, source, s), s, b)
+    }
+}
+
+/// Runs over inputs that branch, with their b and with one less; b at its limits.
+fn branching_run() -> Vec<Case> {
+    let mut calls = Vec::new();
+    for (source, s, b, mapped) in branching_netlists() {
+        calls.push(branching_run_on(&source, s, b, &mapped));
+        calls.push(branching_run_on(&source, s, b - 1, &mapped));
+    }
+    let unbuffered = shapes::unbuffered();
+    for b in LIMITS {
+        calls.push(branching_run_on(&unbuffered, 2, b, &unbuffered));
+    }
+    for row in 0..4 {
+        let mut call = branching_run_on(&unbuffered, 2, 2, &unbuffered);
+        call.rows = [[row & 1, row >> 1]; 3].concat();
+        calls.push(call);
+    }
+    calls.push(branching_run_on(&crowd(257), 4, 257, &crowd(257)));
+    calls.push(branching_run_on(&crowd(257), 4, 256, &crowd(257)));
+    let mut call = branching_run_on(&unbuffered, 2, 2, &unbuffered);
+    call.areas[0].pop();
+    calls.extend(in_order(&call));
+    calls.iter().map(call_case).collect()
+}
+
+/// Single steps over the same netlists, from states of any bytes.
+fn branching_step() -> Vec<Case> {
+    let mut random = Random::new(SEED);
+    let mut on = |source: &[Record], s: u32, b: u32, mapped: &[Record]| Call {
+        mapped: encode(mapped),
+        rows: random.bits(number_of(INPUT, source)),
+        areas: vec![random.bytes(2 * mapped.len())],
+        ..with(bare(Name::Step, source, s), s, b)
+    };
+    let mut calls = Vec::new();
+    for (source, s, b, mapped) in branching_netlists() {
+        calls.push(on(&source, s, b, &mapped));
+        calls.push(on(&source, s, b, &mapped));
+        calls.push(on(&source, s, b - 1, &mapped));
+    }
+    let unbuffered = shapes::unbuffered();
+    for b in LIMITS {
+        calls.push(on(&unbuffered, 2, b, &unbuffered));
+    }
+    calls.push(on(&crowd(257), 4, 257, &crowd(257)));
+    calls.push(on(&crowd(257), 4, 256, &crowd(257)));
+    let mut call = on(&unbuffered, 2, 2, &unbuffered);
+    call.rows.pop();
+    calls.extend(in_order(&call));
+    calls.iter().map(call_case).collect()
+}
+
+/// Netlists whose inputs branch, with less than their b, with it and with more; b at its limits, also
+/// for netlists without a source, and with an area that is too short.
+fn branching_strip() -> Vec<Case> {
+    let on = |mapped: &[u8], s: u32, b: u32, len: usize| Call {
+        mapped: mapped.to_vec(),
+        areas: vec![vec![FILL; len]],
+        ..with(bare(Name::Strip, &[], s), s, b)
+    };
+    let mut calls = Vec::new();
+    for (source, s, b, mapped) in branching_netlists() {
+        let (mapped, len) = (encode(&mapped), WIDTH * source.len());
+        for b in [1, b - 1, b, b + 1, 4095] {
+            calls.push(on(&mapped, s, b, len));
+        }
+        calls.push(on(&mapped, s, b, len - 1));
+        calls.push(on(&mapped, s, b - 1, len - 1));
+    }
+    let worked = encode(&shapes::worked_mapped());
+    for b in LIMITS {
+        calls.push(on(&worked, 2, b, 50));
+        calls.push(on(&worked, 2, b, 49));
+        calls.push(on(&worked[1..], 2, b, 50));
+        calls.push(on(&[], 2, b, 0));
+    }
+    for (s, b) in [(5, 0), (5, 1), (0, 4096), (1, 65_537)] {
+        calls.push(on(&worked, s, b, 50));
+        calls.push(on(&worked[1..], s, b, 0));
+    }
+    let extras = [Record::buffer(1, 0), Record::buffer(3, 2), Record::buffer(2, 5)];
+    for extra in extras {
+        let mapped = [shapes::worked_mapped(), vec![extra]].concat();
+        for b in [1, 2, 3] {
+            calls.push(on(&encode(&mapped), 2, b, 50));
+        }
+    }
+    for (sinks, b) in CROWDS {
+        let records = crowd(sinks);
+        calls.push(on(&encode(&records), 2, b, WIDTH * records.len()));
+    }
+    calls.iter().map(call_case).collect()
+}
+
+/// Blocks of the drivers of netlists whose inputs branch, with their b and with others.
+fn branching_block_view() -> Vec<Case> {
+    let mut cases = Vec::new();
+    let mut random = Random::new(SEED);
+    for (source, s, b, mapped) in branching_netlists() {
+        let area = random.bytes(WIDTH * mapped.len());
+        let drivers = (0..source.len()).filter(|&k| source[k].is_driver()).take(3);
+        for driver in drivers {
+            for b in [b - 1, b, b + 1] {
+                let capacities = Capacities::new(s, b);
+                cases.push(view_case(encode(&source), capacities, area.clone(), driver));
+            }
+        }
+    }
+    let source = encode(&shapes::worked());
+    for b in LIMITS {
+        cases.push(view_case(source.clone(), Capacities::new(2, b), random.bytes(80), 0));
+    }
+    cases.push(view_case(source[1..].to_vec(), Capacities::new(2, 0), random.bytes(80), 0));
+    cases.push(view_case(source, Capacities::new(5, 0), random.bytes(80), 0));
+    cases
+}
+
 fn size(case: &Case) -> usize {
     case.fields.iter().map(|field| 4 + field.len()).sum()
 }
 
-/// The worked cases, then cases by chance until each number has its share.
-fn collect(family: &Family) -> (Vec<Case>, BTreeMap<u32, usize>) {
+/// The cases of a part that are not among those seen: worked ones, then others by chance until each
+/// number has its share. Answers how often each number was met.
+fn collect(
+    part: &Part,
+    seed: u64,
+    seen: &mut BTreeSet<Fields>,
+    cases: &mut Vec<Case>,
+) -> BTreeMap<u32, usize> {
     let mut met: BTreeMap<u32, usize> = BTreeMap::new();
-    let mut seen: BTreeSet<Fields> = BTreeSet::new();
-    let mut cases: Vec<Case> = Vec::new();
-    for case in (family.worked)() {
+    for case in (part.worked)() {
         if seen.insert(case.fields.clone()) {
             *met.entry(case.number).or_default() += 1;
             cases.push(case);
         }
     }
-    let share = |number: u32| if number == 0 { ACCEPTED } else { family.refused };
+    let share = |number: u32| match number {
+        _ if !part.numbers.contains(&number) => 0,
+        0 => part.accepted,
+        _ => part.refused,
+    };
     let mut found: BTreeMap<u32, usize> = BTreeMap::new();
-    let seed = family.name.bytes().fold(SEED, |seed, byte| 31 * seed + u64::from(byte));
     for index in 0..TRIES {
-        let case = (family.by_chance)(&mut Random::of(seed, index));
+        let case = (part.by_chance)(&mut Random::of(seed, index));
         let number = case.number;
         let have = found.get(&number).copied().unwrap_or(0);
-        if have < share(number) && size(&case) <= CASE_BYTES && seen.insert(case.fields.clone()) {
+        if have < share(number) && size(&case) <= part.longest && seen.insert(case.fields.clone()) {
             *found.entry(number).or_default() += 1;
             *met.entry(number).or_default() += 1;
             cases.push(case);
         }
-        if family.numbers.iter().all(|&n| found.get(&n).is_some_and(|&have| have == share(n))) {
+        if part.numbers.iter().all(|&n| found.get(&n).is_some_and(|&have| have == share(n))) {
             break;
         }
     }
-    (cases, met)
+    met
 }
 
 fn file(cases: &[Case]) -> Vec<u8> {
@@ -654,22 +1154,28 @@ fn file(cases: &[Case]) -> Vec<u8> {
 }
 
 fn write(family: &Family, path: &str) -> Result<(), String> {
-    let (cases, met) = collect(family);
-    for number in family.numbers {
-        if met.get(number).copied().unwrap_or(0) < LEAST {
-            return Err(format!("{}: too few cases of number {number}", family.name));
+    let mut seen: BTreeSet<Fields> = BTreeSet::new();
+    let mut cases: Vec<Case> = Vec::new();
+    let first = family.name.bytes().fold(SEED, |seed, byte| 31 * seed + u64::from(byte));
+    let mut parts: Vec<String> = Vec::new();
+    for (part, seed) in family.parts.iter().zip(first..) {
+        let met = collect(part, seed, &mut seen, &mut cases);
+        for number in part.numbers {
+            if met.get(number).copied().unwrap_or(0) < LEAST {
+                return Err(format!("{}: too few cases of number {number}", family.name));
+            }
         }
+        let numbers = met.iter().map(|(number, have)| format!("{number}:{have}"));
+        parts.push(numbers.collect::<Vec<String>>().join(" "));
     }
     let bytes = file(&cases);
     fs::write(path, &bytes).map_err(|error| format!("{path}: {error}"))?;
-    let numbers: Vec<String> =
-        met.iter().map(|(number, have)| format!("{number}:{have}")).collect();
     println!(
         "{}: {} cases, {} bytes; by number {}",
         family.name,
         cases.len(),
         bytes.len(),
-        numbers.join(" ")
+        parts.join(", then ")
     );
     Ok(())
 }

@@ -1,4 +1,4 @@
--- `block_ends` meets its contract: 1 to 7 first.
+-- `block_ends` meets its contract: capacities and source first.
 use Rattle.mapper.proofs.View.{ends-input}
 use borrow.Author.Needs.{needs}
 use Rattle.mapper.proofs.block.block_ends.Statement.{statement}

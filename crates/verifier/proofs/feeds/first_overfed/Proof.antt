@@ -17,26 +17,23 @@ abbrev μ-loop : tie.MeasureT-loop
 loop-holds : tie.Need-loop-holds Inv-loop μ-loop
 loop-holds c = search scan-start
 
-cast-wide : tie.Need-cast-wide Inv-loop μ-loop
-cast-wide c = search needs
+cast-wide-count : tie.Need-cast-wide-count Inv-loop μ-loop
+cast-wide-count c = search needs
 
-shared-slice-read-wide : tie.Need-shared-slice-read-wide Inv-loop μ-loop
-shared-slice-read-wide c = search needs
+mul-wide-count : tie.Need-mul-wide-count Inv-loop μ-loop
+mul-wide-count c = search needs
 
-wide-requires : tie.Need-wide-requires Inv-loop μ-loop
-wide-requires c κs = search needs
+shared-slice-read-wide-count : tie.Need-shared-slice-read-wide-count Inv-loop μ-loop
+shared-slice-read-wide-count c = search needs
 
-cast-kind-at : tie.Need-cast-kind-at Inv-loop μ-loop
-cast-kind-at c = search needs
+wide-count-requires : tie.Need-wide-count-requires Inv-loop μ-loop
+wide-count-requires c κs = search needs
 
-kind-at-requires : tie.Need-kind-at-requires Inv-loop μ-loop
-kind-at-requires c κs = search needs
+cast-may-feed : tie.Need-cast-may-feed Inv-loop μ-loop
+cast-may-feed c = search needs
 
-capacity-of-requires : tie.Need-capacity-of-requires Inv-loop μ-loop
-capacity-of-requires c κs = search needs
-
-cast-if1 : tie.Need-cast-if1 Inv-loop μ-loop
-cast-if1 c = search needs
+may-feed-requires : tie.Need-may-feed-requires Inv-loop μ-loop
+may-feed-requires c κs = search needs
 
 returns : tie.Need-returns Inv-loop μ-loop
 returns c = search count-stop
@@ -60,13 +57,12 @@ first-overfed-spec =
     Inv-loop
     μ-loop
     loop-holds
-    cast-wide
-    shared-slice-read-wide
-    wide-requires
-    cast-kind-at
-    kind-at-requires
-    capacity-of-requires
-    cast-if1
+    cast-wide-count
+    mul-wide-count
+    shared-slice-read-wide-count
+    wide-count-requires
+    cast-may-feed
+    may-feed-requires
     returns
     add-k
     loop-less

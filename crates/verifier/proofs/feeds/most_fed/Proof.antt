@@ -19,6 +19,9 @@ loop-holds c = search most-start
 cast-fed : tie.Need-cast-fed Inv-loop μ-loop
 cast-fed c = search needs
 
+mul-fed : tie.Need-mul-fed Inv-loop μ-loop
+mul-fed c = search needs
+
 shared-slice-read-fed : tie.Need-shared-slice-read-fed Inv-loop μ-loop
 shared-slice-read-fed c = search needs
 
@@ -42,6 +45,7 @@ most-fed-spec =
     μ-loop
     loop-holds
     cast-fed
+    mul-fed
     shared-slice-read-fed
     add-k
     loop-less

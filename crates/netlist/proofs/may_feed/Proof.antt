@@ -1,11 +1,11 @@
--- `may_feed` meets its contract: one node hangs on any driver, more are compared with its kind's capacity.
-use Rattle.nets.proofs.TreeCounts.{one-hangs}
+-- `may_feed` meets its contract: one slot may be fed in any case, more are compared with the capacity of the kind.
+use Rattle.netlist.proofs.Balance.{one-fed}
 use borrow.Author.Needs.{needs}
-use Rattle.nets.proofs.trees.may_feed.Statement.{statement}
-use Rattle.nets.proofs.trees.may_feed.Tie as tie
+use Rattle.netlist.proofs.may_feed.Statement.{statement}
+use Rattle.netlist.proofs.may_feed.Tie as tie
 
 returns : tie.Need-returns
-returns c = search one-hangs
+returns c = search one-fed
 
 kind-at-requires : tie.Need-kind-at-requires
 kind-at-requires c κs = search needs
