@@ -2,8 +2,9 @@
  *
  * Each call runs on a stack of its own that was painted before, with one byte value and then with
  * another; the lowest byte that changed tells how far the call went. The inputs are the deepest that
- * the limits allow: one driver with 12,285 sinks, and chains of 4,094 buffers whose records stand in
- * falling order, so that each trace goes through a whole chain.
+ * the limits allow: one driver with 12,285 sinks; chains of 4,094 buffers whose records stand in
+ * falling order, so that each trace goes through a whole chain; and, with b = 4,095, inputs that feed
+ * 4,095 slots each. Elsewhere b is 1.
  */
 #define _GNU_SOURCE
 #include <stdint.h>
@@ -23,6 +24,7 @@ static uint8_t list[2 * LISTED], counts[4 * LISTED], levelled[WIDTH * SOURCE_LIM
 static uint8_t stripped[WIDTH * SOURCE_LIMIT];
 static uint8_t answer[28];
 static size_t records, mapped_records, inputs, output_count;
+static uint32_t input_capacity = 1;
 
 static void put(uint8_t *area, size_t k, int kind, unsigned level, int used, unsigned fanin) {
     uint8_t *r = area + WIDTH * k;
@@ -65,13 +67,29 @@ static void chains(size_t pairs) {
     inputs = output_count = pairs;
 }
 
+/* Inputs that feed 4,095 slots each: outputs in turns up to 4,096 records, the rest buffers. */
+static void stars(size_t count) {
+    records = SOURCE_LIMIT;
+    for (size_t i = 0; i < count; i++)
+        put(source, i, INPUT, 0, 0, 0);
+    for (size_t k = count; k < records; k++)
+        put(source, k, OUTPUT, 1, 1, (unsigned)(k % count));
+    memcpy(mapped, source, WIDTH * records);
+    mapped_records = count * (1 + TOP);
+    for (size_t k = records; k < mapped_records; k++)
+        put(mapped, k, BUFFER, 1, 1, (unsigned)(k % count));
+    inputs = count;
+    output_count = records - count;
+}
+
 static uint32_t map(void) {
-    uint32_t returned = aqfp_map(source, WIDTH * records, 2, 1, mapped, sizeof mapped, answer);
+    uint32_t returned =
+        aqfp_map(source, WIDTH * records, 2, input_capacity, mapped, sizeof mapped, answer);
     mapped_records = answer[8] + 256u * answer[9];
     return returned;
 }
 static uint32_t count(void) {
-    return aqfp_count(source, WIDTH * records, 2, 1, 0, answer);
+    return aqfp_count(source, WIDTH * records, 2, input_capacity, 0, answer);
 }
 /* The longest list, the records in turns. */
 static uint32_t count_nets(void) {
@@ -79,27 +97,30 @@ static uint32_t count_nets(void) {
         list[2 * k] = k % records & 255;
         list[2 * k + 1] = k % records >> 8;
     }
-    return aqfp_count_nets(source, WIDTH * records, 2, 1, list, sizeof list, counts, sizeof counts, answer);
+    return aqfp_count_nets(source, WIDTH * records, 2, input_capacity, list, sizeof list, counts,
+                           sizeof counts, answer);
 }
 static uint32_t levels(void) {
     return aqfp_levels(source, WIDTH * records, 2, levelled, WIDTH * records, answer);
 }
 static uint32_t verify(void) {
-    return aqfp_verify(source, WIDTH * records, 2, 1, mapped, WIDTH * mapped_records, answer);
+    return aqfp_verify(source, WIDTH * records, 2, input_capacity, mapped, WIDTH * mapped_records,
+                       answer);
 }
 static uint32_t strip(void) {
-    return aqfp_strip(2, 1, mapped, WIDTH * mapped_records, stripped, sizeof stripped, answer);
+    return aqfp_strip(2, input_capacity, mapped, WIDTH * mapped_records, stripped, sizeof stripped,
+                      answer);
 }
 static uint32_t evaluate(void) {
     return aqfp_evaluate(source, WIDTH * records, rows, inputs, values, records, answer);
 }
 static uint32_t step(void) {
-    return aqfp_step(source, WIDTH * records, 2, 1, mapped, WIDTH * mapped_records, rows, inputs, state,
-                     2 * mapped_records, answer);
+    return aqfp_step(source, WIDTH * records, 2, input_capacity, mapped, WIDTH * mapped_records, rows,
+                     inputs, state, 2 * mapped_records, answer);
 }
 static uint32_t run(void) {
-    return aqfp_run(source, WIDTH * records, 2, 1, mapped, WIDTH * mapped_records, 1, rows, inputs, state,
-                    2 * mapped_records, outputs, output_count, answer);
+    return aqfp_run(source, WIDTH * records, 2, input_capacity, mapped, WIDTH * mapped_records, 1, rows,
+                    inputs, state, 2 * mapped_records, outputs, output_count, answer);
 }
 
 static ucontext_t here, there;
@@ -150,6 +171,16 @@ int main(void) {
         chains(pairs[i]);
         char input[64];
         snprintf(input, sizeof input, "chains of 4,094 buffers, M = %zu", mapped_records);
+        row("aqfp_verify", verify, input);
+        row("aqfp_strip", strip, input);
+        row("aqfp_step", step, input);
+        row("aqfp_run", run, input);
+    }
+    input_capacity = TOP;
+    for (int i = 0; i < 2; i++) {
+        stars(pairs[i]);
+        char input[64];
+        snprintf(input, sizeof input, "inputs that feed 4,095 slots, M = %zu", mapped_records);
         row("aqfp_verify", verify, input);
         row("aqfp_strip", strip, input);
         row("aqfp_step", step, input);

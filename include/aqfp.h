@@ -280,9 +280,10 @@ uint32_t aqfp_levels(const uint8_t *source, size_t source_len,
 /* Writes back the source that a mapped netlist, whoever wrote it, came from: the one source for
  * which aqfp_verify accepts the mapped netlist with these capacities. No two sources have that.
  *
- * What aqfp_map wrote comes back as the source that was mapped. Mapping what this call writes,
- * with the same capacities and a mapped area as long as the mapped netlist, is accepted, and gives
- * a netlist with no more buffers: in all, on each net and at each level of each net.
+ * Stripped with the same capacities, what aqfp_map wrote comes back as the source that was
+ * mapped. Mapping what this call writes, with the same capacities and a mapped area as long as
+ * the mapped netlist, is accepted, and gives a netlist with no more buffers: in all, on each net
+ * and at each level of each net.
  *
  * In:       capacity; input_capacity; mapped, which may be empty.
  * Out:      source, whose first 10 x N bytes are written and whose other bytes stay. An area of

@@ -55,7 +55,7 @@ static void check(int holds, const char *what)
     }
     failed++;
     if (failed <= 50)
-        printf("FAILED: %s%s: %s\n", group, with, what);
+        printf("FAILED: %s, b = %lu: %s\n", group, (unsigned long)input_capacity, what);
 }
 
 /* ---- random numbers by a fixed seed ---- */
@@ -509,14 +509,20 @@ static int has_source(struct bytes mapped, uint32_t s, size_t *n)
     return answer[0] == 0;
 }
 
+/* The number that both capacities give: 1, 26 or 0. */
+static uint32_t capacities_number(uint32_t s)
+{
+    if (s < 2 || s > 4)
+        return 1;
+    return input_capacity == 0 || input_capacity > MAX_INPUT_CAPACITY ? 26 : 0;
+}
+
 /* The number that the call must give; the records of the source are at `n`. */
 static uint32_t strip_number(struct bytes mapped, uint32_t s, size_t source_len, size_t *n)
 {
     *n = 0;
-    if (s < 2 || s > 4)
-        return 1;
-    if (input_capacity == 0 || input_capacity > MAX_INPUT_CAPACITY)
-        return 26;
+    if (capacities_number(s) != 0)
+        return capacities_number(s);
     if (!has_source(mapped, s, n))
         return 24;
     return source_len < RECORD * *n ? 25 : 0;
@@ -727,8 +733,8 @@ static void hold_levels(struct bytes source, uint32_t s, size_t levelled_len)
     check(answer[0] != 0 || is_levelled(source), "aqfp_levels: every byte of the copy");
 }
 
-/* A source is accepted, and its copy too, which keeps its levels; mapped, the copy gets the number,
- * 0 or 9, and what is mapped is legal. */
+/* A source is accepted, and its copy too, which keeps its levels; mapped, the copy gets this
+ * number, and what is mapped is legal. */
 static void hold_copy(struct bytes source, uint32_t s, size_t mapped_len, uint32_t number)
 {
     static uint8_t copy[RECORD * MAX_SOURCE], mapped[RECORD * MAX_MAPPED];
@@ -744,7 +750,7 @@ static void hold_copy(struct bytes source, uint32_t s, size_t mapped_len, uint32
     check(answered(0, 0) && (source.len == 0 || memcmp(levelled_area.at, copy, source.len) == 0),
           "the copy's least levels are its levels");
     do_map(levelled, s, fill(mapped_len));
-    check(answered(number, 0), "the mapper accepts the copy, or refuses it by 9");
+    check(answered(number, 0), "mapped, the copy gets this number");
     if (answer[0] != 0)
         return;
     buffers = answer[3];
@@ -2225,38 +2231,68 @@ static uint32_t random_input_capacity(void)
     return below(8) ? 1 + below(5) : 1 + below(MAX_INPUT_CAPACITY);
 }
 
+/* An input capacity that is refused; one kind has low bytes that would pass. */
+static uint32_t bad_input_capacity(void)
+{
+    switch (below(4)) {
+    case 0:
+        return 0;
+    case 1:
+        return MAX_INPUT_CAPACITY + 1;
+    case 2:
+        return (1 + below(65535)) * 65536 + 1 + below(MAX_INPUT_CAPACITY);
+    default:
+        return MAX_INPUT_CAPACITY + 1 + below(2147483647);
+    }
+}
+
+/* After a call with both capacities: 1 or 26 where it must be, elsewhere one of what may be. */
+static int by_capacities(uint32_t s, int may_be)
+{
+    uint32_t number = capacities_number(s);
+    return number != 0 ? answered(number, 0) : may_be && answer[0] != 1 && answer[0] != 26;
+}
+
 static void test_random_bytes(void)
 {
-    unsigned long k;
+    unsigned long k, refused = 0;
     begin("random bytes as netlists");
     for (k = 0; k < 45000; k++) {
         if (k >= 40000)
-            input_capacity = random_input_capacity();
+            input_capacity = below(20) ? random_input_capacity() : bad_input_capacity();
         struct bytes source = random_bytes(source_bytes, 60);
         struct bytes mapped = random_bytes(mapped_bytes, 90);
         uint32_t capacity = below(20) ? 2 + below(3) : below(7);
         size_t rows = below(4), state = below(2) ? 2 * (mapped.len / RECORD) : below(20);
         do_map(source, capacity, fill(below(200)));
-        check(within(0, 10), "aqfp_map gives 0 to 10");
+        check(by_capacities(capacity, within(0, 10)), "aqfp_map gives 0 to 10 or 26");
         do_count(source, capacity, below(8));
-        check(within(0, 7) || within(20, 20), "aqfp_count gives 0 to 7 or 20");
+        check(by_capacities(capacity, within(0, 7) || within(20, 20)),
+              "aqfp_count gives 0 to 7, 20 or 26");
         random_list();
         do_count_nets(source, capacity, part(list, list_len),
                       fill(below(4) ? 2 * list_len : below(20)));
-        check(within(0, 7) || within(20, 21), "aqfp_count_nets gives 0 to 7, 20 or 21");
+        check(by_capacities(capacity, within(0, 7) || within(20, 21)),
+              "aqfp_count_nets gives 0 to 7, 20, 21 or 26");
         do_verify(source, capacity, mapped);
-        check(within(0, 7) || within(11, 17), "aqfp_verify gives 0 to 7 or 11 to 17");
+        check(by_capacities(capacity, within(0, 7) || within(11, 17)),
+              "aqfp_verify gives 0 to 7, 11 to 17 or 26");
         do_evaluate(source, fill(rows), fill(source.len / RECORD));
         check(within(0, 7) || within(18, 19), "aqfp_evaluate gives 0 to 7, 18 or 19");
         do_run(source, capacity, mapped, below(3), fill(rows), fill(state), fill(below(3)));
-        check(within(0, 7) || within(11, 19), "aqfp_run gives 0 to 7 or 11 to 19");
+        check(by_capacities(capacity, within(0, 7) || within(11, 19)),
+              "aqfp_run gives 0 to 7, 11 to 19 or 26");
         do_step(source, capacity, mapped, fill(rows), fill(state));
-        check(within(0, 7) || within(11, 19), "aqfp_step gives 0 to 7 or 11 to 19");
+        check(by_capacities(capacity, within(0, 7) || within(11, 19)),
+              "aqfp_step gives 0 to 7, 11 to 19 or 26");
         hold_levels(source, capacity, below(4) ? source.len : below(70));
         check(within(0, 6) || within(23, 23), "aqfp_levels gives 0 to 6 or 23");
         hold_strip(mapped, capacity, below(100));
-        check(within(0, 1) || within(24, 25), "aqfp_strip gives 0, 1, 24 or 25");
+        check(by_capacities(capacity, within(0, 1) || within(24, 25)),
+              "aqfp_strip gives 0, 1 or 24 to 26");
+        refused += answer[0] == 26;
     }
+    check(refused > 100, "26 was given often enough");
     end();
 }
 
@@ -3317,22 +3353,47 @@ static void test_input_capacities(void)
     static const uint32_t bad[] = {
         0, 4096, 4097, 8191, 65535, 65536, 65537, 69631, 16777217, 2147483649u, 4294967295u
     };
-    struct bytes source[6];
+    /* What the mapper says of each source with an empty area and a b that passes. */
+    static const uint32_t later[] = { 10, 0, 2, 3, 4, 5, 6, 7, 8 };
+    enum { SOURCES = sizeof later / sizeof later[0] };
+    static uint8_t five[2 * RECORD], six[2 * RECORD], seven[2 * RECORD], eight[5 * RECORD];
+    struct bytes source[SOURCES];
     size_t k, j;
     uint32_t s;
     begin("refusal 26, all calls with an input capacity");
-    two_records(AND, 0, 1, 0, 0, UNUSED);
+    two_records(AND, 4, 2, 0, 0, UNUSED);
+    memcpy(five, netlist, sizeof five);
+    two_records(AND, 0, 2, 0, 1, UNUSED);
+    memcpy(six, netlist, sizeof six);
+    two_records(INPUT, 0, 1, UNUSED, UNUSED, UNUSED);
+    memcpy(seven, netlist, sizeof seven);
+    clear();
+    add_input();
+    add_input();
+    add_and(1, 0, 1);
+    add_one(OUTPUT, 2, 2);
+    add_one(OUTPUT, 2, 2);
+    memcpy(eight, netlist, sizeof eight);
+    make_lines(MAX_SOURCE + 1, MAX_SOURCE + 1);
     source[0] = worked;
     source[1] = fill(0);
-    source[2] = fill(7);       /* also fails 2, which comes later */
-    source[3] = fill(RECORD);  /* also fails 4 */
-    source[4] = keep_source(); /* also fails 8 */
-    make_lines(MAX_SOURCE + 1, MAX_SOURCE + 1);
-    source[5] = made();        /* also fails 3 */
+    source[2] = fill(7);
+    source[3] = made();
+    source[4] = fill(RECORD);
+    source[5] = part(five, sizeof five);
+    source[6] = part(six, sizeof six);
+    source[7] = part(seven, sizeof seven);
+    source[8] = part(eight, sizeof eight);
+    for (input_capacity = 1; input_capacity <= MAX_INPUT_CAPACITY; input_capacity += 2047)
+        for (s = 2; s <= 4; s++)
+            for (j = 0; j < SOURCES; j++) {
+                do_map(source[j], s, fill(0));
+                check(answer[0] == later[j], "a check that comes after 26");
+            }
     for (k = 0; k < sizeof bad / sizeof bad[0]; k++) {
         input_capacity = bad[k];
         for (s = 2; s <= 4; s++)
-            for (j = 0; j < 6; j++)
+            for (j = 0; j < SOURCES; j++)
                 capacities_refused(source[j], s, 26);
         for (j = 0; j < 30; j++)
             capacities_refused(random_bytes(mapped_bytes, 60), 2 + below(3), 26);
@@ -3346,8 +3407,15 @@ static void test_worked_any(void)
 {
     static const uint32_t good[] = { 2, 3, 255, 256, 257, 4094, 4095 };
     size_t k;
+    uint32_t s;
     for (k = 0; k < sizeof good / sizeof good[0]; k++) {
         input_capacity = good[k];
+        begin("aqfp_verify, the worked case");
+        for (s = 2; s <= 4; s++) {
+            do_verify(worked, s, worked_out);
+            check(accepted(3), "the worked netlist is legal");
+        }
+        end();
         test_map_worked();
         test_lists_worked();
         test_strip_worked();
@@ -3445,6 +3513,7 @@ static void hold_written(struct bytes source, uint32_t s, uint32_t b, uint32_t d
     hold_driver(source, s, driver);
     check(accepted(NO_TREE), what);
     mapped_refused(source, s, made(), 17, driver, what);
+    input_capacity = b;
 }
 
 /* Netlists written out by hand. */
@@ -3504,11 +3573,33 @@ static void test_branches_written(void)
             check(answered(8, 1), "two outputs on a gate");
         }
     }
+    /* Input 1 at distances 2, 3, 3 and 3: both buffers of distance 2 come before the sink there and
+     * hang on the first of distance 1. Input 0 at distances 2 and 3. */
+    clear();
+    add_input();
+    add_input();
+    add(MAJ, 5, 3, 1, 0, 1);
+    add_and(2, 0, 1);
+    add_one(OUTPUT, 3, 1);
+    source = keep_source();
+    clear();
+    add_input();
+    add_input();
+    add(MAJ, 5, 3, 9, 6, 9);
+    add_and(2, 5, 8);
+    add_one(OUTPUT, 3, 10);
+    add_one(BUFFER, 1, 0);
+    add_one(BUFFER, 2, 5);
+    add_one(BUFFER, 1, 1);
+    add_one(BUFFER, 1, 1);
+    add_one(BUFFER, 2, 7);
+    add_one(BUFFER, 2, 7);
+    hold_written(source, 2, 2, 1, "sinks at distances 2, 3, 3 and 3");
     end();
 }
 
-/* So many slots that hang on one record: an input, a gate, or a buffer on an input. They are those
- * of outputs or of majorities, which leave some for outputs, or of buffers. */
+/* A record with so many slots on it: an input, a gate, or a buffer on an input. The slots belong to
+ * outputs, to majorities (what is left of three: outputs) or to buffers. */
 static struct bytes make_star(unsigned on, unsigned kind, unsigned slots, uint32_t *place)
 {
     unsigned level = on == INPUT ? 1 : 2, driver = on == AND ? 2 : 1;
@@ -3638,7 +3729,7 @@ static void hold_wide(uint32_t n, uint32_t s)
     mapped_refused(source, s, made(), 17, 0, "more buffers at distance 1 than 4,095");
 }
 
-/* 12,285 sinks at a distance have so many buffers with capacity 2, and need so many slots. */
+/* 12,285 sinks at this distance, s = 2: b nodes at distance 1, and this many buffers. */
 static void hold_widest(unsigned distance, uint32_t b, uint32_t buffers)
 {
     make_sinks_at(12285, distance);
@@ -3650,9 +3741,9 @@ static void hold_widest(unsigned distance, uint32_t b, uint32_t buffers)
     input_capacity = MAX_INPUT_CAPACITY;
     do_count(made(), 2, 0);
     check(accepted(buffers), "12,285 sinks, as many buffers with the largest b");
-    input_capacity = b - 1;
     if (b == 1)
         return;
+    input_capacity = b - 1;
     do_count(made(), 2, 0);
     check(accepted(NO_TREE), "12,285 sinks, one slot less");
     do_map(made(), 2, fill(600000));
@@ -3682,8 +3773,15 @@ static void test_branches_wide(void)
     make_sinks_at(4095, 1);
     hold_written(keep_source(), 2, 4095, 0, "4,095 sinks at distance 1");
     make_sinks_at(4096, 1);
+    input_capacity = MAX_INPUT_CAPACITY;
     do_map(made(), 2, fill(600000));
     check(answered(8, 0), "4,096 sinks at distance 1");
+    do_count(made(), 2, 0);
+    check(accepted(NO_TREE), "4,096 sinks at distance 1");
+    list_len = 0;
+    list_add(0);
+    do_listed(made(), 2);
+    check(answered(0, 0) && listed(0) == NO_TREE, "4,096 sinks at distance 1");
     end();
 }
 
@@ -3839,6 +3937,9 @@ static void test_branches_levels(void)
         s = 2 + below(3);
         do_levels(source, s, fill(source.len));
         memcpy(source_bytes, levelled_area.at, source.len);
+        input_capacity = 1;
+        do_map(source, s, fill(RECORD * 4000));
+        check(answered(0, 0), "the copy is mapped with b = 1");
         check(hold_larger(source, s) > 0, "the copy is mapped with any b");
     }
     end();

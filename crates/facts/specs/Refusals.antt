@@ -8,7 +8,7 @@ use Rattle.facts.specs.declared.Checked.{Checked}
 use Rattle.facts.specs.declared.Checked.the-variants.{Passed, Refused}
 
 infixr 15 _or_
--- the table's rows in the order in which they are checked; entry n is the row of number n
+-- entry n is the row of number n in the table; rows are checked from 1 on
 abbrev pub rows : List ℕ
 rows = 0 ∷ 1 ∷ 5 ∷ 6 ∷ 7 ∷ 7 ∷ 7 ∷ 7 ∷ 10 ∷ 11 ∷ 12 ∷ 13 ∷ 14 ∷ 14 ∷ 14 ∷ 14 ∷ 15 ∷ 16 ∷ 17 ∷ 18 ∷ 20 ∷ 19 ∷ 8 ∷ 9 ∷ 3 ∷ 4 ∷ 2 ∷ []
 

@@ -1,15 +1,19 @@
 -- The promises about trees, from the bound (Least) and the built tree (Built).
-use Prim.Native.Nat.{ℕ, _<_}
+use Prim.Native.Nat.{ℕ, _<_, _≤_}
 use mathlib.Core.Path.{_≡_, refl}
+use mathlib.Core.Logic.{_↔_}
 use mathlib.Core.List.{List}
 use mathlib.Core.Bool.{Bool, true, false, cond}
 use Rattle.facts.proofs.Bools.{true-false}
+use Rattle.facts.proofs.Reflect.{iff-trans, most}
 use borrow.Author.Tests.{leb-true, le-leb}
-use Rattle.fanout.specs.Nets.{sinks, nodesAt, hasTree, fewest}
+use Rattle.fanout.specs.Nets.{row, sinks, nodesAt, hasTree, fewest}
 use Rattle.fanout.specs.declared.Count.the-variants.{Fewest, NoTree}
-use Rattle.fanout.specs.Promises.{TreeExactly, LeastAtEach, LeastInAll, FewestAttained, LeastTree, CountTrue, Says, RowTrue, RowOfNet}
-use Rattle.fanout.specs.Trees.{Net, RowOf}
-use Rattle.netlist.specs.Records.{netlist}
+use Rattle.fanout.specs.Promises.{TreeExactly, LeastAtEach, LeastInAll, FewestAttained, LeastTree, CountTrue, Says, RowTrue, RowOfNet, NetTreeExactly}
+use Rattle.fanout.specs.Trees.{Net, Tree, Legal, RowOf, netOf}
+use Rattle.netlist.specs.Capacities.{capacitiesOf, gateCapacity}
+use Rattle.netlist.specs.Records.{netlist, recordAt}
+use Rattle.netlist.proofs.Balance.{capacity-gate}
 use Rattle.fanout.proofs.Nets.{row-at}
 use Rattle.fanout.proofs.Rows as rows
 use Rattle.fanout.proofs.Least.{bound-at, bound-in-all, few-left}
@@ -49,3 +53,16 @@ row-true source d x l = row-at (netlist source) d x l
 
 pub row-of-net : RowOfNet
 row-of-net source is d = rows.row-of-net (netlist source) d (is .isSource)
+
+pub net-tree-exactly : NetTreeExactly
+net-tree-exactly source is s b d pos =
+    record {
+      inputs = λ e. rw e (left b);
+      gates = λ e. rw (capacity-gate (capacitiesOf s b) (recordAt source d .kind) e) (left gateCapacity);
+    }
+  where
+    left : (c : ℕ) → ((t : Tree) × Legal c s (netOf (netlist source) d) t) ↔ (nodesAt s (row (netlist source) d) 1 ≤ c)
+    left c =
+        iff-trans
+        (tree-exactly c s (netOf (netlist source) d) (row (netlist source) d) pos (row-of-net source is d))
+        (most (nodesAt s (row (netlist source) d) 1) c)

@@ -11,7 +11,7 @@ use mir.Val.{Fits}
 use mir.Syntax.{w32}
 use lib.ListN.{length, getD, drop, set, replicate, length-set, length-drop}
 use lib.Seq.{getD-set-same, getD-set-other, getD-drop}
-use borrow.Author.Tests.{le-leb, lt-leb}
+use lib.Dec.{leb}
 use Rattle.facts.proofs.Lists.{zeros}
 use Rattle.netlist.specs.Kinds.{topLevel}
 use Rattle.netlist.specs.Records.{Netlist, netlist, recordAt}
@@ -22,7 +22,7 @@ use Rattle.netlist.specs.Capacities.{capacityOf, Allowed}
 use Rattle.fanout.specs.declared.TreeTotals.{TreeTotals}
 use Rattle.fanout.specs.declared.Count.the-variants.{Fewest, NoTree}
 use Rattle.fanout.specs.Nets.{sinkLimit, row, up, nodes, buffers, nodesAt, buffersAt, fewest}
-use Rattle.fanout.specs.Answer.{treeCount, netCount}
+use Rattle.fanout.specs.Answer.{netCount}
 use Rattle.fanout.specs.declared.Reach.{Reach}
 use Rattle.fanout.specs.PrivateStretches.{InStretches, NextSinks, NextDistance}
 use Rattle.fanout.specs.PrivateWalk.{nodeLimit, Filled, Walkable, Walked}
@@ -272,13 +272,13 @@ module _ (source : List ℕ) (caps : Capacities) (d far : ℕ) (counts : List �
       walkable (netlist source) caps d counts _ (i .isSource .isSource) (i .allowed) f
       (stretches-all counts (ap length (f .counted) ∙ row-length (netlist source) d))
 
-  module _ (after : List ℕ) (t : TreeTotals) (w : Walked (caps .buffer) counts false after t) (kind most : ℕ)
-      (k : kind ≡ recordAt source d .kind) (q : most ≡ capacityOf caps kind) where
-    net-count : treeCount most (caps .buffer) counts ≡ netCount (netlist source) caps d
-    net-count = rw (q, k, f .counted)
+  module _ (after : List ℕ) (t : TreeTotals) (w : Walked (caps .buffer) counts false after t) (b : Bool)
+      (e : b ≡ leb (t .nodes) (capacityOf caps (recordAt source d .kind))) where
+    net-count : cond b (Fewest (t .buffers)) NoTree ≡ netCount (netlist source) caps d
+    net-count = rw (e, w .nodes, w .buffers, f .counted) refl
 
-    pub counted-tree : t .nodes ≤ most → Fewest (t .buffers) ≡ netCount (netlist source) caps d
-    counted-tree h = rw (← net-count, le-leb (nodesAt (caps .buffer) counts 1) most (omega (arith, w .nodes))) (ap Fewest (w .buffers))
+    pub counted-tree : b ≡ true → Fewest (t .buffers) ≡ netCount (netlist source) caps d
+    counted-tree h = rw h at net-count
 
-    pub counted-none : most < t .nodes → NoTree ≡ netCount (netlist source) caps d
-    counted-none h = rw (← net-count, lt-leb (nodesAt (caps .buffer) counts 1) most (omega (arith, w .nodes)))
+    pub counted-none : b ≡ false → NoTree ≡ netCount (netlist source) caps d
+    counted-none h = rw h at net-count

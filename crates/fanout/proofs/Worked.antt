@@ -16,7 +16,7 @@ use Rattle.fanout.proofs.Rows.{within, row-of-distances}
 use Rattle.fanout.proofs.Promises.{count-true}
 
 answerOf : Case → Count
-answerOf w = treeCount (w .driver) (w .capacity) (rowAt (w .distances))
+answerOf w = treeCount (w .driverCapacity) (w .capacity) (rowAt (w .distances))
 
 -- a capacity above 0 and distances that a row has
 abbrev fits : Case → Bool
@@ -29,7 +29,7 @@ allFit (w ∷ ws) = fits w && allFit ws
 holds : (w : Case) → fits w ≡ true → answerOf w ≡ w .answer → Holds w
 unfolding answerOf
 holds w f e =
-    let c : ℕ = w .driver in
+    let c : ℕ = w .driverCapacity in
     let s : ℕ = w .capacity in
     let net : Net = netAt (w .distances) in
     let pos : 0 < s = ltb-true 0 s (and-l (ltb 0 s) _ f) in

@@ -10,15 +10,15 @@ use Rattle.facts.specs.declared.Checked.the-variants.{Passed}
 use Rattle.facts.specs.Sums.{count, count₂}
 use Rattle.facts.specs.Refusals.{Conditions, Fails, _or_, FirstAt, Exact}
 use Rattle.netlist.specs.declared.Capacities.{Capacities}
-use Rattle.netlist.specs.Kinds.{slots, topLevel, output, isDriver}
-use Rattle.netlist.specs.Capacities.{capacityOf}
+use Rattle.netlist.specs.Kinds.{slots, topLevel, input, output, isGate, isDriver}
+use Rattle.netlist.specs.Capacities.{capacitiesOf, capacityOf}
 use Rattle.netlist.specs.Records.{Netlist, netlist, recordAt, recordCount, names}
 use Rattle.netlist.specs.Source.{Source}
 use Rattle.netlist.specs.Checks.{inputChecks}
 use Rattle.netlist.specs.Refusals.{InputFails}
 use Rattle.fanout.specs.declared.Count.{Count}
 use Rattle.fanout.specs.declared.Count.the-variants.{Fewest, NoTree, Refused}
-use Rattle.fanout.specs.Nets.{row, hasTree, buffersAt, fewest}
+use Rattle.fanout.specs.Nets.{row, nodesAt, hasTree, buffersAt, fewest}
 use Rattle.fanout.specs.Trees.{Net, Tree, Legal, RowOf, netOf, netAt, buffersIn}
 use Rattle.fanout.specs.Answer.{treeCount, countChecks, countAnswer, noTree, countNumbers}
 use Rattle.fanout.specs.Worked.{Case, rowAt, worked, branching}
@@ -75,6 +75,18 @@ RowTrue =
 abbrev pub RowOfNet : Type 0
 RowOfNet = (source : List ℕ) → Source source → (d : ℕ) → RowOf (netOf (netlist source) d) (row (netlist source) d)
 
+-- there is a legal tree of d's net, whose driver feeds no more than its kind may
+abbrev pub HasNetTree : Netlist → Capacities → ℕ → Type 0
+HasNetTree m caps d = (t : Tree) × Legal (capacityOf caps (m .at d .kind)) (caps .buffer) (netOf m d) t
+
+-- in a source: of an input's net exactly if at most b nodes are left at distance 1, of a gate's exactly if at most one is
+pub record NetTrees (m : Netlist) (s b d : ℕ) : Type 0 where
+  pub inputs : m .at d .kind ≡ input → HasNetTree m (capacitiesOf s b) d ↔ (nodesAt s (row m d) 1 ≤ b)
+  pub gates : isGate (m .at d .kind) ≡ true → HasNetTree m (capacitiesOf s b) d ↔ (nodesAt s (row m d) 1 ≤ 1)
+
+abbrev pub NetTreeExactly : Type 0
+NetTreeExactly = (source : List ℕ) → Source source → (s b d : ℕ) → 0 < s → NetTrees (netlist source) s b d
+
 -- no tree at all is legal
 abbrev pub NoLegalTree : ℕ → ℕ → Net → Type 0
 NoLegalTree c s net = (t : Tree) → Legal c s net t → ⊥
@@ -99,8 +111,8 @@ CountTrue = (c s : ℕ) (net : Net) (r : List ℕ) → 0 < s → RowOf net r →
 -- a net worked through: its row is its net's, the count gives its answer, and that is true of all its trees
 pub record Holds (w : Case) : Type 0 where
   pub rowed : RowOf (netAt (w .distances)) (rowAt (w .distances))
-  pub counted : treeCount (w .driver) (w .capacity) (rowAt (w .distances)) ≡ w .answer
-  pub said : Says (w .driver) (w .capacity) (netAt (w .distances)) (w .answer)
+  pub counted : treeCount (w .driverCapacity) (w .capacity) (rowAt (w .distances)) ≡ w .answer
+  pub said : Says (w .driverCapacity) (w .capacity) (netAt (w .distances)) (w .answer)
 
 -- each of a list
 abbrev pub Every : (Case → Type 0) → List Case → Type 0

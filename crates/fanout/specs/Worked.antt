@@ -1,4 +1,4 @@
--- Specification 8.1: nets worked through, P1 to P12 as s, distances and answer, and nets of inputs that branch, with b before these.
+-- Specification 8.1: nets worked through, P1 to P12 as s, distances and answer, nets of inputs that branch as b, s, distances and answer.
 use Prim.Native.Nat.{ℕ, suc}
 use mathlib.Core.List.{List, [], _∷_}
 use lib.ListN.{replicate}
@@ -19,18 +19,18 @@ rowAt distances = addedAll (replicate (suc topLevel) 0) distances
 
 -- a net worked through: what its driver and a buffer may feed, its distances, and the answer
 pub record Case : Type 0 where
-  pub driver : ℕ
+  pub driverCapacity : ℕ
   pub capacity : ℕ
   pub distances : List ℕ
   pub answer : Count
 
--- a net of an input
-abbrev pub inputCase : ℕ → ℕ → List ℕ → Count → Case
-inputCase b s distances answer = record { driver = b; capacity = s; distances = distances; answer = answer }
+-- a net whose driver may feed c slots
+abbrev pub caseOf : ℕ → ℕ → List ℕ → Count → Case
+caseOf c s distances answer = record { driverCapacity = c; capacity = s; distances = distances; answer = answer }
 
 -- a net of a gate, or of an input with b = 1
 abbrev pub case : ℕ → List ℕ → Count → Case
-case s distances answer = inputCase gateCapacity s distances answer
+case s distances answer = caseOf gateCapacity s distances answer
 
 -- P1 to P12
 abbrev pub worked : List Case
@@ -52,12 +52,12 @@ worked =
 -- inputs that branch
 abbrev pub branching : List Case
 branching =
-    inputCase 2 2 (1 ∷ 1 ∷ []) (Fewest 0)
-    ∷ inputCase 2 2 (1 ∷ 1 ∷ 1 ∷ []) NoTree
-    ∷ inputCase 2 2 (2 ∷ 2 ∷ []) (Fewest 1)
-    ∷ inputCase 2 2 (2 ∷ 2 ∷ 2 ∷ []) (Fewest 2)
-    ∷ inputCase 2 2 (1 ∷ 2 ∷ []) (Fewest 1)
-    ∷ inputCase 2 2 (2 ∷ 3 ∷ 3 ∷ 3 ∷ []) (Fewest 4)
-    ∷ inputCase 2 4 (2 ∷ 2 ∷ 2 ∷ 2 ∷ 2 ∷ []) (Fewest 2)
-    ∷ inputCase 3 2 (1 ∷ 1 ∷ 3 ∷ []) (Fewest 2)
+    caseOf 2 2 (1 ∷ 1 ∷ []) (Fewest 0)
+    ∷ caseOf 2 2 (1 ∷ 1 ∷ 1 ∷ []) NoTree
+    ∷ caseOf 2 2 (2 ∷ 2 ∷ []) (Fewest 1)
+    ∷ caseOf 2 2 (2 ∷ 2 ∷ 2 ∷ []) (Fewest 2)
+    ∷ caseOf 2 2 (1 ∷ 2 ∷ []) (Fewest 1)
+    ∷ caseOf 2 2 (2 ∷ 3 ∷ 3 ∷ 3 ∷ []) (Fewest 4)
+    ∷ caseOf 2 4 (2 ∷ 2 ∷ 2 ∷ 2 ∷ 2 ∷ []) (Fewest 2)
+    ∷ caseOf 3 2 (1 ∷ 1 ∷ 3 ∷ []) (Fewest 2)
     ∷ []

@@ -193,8 +193,7 @@ fn count_driver(source: &[u8], capacities: Capacities, driver: usize) -> Count
         stretches: u64::MAX,
     };
     let tree = walk(capacities.buffer, reach, false, &mut row);
-    let most = netlist::capacity_of(capacities, netlist::kind_at(source, driver));
-    if tree.nodes <= most {
+    if netlist::may_feed(source, capacities, driver, tree.nodes) {
         Count::Fewest(tree.buffers)
     } else {
         Count::NoTree

@@ -61,7 +61,7 @@ module _ (n : Netlist) (N bs g : ℕ) (size : N ≡ n .size) (few : N ≤ source
 
 -- the answer and the area where a check refuses
 module _ (bytes : List ℕ) (caps : Capacities) (area : List ℕ) where
-  -- the checks before 8
+  -- 1, 26 and 2 to 7
   pub refused-input : (number place : ℕ) (a : Checked) (r : Mapping) → a ≡ inputChecks bytes caps → a ≡ Refused number place → r ≡ refusal number place →
       r ≡ mapAnswer bytes caps area
   unfolding mapAnswer mapChecks sourceMaps
@@ -82,7 +82,7 @@ module _ (bytes : List ℕ) (caps : Capacities) (area : List ℕ) where
     unfolding mapArea mapChecks sourceMaps
     kept-tree = cc (refusing (netlist bytes) caps number place total z e f)
 
--- what the checks up to 8 show
+-- what 1, 26 and 2 to 8 show
 module _ (bytes : List ℕ) (caps : Capacities) (i : inputChecks bytes caps ≡ Passed) (N : ℕ) (size : N ≡ recordCount bytes) where
   pub counted-all : (total : ℕ) (z : Sizing) → z ≡ sizingOf (treeChecks (netlist bytes) caps) (fewestInAll (netlist bytes) caps) →
       z ≡ Total total → (first next : List ℕ) (end : ℕ) → Chained (netlist bytes) first next 0 end →
@@ -95,7 +95,7 @@ module _ (bytes : List ℕ) (caps : Capacities) (i : inputChecks bytes caps ≡ 
   sized-all total z e f totals t l =
       let c = counting (netlist bytes) caps (recordCount bytes) total z e f in search
 
--- what the checks up to 9 show
+-- what 1, 26 and 2 to 9 show
 pub passed-ready : (bytes : List ℕ) (caps : Capacities) → inputChecks bytes caps ≡ Passed → treeChecks (netlist bytes) caps ≡ Passed →
     mappedSize (netlist bytes) caps ≤ mappedLimit → Ready (netlist bytes) caps
 passed-ready bytes caps i t l =

@@ -3,6 +3,7 @@ pub mod Blocks
 pub mod ChainParents
 pub mod ClearedRow
 pub mod Feeds
+pub mod InputCapacity
 pub mod Lines
 pub mod Mapped
 pub mod Nodes

@@ -31,7 +31,7 @@ use Rattle.nets.proofs.TreeCounts.{input-source, input-allowed, total-small, nu
 use Rattle.mapper.specs.View.{noEnds, ownEnds, endsOf, blockEnds, between}
 
 module _ (bytes : List ℕ) (caps : Capacities) (d : ℕ) where
-  -- the checks before 8
+  -- 1, 26 and 2 to 7
   pub ends-input : (number place : ℕ) (a : Checked) (r : Ends) → a ≡ inputChecks bytes caps → a ≡ Refused number place → r ≡ noEnds →
       r ≡ blockEnds bytes caps d
   unfolding blockEnds sourceMaps

@@ -21,7 +21,7 @@ use Rattle.fanout.specs.Nets.{row, nodesAt, netHasTree, treeSize, fewestInAll}
 use Rattle.mapper.specs.Answer.{sourceMaps}
 use Rattle.mapper.specs.Mapped.{buffersOf, blockStart, mappedSize, parent, bufferOf, sinkParent, mapped}
 
--- what the checks up to 9 show: a source, capacities, a tree for every net, and not too many records
+-- what 1, 26 and 2 to 9 show: a source, capacities, a tree for every net, and not too many records
 pub record Ready (n : Netlist) (caps : Capacities) : Type 0 where
   pub source : IsSource n
   pub allowed : Allowed caps
@@ -136,7 +136,7 @@ relinked r parents i =
 unfoldable pub relinkedAt : List ℕ → List ℕ → ℕ → Record
 relinkedAt bytes parents i = relinked (recordAt bytes i) parents i
 
--- a source that passes the checks up to 8, its chains, and the buffers of all trees
+-- a source that passes 1, 26 and 2 to 8, its chains, and the buffers of all trees
 pub record Counted (bytes : List ℕ) (caps : Capacities) (size : ℕ) (first next : List ℕ) (end total : ℕ) : Type 0 where
   pub input : inputChecks bytes caps ≡ Passed
   pub trees : treeChecks (netlist bytes) caps ≡ Passed
@@ -144,7 +144,7 @@ pub record Counted (bytes : List ℕ) (caps : Capacities) (size : ℕ) (first ne
   pub records : size ≡ recordCount bytes
   pub buffers : total ≡ fewestInAll (netlist bytes) caps
 
--- a source that passes the checks up to 8, the numbers of its nets, and the buffers of all trees
+-- a source that passes 1, 26 and 2 to 8, the numbers of its nets, and the buffers of all trees
 pub record Sized (bytes : List ℕ) (caps : Capacities) (size : ℕ) (totals : List ℕ) (total : ℕ) : Type 0 where
   pub input : inputChecks bytes caps ≡ Passed
   pub trees : treeChecks (netlist bytes) caps ≡ Passed
@@ -153,7 +153,7 @@ pub record Sized (bytes : List ℕ) (caps : Capacities) (size : ℕ) (totals : L
   pub room : size ≤ length totals
   pub buffers : total ≡ fewestInAll (netlist bytes) caps
 
--- a source that passes the checks up to 9, and the numbers of its nets; `input` and `trees` follow from `maps`
+-- a source that passes 1, 26 and 2 to 9, and the numbers of its nets; `input` and `trees` follow from `maps`
 pub record Mappable (bytes : List ℕ) (caps : Capacities) (size : ℕ) (totals : List ℕ) : Type 0 where
   pub maps : sourceMaps bytes caps ≡ Passed
   pub input : inputChecks bytes caps ≡ Passed

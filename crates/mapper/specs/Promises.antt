@@ -1,5 +1,5 @@
 -- What is promised of the mapper and of the block view, on any bytes, capacities and area.
-use Prim.Native.Nat.{ℕ, _+_, _*_, _<_}
+use Prim.Native.Nat.{ℕ, _+_, _*_, _≤_, _<_}
 use mathlib.Core.Path.{_≡_}
 use mathlib.Core.Bool.{true, false}
 use mathlib.Core.List.{List, []}
@@ -10,6 +10,7 @@ use Rattle.facts.specs.Sums.{count}
 use Rattle.facts.specs.Refusals.{Conditions, Fails, _or_, Each, Exact}
 use Rattle.netlist.specs.declared.Capacities.{Capacities}
 use Rattle.netlist.specs.Kinds.{width, mappedLimit, buffer, isDriver}
+use Rattle.netlist.specs.Capacities.{capacitiesOf, mostInputCapacity}
 use Rattle.netlist.specs.Records.{Netlist, netlist, recordCount, recordAt}
 use Rattle.netlist.specs.Refusals.{InputFails}
 use Rattle.netlist.specs.Bytes.{recs}
@@ -76,6 +77,14 @@ pub record Accepts (bytes : List ℕ) (caps : Capacities) (area : List ℕ) : Ty
 
 abbrev pub AcceptedMaps : Type 0
 AcceptedMaps = (bytes : List ℕ) (caps : Capacities) (area : List ℕ) → mapChecks bytes caps area ≡ Passed → Accepts bytes caps area
+
+-- b decides no more than whether there are trees: what is accepted with some b is accepted with every larger one up to 4,095, with the same numbers and the same bytes
+abbrev pub LargerInputCapacity : Type 0
+LargerInputCapacity =
+    (bytes : List ℕ) (s b c : ℕ) (area : List ℕ) → b ≤ c → c ≤ mostInputCapacity →
+    mapChecks bytes (capacitiesOf s b) area ≡ Passed →
+    (mapAnswer bytes (capacitiesOf s c) area ≡ mapAnswer bytes (capacitiesOf s b) area)
+    × (mapArea bytes (capacitiesOf s c) area ≡ mapArea bytes (capacitiesOf s b) area)
 
 -- on what the mapper wrote the block view of a driver is the records of its tree's buffers
 abbrev pub BlockWritten : Type 0

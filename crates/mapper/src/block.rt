@@ -35,7 +35,7 @@ fn start_of(source: &[u8], capacities: Capacities, n: usize, totals: &[u32], m: 
     n + trees::sum_below(totals, m)
 }
 
-// The block of record d of a source that passes the checks before 10.
+// The block of record d of a source that passes 1, 26 and 2 to 9.
 fn ends_of(source: &[u8], capacities: Capacities, n: usize, totals: &[u32], d: usize) -> Ends
     requires { ⌜ Mappable (now source) capacities n (now totals) ⌝ }
     ensures { λ r. ⌜ r ≡ blockEnds (now (source .entry)) capacities d ⌝ }
@@ -69,7 +69,7 @@ fn counted_ends(
     ends_of(source, capacities, n, totals, d)
 }
 
-// Check 8 of a source that passes those before it, and the block of record d.
+// Check 8 of a source that passes 1, 26 and 2 to 7, and the block of record d.
 fn source_ends(source: &[u8], capacities: Capacities, d: usize) -> Ends
     requires { ⌜ inputChecks (now source) capacities ≡ Checked.Passed ⌝ }
     ensures { λ r. ⌜ r ≡ blockEnds (now (source .entry)) capacities d ⌝ }

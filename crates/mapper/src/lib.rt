@@ -117,7 +117,7 @@ fn map_trees(
     accept(source, n, total as u32)
 }
 
-// Checks 8 to 10 of a source that passes those before 8, and the mapping, in arrays long enough for its chains.
+// Checks 8 to 10 of a source that passes 1, 26 and 2 to 7, and the mapping, in arrays long enough for its chains.
 fn map_with(
     source: &[u8],
     capacities: Capacities,
@@ -155,7 +155,7 @@ fn map_with(
     }
 }
 
-// Checks 8 to 10 of a source that passes those before 8, and the mapping. A source of few records takes short arrays, which are sooner cleared.
+// Checks 8 to 10 of a source that passes 1, 26 and 2 to 7, and the mapping. A source of few records takes short arrays, which are sooner cleared.
 fn map_source(source: &[u8], capacities: Capacities, area: &mut [u8]) -> Mapping
     requires { ⌜ inputChecks (now source) capacities ≡ Checked.Passed ⌝ }
     ensures { λ r. ⌜ r ≡ mapAnswer (now (source .entry)) capacities (now (area .entry)) ⌝ }

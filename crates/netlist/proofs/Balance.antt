@@ -9,20 +9,20 @@ use Rattle.facts.proofs.Reflect.{both}
 use Rattle.netlist.specs.Kinds.{input, and, majority, buffer, arity, isGate}
 use Rattle.netlist.specs.Records.{Netlist, fanin, feeds}
 use Rattle.netlist.specs.declared.Capacities.{Capacities}
-use Rattle.netlist.specs.Capacities.{gateCapacity, inputLimit, capacityOf, Allowed}
+use Rattle.netlist.specs.Capacities.{gateCapacity, mostInputCapacity, capacityOf, Allowed}
 use Rattle.netlist.specs.Balance.{Named, Balanced, ProperlyBranched}
 
--- no record may feed fewer slots than a gate, or more than the largest input
+-- no record may feed fewer slots than a gate, or more than any input may
 module _ (caps : Capacities) (kind : ℕ) (a : Allowed caps) where
-  between : (b i : Bool) → let c = cond b (caps .buffer) (cond i (caps .input) gateCapacity) in (gateCapacity ≤ c) × (c ≤ inputLimit)
+  between : (b i : Bool) → let c = cond b (caps .buffer) (cond i (caps .input) gateCapacity) in (gateCapacity ≤ c) × (c ≤ mostInputCapacity)
   between true i = (omega (arith, a .low), omega (arith, a .high))
-  between false true = (a .some, a .most)
+  between false true = (a .inputLow, a .inputHigh)
   between false false = (omega arith, omega arith)
 
   pub capacity-least : gateCapacity ≤ capacityOf caps kind
   capacity-least = between (eqb kind buffer) (eqb kind input) .0
 
-  pub capacity-most : capacityOf caps kind ≤ inputLimit
+  pub capacity-most : capacityOf caps kind ≤ mostInputCapacity
   capacity-most = between (eqb kind buffer) (eqb kind input) .1
 
   -- so one slot may be fed in any case

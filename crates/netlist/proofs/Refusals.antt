@@ -18,24 +18,21 @@ use Rattle.facts.proofs.Refusals.{InRow, UpTo, After, Within, rows-before, one-
 use Rattle.netlist.specs.declared.Capacities.{Capacities}
 use Rattle.netlist.specs.declared.Record.{Record}
 use Rattle.netlist.specs.Kinds.{width, slots, unused, sourceLimit, topLevel, arity, input, output, invertible}
-use Rattle.netlist.specs.Capacities.{inputLimit}
+use Rattle.netlist.specs.Capacities.{mostInputCapacity}
 use Rattle.netlist.specs.Records.{Netlist, netlist, recordCount, slot, depth}
-use Rattle.netlist.specs.Checks.{badCapacity, badInputCapacity, badInversion, badSlot, badSlots, notBelow, misplaced, badLevel, capacityCheck, capacityChecks, sizeChecks, structureAt, recordChecks, sourceChecks, structureChecks, inputChecks}
+use Rattle.netlist.specs.Checks.{outside, badInversion, badSlot, badSlots, notBelow, misplaced, badLevel, capacityCheck, capacityChecks, sizeChecks, structureAt, recordChecks, sourceChecks, structureChecks, inputChecks}
 use Rattle.netlist.proofs.Checks.{arity-slots}
-use Rattle.netlist.specs.Refusals.{BadCapacity, BadInputCapacity, CapacityFails, Ragged, TooMany, BadInversion, BadSlots, Misplaced, BadLevel, SizeFails, StructureFails, RecordFails, SourceFails, StructuresFail, InputFails, SourceExact, StructureExact, InputExact}
+use Rattle.netlist.specs.Refusals.{Outside, BadCapacity, BadInputCapacity, CapacityFails, Ragged, TooMany, BadInversion, BadSlots, Misplaced, BadLevel, SizeFails, StructureFails, RecordFails, SourceFails, StructuresFail, InputFails, SourceExact, StructureExact, InputExact}
 
-capacity-is : (s : ℕ) → (badCapacity s ≡ true) ↔ BadCapacity s
-capacity-is s = either-is (less s 2) (less 4 s)
+outside-is : (least most x : ℕ) → (outside least most x ≡ true) ↔ Outside least most x
+outside-is least most x = either-is (less x least) (less most x)
 
 pub capacity-first : (s : ℕ) → First (Fails 1 0 (BadCapacity s)) (capacityCheck s)
-capacity-first s = first-check 1 0 (capacity-is s)
-
-input-capacity-is : (b : ℕ) → (badInputCapacity b ≡ true) ↔ BadInputCapacity b
-input-capacity-is b = either-is (less b 1) (less inputLimit b)
+capacity-first s = first-check 1 0 (outside-is 2 4 s)
 
 -- 1 and 26 stand in the table's first two rows
-pub capacity-rows : (caps : Capacities) (n p : ℕ) → CapacityFails caps n p → (rowOf 0 < rowOf n) × (rowOf n ≤ rowOf 26)
-capacity-rows caps n p =
+pub capacities-rows : (caps : Capacities) (n p : ℕ) → CapacityFails caps n p → (rowOf 0 < rowOf n) × (rowOf n ≤ rowOf 26)
+capacities-rows caps n p =
     ⊎-elim
     (λ f. omega (arith, one-row 1 0 (BadCapacity (caps .buffer)) n p f))
     (λ f. omega (arith, one-row 26 0 (BadInputCapacity (caps .input)) n p f))
@@ -45,7 +42,7 @@ capacities-first caps =
     first-then
     (rows-before (rowOf 1) (λ n p f. omega (arith, one-row 1 0 (BadCapacity (caps .buffer)) n p f)) (λ n p f. omega (arith, one-row 26 0 (BadInputCapacity (caps .input)) n p f)))
     (capacity-first (caps .buffer))
-    (first-check 26 0 (input-capacity-is (caps .input)))
+    (first-check 26 0 (outside-is 1 mostInputCapacity (caps .input)))
 
 inversion-is : (r : Record) → (badInversion r ≡ true) ↔ BadInversion r
 inversion-is r = iff-trans (most (2 ^ invertible (r .kind)) (r .inversion)) (bit-from (invertible (r .kind)) (r .inversion))
@@ -136,12 +133,12 @@ structure-rows bytes = all-rows bytes (structureAt (netlist bytes)) (StructureFa
 -- and those of 1, 26 and 2 to 7 in the rows up to that of 7
 pub input-rows : (bytes : List ℕ) (caps : Capacities) → UpTo (rowOf 7) (InputFails bytes caps)
 input-rows bytes caps n p =
-    ⊎-elim (λ f. omega (arith, capacity-rows caps n p f)) (λ f. source-rows bytes n p f .1)
+    ⊎-elim (λ f. omega (arith, capacities-rows caps n p f)) (λ f. source-rows bytes n p f .1)
 
 -- so no refusal has number 0
 pub input-numbered : (bytes : List ℕ) (caps : Capacities) → After (rowOf 0) (InputFails bytes caps)
 input-numbered bytes caps n p =
-    ⊎-elim (λ f. capacity-rows caps n p f .0) (λ f. omega (arith, source-rows bytes n p f .0))
+    ⊎-elim (λ f. capacities-rows caps n p f .0) (λ f. omega (arith, source-rows bytes n p f .0))
 
 pub source-first : (bytes : List ℕ) → First (SourceFails bytes) (sourceChecks bytes)
 unfolding sourceChecks
@@ -156,7 +153,7 @@ structures-first bytes =
 pub input-first : (bytes : List ℕ) (caps : Capacities) → First (InputFails bytes caps) (inputChecks bytes caps)
 input-first bytes caps =
     first-then
-    (rows-before (rowOf 26) (λ n p f. capacity-rows caps n p f .1) (λ n p f. source-rows bytes n p f .0))
+    (rows-before (rowOf 26) (λ n p f. capacities-rows caps n p f .1) (λ n p f. source-rows bytes n p f .0))
     (capacities-first caps)
     (source-first bytes)
 

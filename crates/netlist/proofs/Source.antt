@@ -102,8 +102,8 @@ capacity-passed s = simp reflect (λ h. h, λ h. h)
 pub capacities-passed : (caps : Capacities) → (capacityChecks caps ≡ Passed) ↔ Allowed caps
 capacities-passed caps =
     simp reflect (
-      λ h. record { low = h .0 .0; high = h .0 .1; some = h .1 .0; most = h .1 .1 },
-      λ a. ((a .low, a .high), (a .some, a .most)),
+      λ h. record { low = h .0 .0; high = h .0 .1; inputLow = h .1 .0; inputHigh = h .1 .1 },
+      λ a. ((a .low, a .high), (a .inputLow, a .inputHigh)),
     )
 
 pub unlevelled-passed : (bytes : List ℕ) (s : ℕ) → ((capacityCheck s andThen structureChecks bytes) ≡ Passed) ↔ Unlevelled bytes s

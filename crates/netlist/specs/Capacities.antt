@@ -13,11 +13,11 @@ capacitiesOf s b = record { buffer = s; input = b }
 abbrev pub gateCapacity : ℕ
 gateCapacity = 1
 
--- the most slots that an input may be given
-abbrev pub inputLimit : ℕ
-inputLimit = 4095
+-- the largest capacity that an input may be given
+abbrev pub mostInputCapacity : ℕ
+mostInputCapacity = 4095
 
--- the most slots that a record of a kind may feed
+-- the most slots that a record of a kind may feed; no used slot names an output, so what an output has does not matter
 abbrev pub capacityOf : Capacities → ℕ → ℕ
 capacityOf caps kind = cond (eqb kind buffer) (caps .buffer) (cond (eqb kind input) (caps .input) gateCapacity)
 
@@ -25,5 +25,5 @@ capacityOf caps kind = cond (eqb kind buffer) (caps .buffer) (cond (eqb kind inp
 pub record Allowed (caps : Capacities) : Type 0 where
   pub low : 2 ≤ caps .buffer
   pub high : caps .buffer ≤ 4
-  pub some : 1 ≤ caps .input
-  pub most : caps .input ≤ inputLimit
+  pub inputLow : 1 ≤ caps .input
+  pub inputHigh : caps .input ≤ mostInputCapacity

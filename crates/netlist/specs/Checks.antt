@@ -10,16 +10,20 @@ use Rattle.facts.specs.Sums.{any}
 use Rattle.netlist.specs.declared.Capacities.{Capacities}
 use Rattle.netlist.specs.declared.Record.{Record}
 use Rattle.netlist.specs.Kinds.{width, slots, unused, topLevel, sourceLimit, input, output, arity, invertible}
-use Rattle.netlist.specs.Capacities.{inputLimit}
+use Rattle.netlist.specs.Capacities.{mostInputCapacity}
 use Rattle.netlist.specs.Records.{Netlist, netlist, recordCount, slot, depth}
+
+-- a number below the least or above the most
+abbrev pub outside : ℕ → ℕ → ℕ → Bool
+outside least most x = ltb x least || ltb most x
 
 -- 1: no capacity of a buffer
 abbrev pub badCapacity : ℕ → Bool
-badCapacity s = ltb s 2 || ltb 4 s
+badCapacity s = outside 2 4 s
 
 -- 26: no capacity of an input
 abbrev pub badInputCapacity : ℕ → Bool
-badInputCapacity b = ltb b 1 || ltb inputLimit b
+badInputCapacity b = outside 1 mostInputCapacity b
 
 -- 2: the length is no multiple of a record's
 abbrev pub ragged : List ℕ → Bool

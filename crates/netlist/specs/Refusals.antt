@@ -8,17 +8,21 @@ use Rattle.facts.specs.Refusals.{Conditions, Fails, _or_, Each, Exact}
 use Rattle.netlist.specs.declared.Capacities.{Capacities}
 use Rattle.netlist.specs.declared.Record.{Record}
 use Rattle.netlist.specs.Kinds.{width, slots, unused, topLevel, sourceLimit, input, output, arity, invertible}
-use Rattle.netlist.specs.Capacities.{inputLimit}
+use Rattle.netlist.specs.Capacities.{mostInputCapacity}
 use Rattle.netlist.specs.Records.{Netlist, netlist, recordCount, slot, depth}
 use Rattle.netlist.specs.Checks.{sourceChecks, structureChecks, inputChecks}
 
+-- a number below the least or above the most
+abbrev pub Outside : ℕ → ℕ → ℕ → Type 0
+Outside least most x = (x < least) ⊎ (most < x)
+
 -- 1: a buffer's capacity is not 2, 3 or 4
 abbrev pub BadCapacity : ℕ → Type 0
-BadCapacity s = (s < 2) ⊎ (4 < s)
+BadCapacity s = Outside 2 4 s
 
 -- 26: an input's capacity is 0 or above 4,095
 abbrev pub BadInputCapacity : ℕ → Type 0
-BadInputCapacity b = (b < 1) ⊎ (inputLimit < b)
+BadInputCapacity b = Outside 1 mostInputCapacity b
 
 -- 2: the length is no multiple of 10
 abbrev pub Ragged : List ℕ → Type 0

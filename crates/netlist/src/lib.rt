@@ -1,4 +1,4 @@
-// Records of ten bytes, the source reader (checks 1, 26 and 2 to 7) and the record view.
+// Records of ten bytes, capacities (checks 1 and 26), the source reader (2 to 7) and the record view.
 ghost use mathlib.Core.Path.{_≡_};
 ghost use lib.Dec.{leb};
 ghost use Rattle.netlist.specs.Kinds.{among, isGate, isDriver};
@@ -7,7 +7,7 @@ ghost use Rattle.netlist.specs.Records.{recordAt, recordCount, netlist};
 ghost use Rattle.netlist.specs.Records;
 ghost use Rattle.netlist.specs.Counts.{countKind, countOf, gates};
 ghost use Rattle.netlist.specs.Capacities.{capacityOf, Allowed};
-ghost use Rattle.netlist.specs.Checks.{capacityCheck, inputCapacityCheck, capacityChecks, sourceChecks, inputChecks};
+ghost use Rattle.netlist.specs.Checks.{outside, capacityCheck, inputCapacityCheck, capacityChecks, sourceChecks, inputChecks};
 ghost use Rattle.netlist.specs.View.{viewOf};
 use facts::Checked;
 
@@ -241,11 +241,21 @@ pub fn check_source(bytes: &[u8]) -> Checked
     }
 }
 
+// Whether a number is below the least or above the most.
+fn is_outside(number: u32, least: u32, most: u32) -> bool
+    ensures { λ b. ⌜ b ≡ outside least most number ⌝ }
+{
+    if number < least {
+        return true;
+    }
+    most < number
+}
+
 // Check 1 of a buffer's capacity.
 pub fn check_capacity(capacity: u32) -> Checked
     ensures { λ a. ⌜ a ≡ capacityCheck capacity ⌝ }
 {
-    if source_reader::is_outside(capacity, LEAST_CAPACITY, MOST_CAPACITY) {
+    if is_outside(capacity, LEAST_CAPACITY, MOST_CAPACITY) {
         return Checked::Refused(1, 0);
     }
     Checked::Passed
@@ -255,7 +265,7 @@ pub fn check_capacity(capacity: u32) -> Checked
 fn check_input_capacity(capacity: u32) -> Checked
     ensures { λ a. ⌜ a ≡ inputCapacityCheck capacity ⌝ }
 {
-    if source_reader::is_outside(capacity, LEAST_INPUT_CAPACITY, MOST_INPUT_CAPACITY) {
+    if is_outside(capacity, LEAST_INPUT_CAPACITY, MOST_INPUT_CAPACITY) {
         return Checked::Refused(26, 0);
     }
     Checked::Passed
@@ -265,8 +275,8 @@ fn check_input_capacity(capacity: u32) -> Checked
 pub fn check_capacities(capacities: Capacities) -> Checked
     ensures { λ a. ⌜ a ≡ capacityChecks capacities ⌝ }
 {
-    let buffers = check_capacity(capacities.buffer);
-    match buffers {
+    let checked = check_capacity(capacities.buffer);
+    match checked {
         Checked::Passed => check_input_capacity(capacities.input),
         Checked::Refused(number, place) => Checked::Refused(number, place),
     }

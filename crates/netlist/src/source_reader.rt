@@ -1,8 +1,8 @@
-// The source reader: checks 2 to 7, and what 1 and 26 test.
+// The source reader: checks 2 to 7.
 ghost use mathlib.Core.Path.{_≡_};
 ghost use mathlib.Core.Bool.{false, cond, _||_};
 ghost use Prim.Native.Nat.{_^_, _<_};
-ghost use lib.Dec.{ltb, eqb};
+ghost use lib.Dec.{eqb};
 ghost use Rattle.facts.specs.Checks.{_andThen_, scan};
 ghost use Rattle.facts.specs.Sums.{any};
 ghost use Rattle.netlist.specs.Kinds.{slots, output, invertible};
@@ -253,14 +253,4 @@ pub fn check_size(bytes: &[u8]) -> Checked
         return Checked::Refused(3, 0);
     }
     Checked::Passed
-}
-
-// Whether a number is too small or too large.
-pub(crate) fn is_outside(number: u32, least: u32, most: u32) -> bool
-    ensures { λ b. ⌜ b ≡ (ltb number least || ltb most number) ⌝ }
-{
-    if number < least {
-        return true;
-    }
-    most < number
 }

@@ -250,7 +250,7 @@ counting n caps m total z e f = go (treesBelow n caps m) (sym e ∙ f)
     go Passed g = (refl, cc)
     go (Refused number place) g = let z : _≡_ {A = ℕ} 0 1 = cc in absurd (omega arith)
 
--- what the checks before 8 show
+-- what 1, 26 and 2 to 7 show
 module _ (bytes : List ℕ) (caps : Capacities) (i : inputChecks bytes caps ≡ Passed) where
   pub input-source : IsSource (netlist bytes)
   input-source = input-passed bytes caps i .isSource .isSource

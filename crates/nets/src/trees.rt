@@ -125,7 +125,7 @@ pub fn sum_below(totals: &[u32], m: usize) -> usize
     total
 }
 
-// All nets of a source that passes the checks before 8: its slots are linked, its nets counted, and check 8 made. The row is all zero before and after.
+// All nets of a source that passes 1, 26 and 2 to 7: its slots are linked, its nets counted, and check 8 made. The row is all zero before and after.
 pub fn size_trees(
     source: &[u8],
     capacities: Capacities,

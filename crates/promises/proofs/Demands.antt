@@ -1,6 +1,7 @@
 -- The three demands, from the theorems of the crates below and of this one.
 use Rattle.facts.proofs.Rounding.{rounded-exact}
 use Rattle.netlist.proofs.Refusals.{source-exact, input-exact, structure-exact}
+use Rattle.fanout.proofs.Promises.{net-tree-exactly}
 use Rattle.fanout.proofs.Numbers.{numbers-exactly}
 use Rattle.verifier.proofs.Fewest.{on-net-exactly}
 use Rattle.verifier.proofs.Accepted.{accepted-exactly}
@@ -68,6 +69,7 @@ demand-2 =
       balanced = written-balanced;
       accepted = written-accepted;
       oneNumber = buffers-one-number;
+      trees = net-tree-exactly;
       noTree = net.no-tree-exactly;
       fewest = net.fewest-exactly;
       listed = counts-listed;

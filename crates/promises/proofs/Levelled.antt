@@ -24,7 +24,7 @@ levelled-maps source s b area e some most =
     let copy = levelsArea source s area in
     let made = levels-written source s area e in
     let u = unlevelled-passed source s .0 (then-passed (capacityCheck s andThen structureChecks source) _ .0 e .0) in
-    let allowed : Allowed caps = record { low = u .low; high = u .high; some = some; most = most } in (
+    let allowed : Allowed caps = record { low = u .low; high = u .high; inputLow = some; inputHigh = most } in (
       then-passed (capacityChecks caps) (sourceChecks copy) .1 (capacities-passed caps .1 allowed, source-passed copy .1 (made .isSource)),
       scan-passed (treeCheck (netlist copy) caps) (recordCount copy) .1
           (λ d l.

@@ -1,4 +1,4 @@
--- What the mapper makes of a source that passes the checks before 10 is legal, with the fewest buffers of all nets.
+-- What the mapper makes of a source that passes 1, 26 and 2 to 9 is legal, with the fewest buffers of all nets.
 use Prim.Native.Nat.{ℕ, _≤_, _<_}
 use native.Mathlib.Decide.{decLt}
 use native.Mathlib.Omega.{arith}

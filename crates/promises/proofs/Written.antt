@@ -38,7 +38,7 @@ use Rattle.verifier.proofs.Least.{least-everywhere}
 use Rattle.promises.specs.Written.{Maps, written, WrittenLegal, WrittenBalanced, WrittenAccepted, WrittenLeast, BuffersOneNumber, BeyondKept, MapsWhereAccepted}
 use Rattle.promises.proofs.Ready.{mapped-legal, mapped-fewest}
 
--- what passing the checks before 10 gives
+-- what passing 1, 26 and 2 to 9 gives
 pub record Mapped (source : List ℕ) (caps : Capacities) : Type 0 where
   pub isSource : Source source
   pub ready : Ready (netlist source) caps

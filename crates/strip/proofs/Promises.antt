@@ -18,7 +18,7 @@ use Rattle.facts.proofs.Refusals.{Numbered, exact, row-positive, rows-before, o
 use Rattle.netlist.specs.declared.Capacities.{Capacities}
 use Rattle.netlist.specs.Records.{netlist, recordCount}
 use Rattle.netlist.specs.Checks.{capacityChecks}
-use Rattle.netlist.proofs.Refusals.{capacity-rows, capacities-first}
+use Rattle.netlist.proofs.Refusals.{capacities-rows, capacities-first}
 use Rattle.netlist.proofs.Source.{capacities-passed}
 use Rattle.verifier.specs.Checks.{verifyChecks}
 use Rattle.verifier.proofs.Accepted.{checks-passed, accepted-exactly}
@@ -57,7 +57,7 @@ strip-first : (caps : Capacities) (mapped area : List ℕ) → First (StripFails
 unfolding stripChecks strippingChecks
 strip-first caps mapped area =
     first-then
-    (rows-before (rowOf 26) (λ n p f. capacity-rows caps n p f .1)
+    (rows-before (rowOf 26) (λ n p f. capacities-rows caps n p f .1)
     (λ n p. ⊎-elim (λ f. omega (arith, one-row 24 0 _ n p f)) (λ f. omega (arith, one-row 25 0 _ n p f))))
     (capacities-first caps)
     (first-after
@@ -71,7 +71,7 @@ strip-exact caps mapped area = exact (strip-first caps mapped area)
 -- no refusal has number 0
 pub strip-numbered : (caps : Capacities) (mapped area : List ℕ) → Numbered (StripFails caps mapped area)
 strip-numbered caps mapped area n p =
-    ⊎-elim (λ f. row-positive n (rowOf 0) (capacity-rows caps n p f .0)) (⊎-elim (λ f. omega (arith, f .0)) (λ f. omega (arith, f .0)))
+    ⊎-elim (λ f. row-positive n (rowOf 0) (capacities-rows caps n p f .0)) (⊎-elim (λ f. omega (arith, f .0)) (λ f. omega (arith, f .0)))
 
 -- what passing gives, and what gives it
 module _ (caps : Capacities) (mapped area : List ℕ) where

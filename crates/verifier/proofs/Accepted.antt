@@ -103,7 +103,7 @@ checks-passed source caps mapped = (
   λ e.
       let f = simp (reflect, source-passed) at e in
       record {
-        allowed = record { low = f .0 .0 .0 .0; high = f .0 .0 .0 .1; some = f .0 .0 .1 .0; most = f .0 .0 .1 .1 };
+        allowed = record { low = f .0 .0 .0 .0; high = f .0 .0 .0 .1; inputLow = f .0 .0 .1 .0; inputHigh = f .0 .0 .1 .1 };
         isSource = f .0 .1;
         whole = f .1 .0 .0;
         fits = f .1 .0 .1 .1;
@@ -111,7 +111,7 @@ checks-passed source caps mapped = (
       },
   λ a.
       simp (reflect, source-passed, legal-exactly (netlist source) caps (netlist mapped) (a .legal .whole)) (
-        (((a .allowed .low, a .allowed .high), (a .allowed .some, a .allowed .most)), a .isSource),
+        (((a .allowed .low, a .allowed .high), (a .allowed .inputLow, a .allowed .inputHigh)), a .isSource),
         ((a .whole, (a .legal .whole, a .fits)), a .legal),
       ),
 )

@@ -314,15 +314,13 @@ module _ (n m : Netlist) (records size : ℕ) (sized : Sized n m records size) (
 -- one record more by the counts
 module _ (caps : Capacities) (m : Netlist) (counts : List ℕ) (size k : ℕ) (i : Scanning (countCheck caps m counts) size k) (l : k < size)
     (f : ℕ) (b : Bool) (g : f ≡ getD counts k 0) (h : b ≡ leb f (capacityOf caps (m .at k .kind))) where
-  most : ℕ
+  abbrev most : ℕ
   most = capacityOf caps (m .at k .kind)
 
   pub count-more : not b ≡ false → Scanning (countCheck caps m counts) size (k + 1)
-  unfolding most
   count-more d = scan-more (countCheck caps m counts) size k Passed i l (sym (rw (← g, le-ltb most f (leb-true f most (sym h ∙ not-false b d))))) refl
 
   pub count-stop : not b ≡ true → Refused 17 k ≡ scan (countCheck caps m counts) 0 size
-  unfolding most
   count-stop d = scan-stop (countCheck caps m counts) size k 17 k (Refused 17 k) i l (sym (rw (← g, lt-ltb most f (leb-false f most (sym h ∙ not-true b d))))) refl
 
 -- the largest count of the records from `from` on, below k
@@ -349,26 +347,26 @@ module _ (counts : List ℕ) (from : ℕ) where
     pub most-end : (to : ℕ) → to ≤ k → FedAtMost counts from to most
     most-end to l = record { bound = λ j a b. i .bound j a (omega arith) }
 
--- where the buffers feed no more than they may, the drivers decide
-module _ (caps : Capacities) (m : Netlist) (n size : ℕ) (counts : List ℕ) (buffers : ℕ) (w : Walkable n m) (s : (n ≤ size) × (size ≡ m .size))
-    (b : FedAtMost counts n size buffers) (h : buffers ≤ caps .buffer) where
-  pub drivers-decide : (a : Checked) → a ≡ scan (countCheck caps m counts) 0 n → a ≡ scan (countCheck caps m counts) 0 size
-  drivers-decide Passed e = sym (scan-passed (countCheck caps m counts) size .1 each)
+-- where the buffers feed no more than they may, the records before them are enough
+module _ (caps : Capacities) (m : Netlist) (n size : ℕ) (counts : List ℕ) (buffers : ℕ) (w : Walkable n m) (sizes : (n ≤ size) × (size ≡ m .size))
+    (few : FedAtMost counts n size buffers) (h : buffers ≤ caps .buffer) where
+  pub source-enough : (a : Checked) → a ≡ scan (countCheck caps m counts) 0 n → a ≡ scan (countCheck caps m counts) 0 size
+  source-enough Passed e = sym (scan-passed (countCheck caps m counts) size .1 each)
     where
       each : (k : ℕ) → k < size → countCheck caps m counts k ≡ Passed
       each k l = elim (decLt k n) [
         | yes q ↦ scan-passed (countCheck caps m counts) n .0 (sym e) k q
         | no q ↦ (
             let r : n ≤ k = omega arith in
-            rw (w .buffers k r (omega (arith, s .1)), le-ltb (caps .buffer) (getD counts k 0) (omega (arith, b .bound k r l))))
+            rw (w .buffers k r (omega (arith, sizes .1)), le-ltb (caps .buffer) (getD counts k 0) (omega (arith, few .bound k r l))))
       ]
-  drivers-decide (Refused number place) e = sym (scan-early (countCheck caps m counts) n size (s .0) number place (sym e))
+  source-enough (Refused number place) e = sym (scan-early (countCheck caps m counts) n size (sizes .0) number place (sym e))
 
-  -- all pass where no driver feeds more than a gate may
-  pub drivers-few : (drivers : ℕ) → Allowed caps → FedAtMost counts 0 n drivers → drivers ≤ gateCapacity →
+  -- all pass where none of these feeds more than a gate may
+  pub source-few : (drivers : ℕ) → Allowed caps → FedAtMost counts 0 n drivers → drivers ≤ gateCapacity →
       Passed ≡ scan (countCheck caps m counts) 0 size
-  drivers-few drivers a d g =
-      drivers-decide Passed
+  source-few drivers a d g =
+      source-enough Passed
       (sym
       (scan-passed (countCheck caps m counts) n .1
       (λ k l.

@@ -13,12 +13,12 @@ use Rattle.netlist.specs.declared.Capacities.{Capacities}
 use Rattle.netlist.specs.declared.Record.{Record}
 use Rattle.netlist.specs.Kinds.{arity}
 use Rattle.netlist.specs.Records.{Netlist, slot}
-use Rattle.netlist.specs.Capacities.{inputLimit, capacityOf}
+use Rattle.netlist.specs.Capacities.{mostInputCapacity, capacityOf}
 use Rattle.verifier.specs.Checks.{noBuffer, badName, notOneLower, slotChecks}
 
 -- where a count stops: one above the largest capacity, an input's
 abbrev pub stop : ℕ
-stop = suc inputLimit
+stop = suc mostInputCapacity
 
 -- one more, up to the stop
 abbrev pub more : ℕ → ℕ

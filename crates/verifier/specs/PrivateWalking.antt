@@ -13,7 +13,7 @@ use Rattle.netlist.specs.Source.{IsSource}
 use Rattle.netlist.specs.Balance.{Named, Balanced}
 use Rattle.verifier.specs.Trace.{driver}
 
--- what the checks up to 11 leave: a source of so many records, and a mapped netlist of a size that fits
+-- what 1, 26, 2 to 7 and 11 leave: a source of so many records, and a mapped netlist of a size that fits
 pub record Sized (n m : Netlist) (first all : ℕ) : Type 0 where
   pub source : IsSource n
   pub records : first ≡ n .size

@@ -66,7 +66,7 @@ fn first_overfed(capacities: Capacities, mapped: &[u8], counts: &[u16], m: u32) 
     Checked::Passed
 }
 
-// Check 17 of the first m records by the largest counts, every driver held to a gate's capacity. Where a driver feeds more, each is held to its kind's; which record comes first is asked of all only where a buffer feeds more than it may.
+// Check 17 of the first m records, of which those from n on are buffers. Where no buffer feeds too many slots, the first n records are enough; they pass at once if none feeds more than a gate may.
 pub(crate) fn check_counts(
     capacities: Capacities,
     mapped: &[u8],

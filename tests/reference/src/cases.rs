@@ -31,7 +31,7 @@ impl Subject {
     }
 }
 
-/// A sound subject of at most `most` records, whose inputs feed at most so many slots.
+/// A sound subject of at most `most` records, made for inputs that may feed so many slots.
 pub fn sound_with(random: &mut Random, most: usize, input: u32) -> Subject {
     let capacities = Capacities::new(random.between(2, 4) as u32, input);
     let levels = random.pick(&ALL_LEVELS);
@@ -84,7 +84,7 @@ pub fn sound(random: &mut Random, most: usize) -> Subject {
     sound_with(random, most, input)
 }
 
-/// The subject with another capacity of an input: once in 24 times one that there is not, once in 6
+/// The subject with another capacity of an input: once in 24 times one outside 1 to 4,095, once in 6
 /// times one near its own, or the smallest or largest.
 pub fn other_input(random: &mut Random, mut subject: Subject) -> Subject {
     let own = subject.own.input;

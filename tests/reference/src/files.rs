@@ -42,7 +42,7 @@ fn longest_source(random: &mut Random) -> (Subject, Vec<u8>) {
         let extra = random.between(1, 2 * WIDTH);
         subject.source.extend(random.bytes(extra));
     }
-    (subject, mapped)
+    (other_input(random, subject), mapped)
 }
 
 /// A mapped netlist of about 60,000 bytes: two long chains or the worked case, the rest buffers
@@ -61,6 +61,7 @@ fn longest_mapped(random: &mut Random) -> (Subject, Vec<u8>) {
         let at = random.below(mapped.len());
         mapped[at] ^= 1 << random.below(8);
     }
+    let subject = other_input(random, subject);
     (damaged(random, subject), mapped)
 }
 

@@ -221,7 +221,7 @@ pub fn three_far(drivers: usize) -> Vec<Record> {
 }
 
 /// The records with the last two replaced: an input, and a gate one level above it that names it
-/// twice, so that its net has no tree.
+/// twice, so that its net has no tree where inputs feed one slot.
 pub fn treeless_at_last(records: &[Record]) -> Vec<Record> {
     let mut records = records[..records.len() - 2].to_vec();
     let last = records.len() as u16;

@@ -31,14 +31,15 @@ fn fast_is_plain() {
                 assert_eq!(plain.areas, call.areas);
             }
             *met.entry(plain.answer[0]).or_default() += 1;
-            if let Some(reached) = reached(&call, &plain) {
+            for reached in reached(&call, &plain) {
                 *shown.entry(reached).or_default() += 1;
             }
         }
     }
     let often = |reached: &Reached| shown.get(reached).is_some_and(|&met| met > 50);
-    let rare: Vec<Reached> = ALL_REACHED.into_iter().filter(|reached| !often(reached)).collect();
-    assert_eq!(rare, [Reached::Crowded], "met: {shown:?}");
+    let all = ALL_REACHED.iter().filter(|&&reached| reached != Reached::Crowded);
+    let rare: Vec<&Reached> = all.filter(|reached| !often(reached)).collect();
+    assert!(rare.is_empty(), "rare: {rare:?}, met: {shown:?}");
     let missing: Vec<u32> = (0..=26).filter(|number| !met.contains_key(number)).collect();
     assert_eq!(missing, [3, 9], "met: {met:?}");
 }
@@ -53,7 +54,7 @@ fn fast_is_plain_at_the_limits() {
             let call = any_call(&mut random, &subject, name);
             let plain = perform(&PLAIN, &call);
             assert!(perform(&FAST, &call) == plain, "seed 8, index {index}, {name:?}");
-            if let Some(reached) = reached(&call, &plain) {
+            for reached in reached(&call, &plain) {
                 *shown.entry(reached).or_default() += 1;
             }
         }
@@ -93,7 +94,8 @@ fn listed_counts_are_single_counts() {
     assert!(compared > 5_000 && treeless > 500, "{compared} compared, {treeless} without a tree");
 }
 
-/// Shares of up to 60 gates and 60 buffers, exact halves of both kinds among them.
+/// Shares of up to 60 gates and 60 buffers, exact halves of both kinds among them. b makes no
+/// difference: no input has two sinks.
 #[test]
 fn shares_agree() {
     let mut halves = [0, 0];

@@ -1,14 +1,15 @@
-//! The test data in the repository: both implementations answer every case as it says.
+//! The test data in the repository: both implementations answer every case of the reader and of the
+//! calls as it says, and the views, of which there is one implementation, every case of theirs.
 
 use std::fs;
 use std::path::PathBuf;
 
 use reference::calls::answer_bytes;
 use reference::capacities::Capacities;
+use reference::cases::FILL;
 use reference::engine::{perform, Call, Name, FAST, PLAIN};
-use reference::views::block_view;
-
-const FILL: u8 = 0xA5;
+use reference::source::check_source;
+use reference::views::{block_view, record_view};
 
 fn number(four: &[u8]) -> u32 {
     u32::from_le_bytes([four[0], four[1], four[2], four[3]])
@@ -105,6 +106,37 @@ fn every_call() {
                 assert!(found == expected, "{family}, case {k}: {:?}", outcome.answer);
             }
         }
+    }
+}
+
+/// Checks 2 to 7, alone and as the count makes them: it refuses a record that there is not by 20, after
+/// them.
+#[test]
+fn reader() {
+    for (k, case) in cases("reader", 2).iter().enumerate() {
+        let [source, expected] = &case[..] else {
+            panic!("case {k}");
+        };
+        let alone = check_source(source).err().map_or([0, 0], |by| [by.number, by.place]);
+        assert_eq!(&answer_bytes(&alone), expected, "case {k}");
+        for engine in [PLAIN, FAST] {
+            let found = match (engine.count)(source, Capacities::new(2, 1), u32::MAX) {
+                [20, ..] => [0, 0],
+                [number, place, _] => [number, place],
+            };
+            assert_eq!(&answer_bytes(&found), expected, "case {k}");
+        }
+    }
+}
+
+#[test]
+fn record_views() {
+    for (k, case) in cases("record_view", 4).iter().enumerate() {
+        let [source, mapped, given, part] = &case[..] else {
+            panic!("case {k}");
+        };
+        let found = record_view(source, mapped, numbers(given)[0] as usize);
+        assert_eq!(found, part, "case {k}");
     }
 }
 

@@ -1,7 +1,7 @@
 //! Least levels: the worked case, a search over all assignments, the limits and the refusals.
 
 use reference::capacities::Capacities;
-use reference::cases::{any_call, damaged, limit, sound, unbranched};
+use reference::cases::{any_call, damaged, limit, sound, unbranched, FILL};
 use reference::engine::{perform, Name, Outcome, FAST, PLAIN};
 use reference::generator::{source, steep, Levels};
 use reference::levels::{least_levels, passes};
@@ -9,8 +9,6 @@ use reference::random::Random;
 use reference::record::*;
 use reference::shapes;
 use reference::source::check_unlevelled;
-
-const FILL: u8 = 0xA5;
 
 /// Answer and area of both implementations, over an area that is filled before.
 fn levelled(source: &[u8], s: u32, len: usize) -> ([u32; 2], Vec<u8>) {

@@ -245,16 +245,20 @@ fn lines_and_totals() {
 }
 
 /// What the files by seed promise: every number of the verifier, and each of the three files
-/// missing, unreadable, empty, as long as it may be, and longer (a source: than what is read).
+/// missing, unreadable, empty, as long as it may be, and longer (a source: than what is read); long
+/// netlists with other b than 1.
 #[test]
 fn files_meet_every_number() {
     let mut met: BTreeMap<String, usize> = BTreeMap::new();
     let mut sorts: BTreeSet<(&str, usize)> = BTreeSet::new();
+    let mut long = 0;
     for index in 0..2000 {
         let files = files_by_seed(1, index);
         let text = sheet(files[0].bytes(), files[1].bytes(), files[2].bytes());
         let first = text.split(' ').next().unwrap_or("");
         *met.entry(first.to_string()).or_default() += 1;
+        let b = files[0].bytes().get(1..3);
+        long += usize::from(files[2].bytes().len() > 40_000 && b.is_some_and(|b| b != [1, 0]));
         for (k, file) in files.iter().enumerate() {
             let sort = match file {
                 File::Missing => "missing",
@@ -272,4 +276,5 @@ fn files_meet_every_number() {
         assert!(met.get(&first).is_some_and(|&met| met > 4), "{first}: {met:?}");
     }
     assert_eq!(sorts.len(), 5 * 3, "{sorts:?}");
+    assert!(long > 20, "{long} long netlists with other b than 1");
 }

@@ -5,7 +5,7 @@ use std::collections::BTreeMap;
 
 use reference::capacities::Capacities;
 use reference::cases::{
-    any_call, crowded_call, crowded_input_call, damaged, limit, other_input, sound,
+    any_call, crowded_call, crowded_input_call, damaged, limit, other_input, sound, FILL,
 };
 use reference::engine::{perform, Name, Outcome, FAST, PLAIN};
 use reference::generator::{fanouts, foreign, reverse_buffers, source, Levels, ALL_LEVELS};
@@ -15,13 +15,6 @@ use reference::record::*;
 use reference::shapes;
 use reference::source::check_source;
 use reference::verifier::{trace, verify};
-
-const FILL: u8 = 0xA5;
-
-/// Inputs that do not branch.
-fn one(s: u32) -> Capacities {
-    Capacities::unbranched(s)
-}
 
 /// Answer and area of both implementations, over an area that is filled before.
 fn stripped(s: Capacities, mapped: &[u8], len: usize) -> ([u32; 3], Vec<u8>) {
@@ -63,8 +56,8 @@ fn hold_no_source(s: Capacities, mapped: &[u8]) {
 #[test]
 fn source_of_the_case() {
     let (source, mapped) = (encode(&shapes::worked()), encode(&shapes::worked_mapped()));
-    assert_eq!(stripped(one(2), &mapped, 50), ([0, 0, 5], source.clone()));
-    assert_eq!(stripped(one(2), &mapped, 49), ([25, 0, 0], vec![FILL; 49]));
+    assert_eq!(stripped(Capacities::unbranched(2), &mapped, 50), ([0, 0, 5], source.clone()));
+    assert_eq!(stripped(Capacities::unbranched(2), &mapped, 49), ([25, 0, 0], vec![FILL; 49]));
     for s in 2..=4 {
         for b in [1, 2, 3, 4095] {
             hold_source(Capacities::new(s, b), &mapped, &source);
@@ -191,7 +184,7 @@ fn some_larger_netlists() {
             continue;
         }
         let source = sources(s, mapped).concat();
-        branching += usize::from(sources(one(s.buffer), mapped).is_empty());
+        branching += usize::from(sources(Capacities::unbranched(s.buffer), mapped).is_empty());
         *if source.len() < mapped.len() { &mut buffered } else { &mut plain } += 1;
         reordered +=
             usize::from(mapping(&source, s).is_ok_and(|own| encode(&own.records) != mapped));
@@ -207,15 +200,15 @@ fn some_larger_netlists() {
 #[test]
 fn causes_of_no_source() {
     for (cause, mapped) in shapes::without_source() {
-        assert!(sources(one(2), &mapped).is_empty(), "{cause}");
-        hold_no_source(one(2), &mapped);
+        assert!(sources(Capacities::unbranched(2), &mapped).is_empty(), "{cause}");
+        hold_no_source(Capacities::unbranched(2), &mapped);
     }
-    assert!(hold_search(one(2), &encode(&shapes::worked_mapped())));
-    assert!(hold_search(one(2), &encode(&shapes::two_gates(false))));
+    assert!(hold_search(Capacities::unbranched(2), &encode(&shapes::worked_mapped())));
+    assert!(hold_search(Capacities::unbranched(2), &encode(&shapes::two_gates(false))));
     let mut three = shapes::worked_mapped();
     three.push(Record::buffer(2, 5));
-    assert!(!hold_search(one(2), &encode(&three)));
-    assert!(hold_search(one(3), &encode(&three)));
+    assert!(!hold_search(Capacities::unbranched(2), &encode(&three)));
+    assert!(hold_search(Capacities::unbranched(3), &encode(&three)));
 }
 
 /// What the mapper writes has the source that was mapped.
@@ -239,7 +232,7 @@ fn mapped_and_stripped() {
     }
     assert!(mapped > 1500 && branching > 500, "{mapped} mapped, {branching} branching");
     for s in 2..=4 {
-        let capacities = one(s as u32);
+        let capacities = Capacities::unbranched(s as u32);
         let shapes = [
             shapes::chains(200),
             shapes::wide(300, s),
@@ -305,14 +298,14 @@ fn foreign_netlists() {
 fn falling_chains() {
     for pairs in [1, 14] {
         let source = encode(&shapes::lines(pairs, MAX_LEVEL));
-        let mut records = mapping(&source, one(2)).expect("chains").records;
+        let mut records = mapping(&source, Capacities::unbranched(2)).expect("chains").records;
         reverse_buffers(&mut records, 2 * pairs);
-        hold_source(one(2), &encode(&records), &source);
-        assert_eq!(hold_no_more(one(2), &records, &source), 0);
+        hold_source(Capacities::unbranched(2), &encode(&records), &source);
+        assert_eq!(hold_no_more(Capacities::unbranched(2), &records, &source), 0);
         // The chain's first buffer, now the last record, closes a cycle.
         let last = records.len() - 1;
         records[last].slots[0] = 2 * pairs as u16;
-        hold_no_source(one(2), &encode(&records));
+        hold_no_source(Capacities::unbranched(2), &encode(&records));
     }
 }
 
@@ -351,20 +344,24 @@ fn stripped_by_seed() {
 fn largest_sizes() {
     let inputs = encode(&shapes::inputs(MAX_SOURCE + 1));
     let largest = WIDTH * MAX_SOURCE;
-    hold_source(one(2), &inputs[..largest], &inputs[..largest]);
-    hold_no_source(one(2), &inputs);
+    hold_source(Capacities::unbranched(2), &inputs[..largest], &inputs[..largest]);
+    hold_no_source(Capacities::unbranched(2), &inputs);
     let source = encode(&shapes::worked());
     let full = shapes::padded(&shapes::worked_mapped(), 2, MAX_MAPPED + 1);
-    hold_source(one(2), &encode(&full[..MAX_MAPPED]), &source);
-    hold_no_source(one(2), &encode(&full));
+    hold_source(Capacities::unbranched(2), &encode(&full[..MAX_MAPPED]), &source);
+    hold_no_source(Capacities::unbranched(2), &encode(&full));
     let mut both = shapes::inputs(MAX_SOURCE);
     both.push(Record::buffer(1, 4095));
     let both = shapes::padded(&both, 4, MAX_MAPPED);
-    hold_source(one(4), &encode(&both), &inputs[..largest]);
+    hold_source(Capacities::unbranched(4), &encode(&both), &inputs[..largest]);
     let mut chain = shapes::inputs(1);
     chain.extend((1..=MAX_LEVEL + 1).map(|level| Record::buffer(level, level - 1)));
-    hold_source(one(2), &encode(&chain[..usize::from(MAX_LEVEL) + 1]), &inputs[..WIDTH]);
-    hold_no_source(one(2), &encode(&chain));
+    hold_source(
+        Capacities::unbranched(2),
+        &encode(&chain[..usize::from(MAX_LEVEL) + 1]),
+        &inputs[..WIDTH],
+    );
+    hold_no_source(Capacities::unbranched(2), &encode(&chain));
 }
 
 /// One buffer or one input feeds about 65,536 slots, or 256 and 257.
@@ -373,14 +370,18 @@ fn feeding_does_not_wrap() {
     for index in 0..10 {
         let most = Capacities::new(4, 4095);
         hold_no_source(most, &crowded_input_call(&mut Random::of(23, index)).mapped);
-        hold_no_source(one(4), &crowded_call(&mut Random::of(21, index)).mapped);
+        hold_no_source(Capacities::unbranched(4), &crowded_call(&mut Random::of(21, index)).mapped);
     }
     for fed in [4, 5, 255, 256, 257, 258, 260, 512] {
         let mut records = vec![Record::new(INPUT, 0, 0, &[]), Record::buffer(1, 0)];
         records.resize(2 + fed, Record::buffer(2, 1));
         match fed {
-            4 => hold_source(one(4), &encode(&records), &encode(&shapes::inputs(1))),
-            _ => hold_no_source(one(4), &encode(&records)),
+            4 => hold_source(
+                Capacities::unbranched(4),
+                &encode(&records),
+                &encode(&shapes::inputs(1)),
+            ),
+            _ => hold_no_source(Capacities::unbranched(4), &encode(&records)),
         }
     }
     for fed in [2, 255, 256, 257, 300, 512, 4095] {

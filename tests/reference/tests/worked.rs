@@ -27,16 +27,19 @@ const NETS: [(usize, &[usize], Option<usize>); 12] = [
     (4, &[2, 2, 2, 2, 2], None),
 ];
 
-/// Nets of an input with another b: b, s, distances, fewest buffers.
-const BRANCHING: [(usize, usize, &[usize], Option<usize>); 8] = [
-    (2, 2, &[1, 1], Some(0)),
-    (2, 2, &[1, 1, 1], None),
-    (2, 2, &[2, 2], Some(1)),
-    (2, 2, &[2, 2, 2], Some(2)),
-    (2, 2, &[1, 2], Some(1)),
-    (2, 2, &[2, 3, 3, 3], Some(4)),
-    (2, 4, &[2, 2, 2, 2, 2], Some(2)),
-    (3, 2, &[1, 1, 3], Some(2)),
+/// b, s, distances, fewest buffers of an input, fewest buffers of a gate, which feeds one slot.
+type Branching = (usize, usize, &'static [usize], Option<usize>, Option<usize>);
+
+/// Nets of an input with another b, and of a gate with the same sinks.
+const BRANCHING: [Branching; 8] = [
+    (2, 2, &[1, 1], Some(0), None),
+    (2, 2, &[1, 1, 1], None, None),
+    (2, 2, &[2, 2], Some(1), Some(1)),
+    (2, 2, &[2, 2, 2], Some(2), None),
+    (2, 2, &[1, 2], Some(1), None),
+    (2, 2, &[2, 3, 3, 3], Some(4), None),
+    (2, 4, &[2, 2, 2, 2, 2], Some(2), None),
+    (3, 2, &[1, 1, 3], Some(2), None),
 ];
 
 /// Shares (8.3): gates, buffers, JJs, share.
@@ -59,11 +62,6 @@ fn worked_mapped() -> Vec<u8> {
     encode(&shapes::worked_mapped())
 }
 
-/// Inputs that do not branch.
-fn one(s: u32) -> Capacities {
-    Capacities::unbranched(s)
-}
-
 /// The fewest buffers of a net by every way to count them.
 fn hold_net(b: usize, s: usize, distances: &[usize], expected: Option<usize>) {
     let words = format!("b {b}, s {s}, {distances:?}");
@@ -84,26 +82,39 @@ fn nets_by_every_way_to_count() {
     for (s, distances, expected) in NETS {
         hold_net(1, s, distances, expected);
     }
-    for (b, s, distances, expected) in BRANCHING {
+    for (b, s, distances, expected, _) in BRANCHING {
         hold_net(b, s, distances, expected);
     }
 }
 
-/// A gate has the nets of the first table whatever b is; the mapper writes as many buffers.
+/// The fewest buffers of a gate with these sinks, whatever b is.
+fn hold_gate(b: usize, s: usize, distances: &[usize], expected: Option<usize>) {
+    let twins = shapes::twins(distances, true);
+    let gate = twins.iter().position(Record::is_gate).expect("a gate");
+    let number = expected.map_or(NO_TREE, |buffers| buffers as u32);
+    for b in [1, b as u32, 4095] {
+        let capacities = Capacities::new(s as u32, b);
+        for engine in [PLAIN, FAST] {
+            let counted = (engine.count)(&encode(&twins), capacities, gate as u32);
+            assert_eq!(counted, [0, 0, number], "b {b}, s {s}, {distances:?}");
+        }
+    }
+}
+
 #[test]
 fn gates_do_not_branch() {
-    for (b, s, distances, expected) in BRANCHING {
-        let at_gate = fewest(distances, s, 1);
-        let twins = shapes::twins(distances, true);
-        let gate = twins.iter().position(Record::is_gate).expect("a gate");
-        for b in [1, b as u32, 4095] {
-            let capacities = Capacities::new(s as u32, b);
-            let number = at_gate.map_or(NO_TREE, |buffers| buffers as u32);
-            for engine in [PLAIN, FAST] {
-                let counted = (engine.count)(&encode(&twins), capacities, gate as u32);
-                assert_eq!(counted, [0, 0, number], "b {b}, s {s}, {distances:?}");
-            }
-        }
+    for (s, distances, expected) in NETS {
+        hold_gate(2, s, distances, expected);
+    }
+    for (b, s, distances, _, expected) in BRANCHING {
+        hold_gate(b, s, distances, expected);
+    }
+}
+
+/// The mapper writes as many buffers on an input as are counted.
+#[test]
+fn mapped_nets_of_inputs() {
+    for (b, s, distances, expected, _) in BRANCHING {
         let alone = shapes::twins(distances, false);
         let capacities = Capacities::new(s as u32, b as u32);
         match (mapping(&encode(&alone), capacities), expected) {
@@ -147,7 +158,7 @@ fn nodes_of_distance_1_hang_on_the_driver() {
     }
 }
 
-/// 26 for b at and beyond its limits, as a number of 32 bits; after 1 and before all others.
+/// b at its limits is accepted, beyond them 26, as a number of 32 bits; after 1 and before all others.
 #[test]
 fn limits_of_b() {
     let (source, mapped) = (worked(), worked_mapped());
@@ -185,8 +196,16 @@ fn limits_of_b() {
     }
 }
 
+/// A gate on one input, with so many outputs one level above it.
+fn feeding_gate(slots: usize) -> Vec<Record> {
+    let mut records = shapes::inputs(1);
+    records.push(Record::new(AND, 0, 1, &[0, 0]));
+    records.resize(2 + slots, Record::new(OUTPUT, 0, 2, &[1]));
+    records
+}
+
 /// An input that feeds as many slots as it may, about one byte and at the limit, and one more; a gate
-/// with as many.
+/// with as many, or as many as a source has room for.
 #[test]
 fn crowds() {
     for b in [2, 3, 255, 256, 257, 300, 4095] {
@@ -209,13 +228,20 @@ fn crowds() {
                 }
             }
         }
-        let gate = encode(&shapes::on_a_gate(2, 1));
+        let gate = encode(&shapes::on_a_gate(b.min(4093), 1));
+        let feeding = encode(&feeding_gate(b.min(4093)));
         let capacities = Capacities::new(2, b as u32);
-        assert_eq!(map(&gate, capacities, &mut [0; 200]), [8, 2, 0, 0, 0, 0, 0], "b {b}");
+        for engine in [PLAIN, FAST] {
+            let answer = (engine.map)(&gate, capacities, &mut vec![0; 200_000]);
+            assert_eq!(answer, [8, 2, 0, 0, 0, 0, 0], "b {b}");
+            assert_eq!((engine.verify)(&feeding, capacities, &feeding), [17, 1, 0], "b {b}");
+            let stripped = (engine.strip)(capacities, &feeding, &mut vec![0; feeding.len()]);
+            assert_eq!(stripped, [24, 0, 0], "b {b}");
+        }
     }
 }
 
-/// Without buffers the waves need no more steps than there are levels of gates.
+/// A run on a netlist without buffers: the outputs, and 17 with b = 1.
 #[test]
 fn waves_without_buffers() {
     let source = encode(&shapes::unbuffered());
@@ -228,7 +254,7 @@ fn waves_without_buffers() {
         assert_eq!(outputs, [1, 0, 0, 0, 1, 0, 1, 1]);
         let (mut state, mut outputs) = ([9; 12], [9; 8]);
         let areas = Run { row_count: 4, rows: &rows, state: &mut state, outputs: &mut outputs };
-        assert_eq!((engine.run)(&source, one(2), &source, areas), [17, 0]);
+        assert_eq!((engine.run)(&source, Capacities::unbranched(2), &source, areas), [17, 0]);
         assert_eq!((state, outputs), ([9; 12], [9; 8]));
     }
 }
@@ -238,7 +264,7 @@ fn shares() {
     for (gates, buffers, jjs, share) in SHARES {
         let source = encode(&shapes::priced(gates, buffers));
         for engine in [PLAIN, FAST] {
-            let answer = (engine.map)(&source, one(2), &mut vec![0; 10_000]);
+            let answer = (engine.map)(&source, Capacities::unbranched(2), &mut vec![0; 10_000]);
             assert_eq!(
                 [answer[0], answer[3], answer[5], answer[6]],
                 [0, buffers as u32, jjs, share]
@@ -278,74 +304,77 @@ fn hold_refusal(source: &[u8], capacities: Capacities, list: &[u8], len: usize, 
 
 #[test]
 fn listed_counts_of_the_case() {
-    hold_counts(&worked(), one(2), &[0, 1, 2], &[2, 1, 0]);
-    hold_counts(&worked(), one(2), &[2, 0, 0, 1, 0], &[0, 2, 2, 1, 2]);
-    hold_counts(&worked(), one(2), &[], &[]);
-    hold_counts(&[], one(2), &[], &[]);
-    hold_counts(&worked(), one(3), &[1; 65_535], &[1; 65_535]);
+    hold_counts(&worked(), Capacities::unbranched(2), &[0, 1, 2], &[2, 1, 0]);
+    hold_counts(&worked(), Capacities::unbranched(2), &[2, 0, 0, 1, 0], &[0, 2, 2, 1, 2]);
+    hold_counts(&worked(), Capacities::unbranched(2), &[], &[]);
+    hold_counts(&[], Capacities::unbranched(2), &[], &[]);
+    hold_counts(&worked(), Capacities::unbranched(3), &[1; 65_535], &[1; 65_535]);
     let far = encode(&shapes::lines(300, 4095));
-    hold_counts(&far, one(2), &[299, 0, 43], &[4094; 3]);
+    hold_counts(&far, Capacities::unbranched(2), &[299, 0, 43], &[4094; 3]);
 }
 
 #[test]
 fn listed_counts_refused() {
     let worked = worked();
-    hold_refusal(&worked, one(5), &indices(&[9]), 3, [1, 0]);
-    hold_refusal(&worked[1..], one(2), &indices(&[9]), 3, [2, 0]);
+    hold_refusal(&worked, Capacities::unbranched(5), &indices(&[9]), 3, [1, 0]);
+    hold_refusal(&worked[1..], Capacities::unbranched(2), &indices(&[9]), 3, [2, 0]);
     for (len, counts) in [(1, 2), (1, 0), (3, 6), (3, 4), (2, 3), (2, 5), (2, 8), (2, 0), (0, 4)] {
-        hold_refusal(&worked, one(2), &indices(&[0, 9])[..len], counts, [21, 0]);
+        hold_refusal(&worked, Capacities::unbranched(2), &indices(&[0, 9])[..len], counts, [21, 0]);
     }
-    hold_refusal(&worked, one(2), &[0; 131_072], 262_144, [21, 0]);
-    hold_refusal(&worked, one(2), &[0; 131_071], 262_142, [21, 0]);
-    hold_refusal(&worked, one(2), &indices(&[9, 0]), 7, [21, 0]);
+    hold_refusal(&worked, Capacities::unbranched(2), &[0; 131_072], 262_144, [21, 0]);
+    hold_refusal(&worked, Capacities::unbranched(2), &[0; 131_071], 262_142, [21, 0]);
+    hold_refusal(&worked, Capacities::unbranched(2), &indices(&[9, 0]), 7, [21, 0]);
     for absent in [3, 4, 5, 256, 4096, 65_535] {
-        hold_refusal(&worked, one(2), &indices(&[2, 1, absent, 5]), 16, [20, 2]);
+        hold_refusal(&worked, Capacities::unbranched(2), &indices(&[2, 1, absent, 5]), 16, [20, 2]);
     }
     let mut longest = [0; 131_070];
     longest[131_068] = 3;
-    hold_refusal(&worked, one(2), &longest, 262_140, [20, 65_534]);
-    hold_refusal(&[], one(2), &indices(&[0]), 4, [20, 0]);
+    hold_refusal(&worked, Capacities::unbranched(2), &longest, 262_140, [20, 65_534]);
+    hold_refusal(&[], Capacities::unbranched(2), &indices(&[0]), 4, [20, 0]);
 }
 
 #[test]
 fn map_case() {
     let mut area = vec![0xA5; 90];
-    assert_eq!(map(&worked(), one(2), &mut area), [0, 0, 8, 3, 3, 12, 50]);
+    assert_eq!(map(&worked(), Capacities::unbranched(2), &mut area), [0, 0, 8, 3, 3, 12, 50]);
     assert_eq!(area[..80], worked_mapped());
     assert_eq!(area[80..], [0xA5; 10]);
 }
 
 #[test]
 fn map_case_area_and_capacity() {
-    assert_eq!(map(&worked(), one(2), &mut [0xA5; 80]), [0, 0, 8, 3, 3, 12, 50]);
+    assert_eq!(map(&worked(), Capacities::unbranched(2), &mut [0xA5; 80]), [0, 0, 8, 3, 3, 12, 50]);
     let mut short = [0xA5; 79];
-    assert_eq!(map(&worked(), one(2), &mut short), [10, 0, 0, 0, 0, 0, 0]);
+    assert_eq!(map(&worked(), Capacities::unbranched(2), &mut short), [10, 0, 0, 0, 0, 0, 0]);
     assert_eq!(short, [0xA5; 79]);
-    assert_eq!(map(&worked(), one(5), &mut [0xA5; 80]), [1, 0, 0, 0, 0, 0, 0]);
-    assert_eq!(map(&[], one(2), &mut []), [0; 7]);
+    assert_eq!(map(&worked(), Capacities::unbranched(5), &mut [0xA5; 80]), [1, 0, 0, 0, 0, 0, 0]);
+    assert_eq!(map(&[], Capacities::unbranched(2), &mut []), [0; 7]);
 }
 
 #[test]
 fn too_many_records() {
     // 15 chains of 4,094 buffers and 30 records are over 60,000; 14 are not.
     let source = encode(&shapes::lines(15, 4095));
-    assert_eq!(map(&source, one(2), &mut []), [9, 0, 0, 0, 0, 0, 0]);
+    assert_eq!(map(&source, Capacities::unbranched(2), &mut []), [9, 0, 0, 0, 0, 0, 0]);
     let source = encode(&shapes::lines(14, 4095));
     let mut area = vec![0; 600_000];
-    assert_eq!(map(&source, one(2), &mut area)[..4], [0, 0, 28 + 14 * 4094, 14 * 4094]);
+    assert_eq!(
+        map(&source, Capacities::unbranched(2), &mut area)[..4],
+        [0, 0, 28 + 14 * 4094, 14 * 4094]
+    );
 }
 
 #[test]
 fn verify_case() {
     let mapped = worked_mapped();
-    assert_eq!(verify(&worked(), one(2), &mapped), [0, 0, 3]);
+    assert_eq!(verify(&worked(), Capacities::unbranched(2), &mapped), [0, 0, 3]);
     let mut wrong = mapped.clone();
     wrong[24] = 7;
     wrong[26] = 5;
-    assert_eq!(verify(&worked(), one(2), &wrong), [16, 2, 0]);
+    assert_eq!(verify(&worked(), Capacities::unbranched(2), &wrong), [16, 2, 0]);
     let mut twice = mapped.clone();
     twice.extend(Record::buffer(1, 0).write());
-    assert_eq!(verify(&worked(), one(2), &twice), [17, 0, 0]);
+    assert_eq!(verify(&worked(), Capacities::unbranched(2), &twice), [17, 0, 0]);
 }
 
 #[test]
@@ -353,12 +382,15 @@ fn waves_of_the_case() {
     let rows = [1, 1, 0, 1, 1, 0, 1, 1];
     let (mut state, mut outputs) = ([9; 16], [9; 8]);
     let areas = Run { row_count: 4, rows: &rows, state: &mut state, outputs: &mut outputs };
-    assert_eq!(run(&worked(), one(2), &worked_mapped(), areas), [0, 0]);
+    assert_eq!(run(&worked(), Capacities::unbranched(2), &worked_mapped(), areas), [0, 0]);
     assert_eq!(outputs, [1, 1, 0, 0, 0, 1, 1, 1]);
     let mut stepped = [0; 16];
     for t in 0..7 {
         let row = if t < 4 { &rows[2 * t..2 * t + 2] } else { &[0, 0] };
-        assert_eq!(step(&worked(), one(2), &worked_mapped(), row, &mut stepped), [0, 0]);
+        assert_eq!(
+            step(&worked(), Capacities::unbranched(2), &worked_mapped(), row, &mut stepped),
+            [0, 0]
+        );
     }
     assert_eq!(stepped, state);
     for (t, row) in rows.chunks(2).enumerate() {
@@ -375,11 +407,11 @@ fn views_of_the_case() {
     assert_eq!(record_view(&source, &mapped, 5), &mapped[50..60]);
     assert_eq!(record_view(&source, &mapped, 8), &[] as &[u8]);
     assert_eq!(record_view(&source, &mapped[..39], 3), &[] as &[u8]);
-    assert_eq!(block_view(&source, one(2), &mapped, 0), &mapped[50..70]);
-    assert_eq!(block_view(&source, one(2), &mapped, 1), &mapped[70..80]);
-    assert_eq!(block_view(&source, one(2), &mapped[..79], 1), &[] as &[u8]);
-    assert_eq!(block_view(&source, one(2), &mapped, 3), &[] as &[u8]);
-    assert_eq!(block_view(&source, one(5), &mapped, 0), &[] as &[u8]);
+    assert_eq!(block_view(&source, Capacities::unbranched(2), &mapped, 0), &mapped[50..70]);
+    assert_eq!(block_view(&source, Capacities::unbranched(2), &mapped, 1), &mapped[70..80]);
+    assert_eq!(block_view(&source, Capacities::unbranched(2), &mapped[..79], 1), &[] as &[u8]);
+    assert_eq!(block_view(&source, Capacities::unbranched(2), &mapped, 3), &[] as &[u8]);
+    assert_eq!(block_view(&source, Capacities::unbranched(5), &mapped, 0), &[] as &[u8]);
     for b in [0, 4096, 65_537] {
         assert_eq!(block_view(&source, Capacities::new(2, b), &mapped, 0), &[] as &[u8]);
     }

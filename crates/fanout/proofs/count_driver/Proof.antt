@@ -10,11 +10,8 @@ fill-requires c κs = search needs
 walk-requires : tie.Need-walk-requires
 walk-requires c κs = search input-walkable
 
-kind-at-requires : tie.Need-kind-at-requires
-kind-at-requires c κs = search needs
-
-capacity-of-requires : tie.Need-capacity-of-requires
-capacity-of-requires c κs = search needs
+may-feed-requires : tie.Need-may-feed-requires
+may-feed-requires c κs = search needs
 
 returns : tie.Need-returns
 returns c = search counted-tree
@@ -25,4 +22,4 @@ returns-2 c = search counted-none
 pub count-driver-spec : {M : Type 1} → statement M
 count-driver-spec =
     tie.close
-    (tie.spec fill-requires walk-requires kind-at-requires capacity-of-requires returns returns-2)
+    (tie.spec fill-requires walk-requires may-feed-requires returns returns-2)

@@ -13,8 +13,8 @@ enum-told c = search needs
 check-input-capacity-requires : tie.Need-check-input-capacity-requires
 check-input-capacity-requires c κs = search needs
 
-enum-known-buffers : tie.Need-enum-known-buffers
-enum-known-buffers c = search needs
+enum-known-checked : tie.Need-enum-known-checked
+enum-known-checked c = search needs
 
 returns : tie.Need-returns
 returns c = search then-go
@@ -29,6 +29,6 @@ check-capacities-spec =
     check-capacity-requires
     enum-told
     check-input-capacity-requires
-    enum-known-buffers
+    enum-known-checked
     returns
     returns-2)

@@ -1,4 +1,4 @@
--- `check_mapping` meets its contract: capacities and source, the length, then 12 to 17; what the checks up to 11 leave lets every count fit.
+-- `check_mapping` meets its contract: capacities and source, the length, then 12 to 17; what 1, 26, 2 to 7 and 11 leave lets every count fit.
 use borrow.Author.Needs.{needs}
 use Rattle.facts.proofs.Reflect.{then-stop}
 use Rattle.verifier.specs.Checks.{verifyChecks}

@@ -3,13 +3,13 @@
 //! Five tables: for each call, shape and size the median time of both and the median of the samples'
 //! ratios; then how our time grows from N = 512 to N = 4,096, the two sizes in turns as well, since
 //! the machine's own speed drifts; then the time of the mapper and of least levels on sources that
-//! they refuse, in turns with the accepted one on which the call took longest; then the time of lists
-//! of counts in turns with the mapper's on the same sources; then the time of stripping in turns with
-//! the verifier's on the same mapped netlists, where the bar is 2.5. Both answers are compared before
-//! a row is timed. Areas that a call writes are touched once before and not cleared between calls. A
-//! row of layered netlists goes round as many of them as have 65,536 records together, so that no size
-//! is timed on inputs that the processor has learnt by heart. Inputs feed one slot (b = 1), but where
-//! the shape names another b.
+//! they refuse, in turns with the accepted one, of those with b = 1, on which the call took longest;
+//! then the time of lists of counts in turns with the mapper's on the same sources; then the time of
+//! stripping in turns with the verifier's on the same mapped netlists, where the bar is 2.5. Both
+//! answers are compared before a row is timed. Areas that a call writes are touched once before and
+//! not cleared between calls. A row of layered netlists goes round as many of them as have 65,536
+//! records together, so that no row repeats one input. Inputs feed one slot (b = 1), but where the
+//! shape names another b.
 
 use std::hint::black_box;
 use std::time::{Duration, Instant};
@@ -36,6 +36,8 @@ const LAYERED: usize = 16 * MAX_SOURCE;
 /// Samples of a row, each of at least this time.
 const SAMPLES: usize = 161;
 const SAMPLE_TIME: Duration = Duration::from_micros(400);
+/// The calls that have rows in which inputs branch, all of them accepted.
+const BRANCHING: [Name; 4] = [Name::Map, Name::Verify, Name::Strip, Name::CountNets];
 
 /// One input with what the row says of it.
 struct Subject {
@@ -246,6 +248,12 @@ fn compare_all(calls: &[Call], shape: &str) -> u32 {
     let numbers: Vec<u32> = calls.iter().map(|call| compare(call, shape)[0]).collect();
     assert!(numbers.iter().all(|&number| number == numbers[0]), "{shape}: {numbers:?}");
     numbers[0]
+}
+
+/// Compares all calls of a row, which must be accepted.
+fn hold_accepted(subjects: &[Subject], name: Name) {
+    let shape = subjects[0].shape;
+    assert_eq!(compare_all(&calls_of(subjects, name), shape), 0, "{name:?} on {shape}");
 }
 
 fn average_m(subjects: &[Subject]) -> usize {
@@ -494,9 +502,10 @@ fn main() {
     }
     let branching: Vec<[Vec<Subject>; 3]> =
         SIZES.iter().map(|&size| branching_shapes_of(size)).collect();
-    for name in [Name::Map, Name::Verify] {
+    for name in BRANCHING {
         for shape in 0..3 {
             for shapes in &branching {
+                hold_accepted(&shapes[shape], name);
                 print_row(&shapes[shape], name);
             }
         }
@@ -513,7 +522,7 @@ fn main() {
         }
     }
     print_growth(&small[2], &large[2], Name::Evaluate);
-    for name in [Name::Map, Name::Verify] {
+    for name in BRANCHING {
         for (small, large) in branching[0].iter().zip(&branching[SIZES.len() - 1]) {
             print_growth(small, large, name);
         }
@@ -536,6 +545,8 @@ fn main() {
         print_over_map(subjects, "all drivers", |subject| subject.call(Name::CountNets));
     }
     print_over_map(&large[2], "one driver each time", repeated);
+    let [layered_b, ..] = &branching[SIZES.len() - 1];
+    print_over_map(layered_b, "all drivers", |subject| subject.call(Name::CountNets));
 
     println!();
     println!(
@@ -559,4 +570,7 @@ fn main() {
     }
     print_over_verify(&large[2], short_of_a_byte);
     print_over_verify(&sizes[3], short_of_a_byte);
+    for [layered, ..] in &branching {
+        print_over_verify(layered, strip);
+    }
 }

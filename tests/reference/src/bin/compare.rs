@@ -4,7 +4,9 @@
 //!
 //! Every answer and every byte of every area is held to the plain implementation's, every copy with
 //! least levels to checks 2 to 8, and every source stripped to what mapping it again gives. Prints one
-//! line, which says too how often inputs branched; at the first difference prints the call, and exits with status 1.
+//! line, and how often each case of `reach` was met; at the first difference prints the call, and exits
+//! with status 1. So it does, with a line that says which, if one of them was never met on `ENOUGH`
+//! netlists or more.
 
 use std::collections::BTreeMap;
 use std::env;
@@ -18,6 +20,9 @@ use reference::levels;
 use reference::linked::LINKED;
 use reference::reach::{reached, Reached, ALL_REACHED};
 use reference::record::WIDTH;
+
+/// On so many netlists each case of `reach` must be met.
+const ENOUGH: u64 = 100_000;
 
 /// Longer areas are shown by their first bytes.
 const SHOWN: usize = 1_000;
@@ -64,9 +69,15 @@ impl Tally {
             0 => self.accepted[name] += 1,
             number => *self.refused.entry(number).or_default() += 1,
         }
-        if let Some(reached) = reached(call, outcome) {
+        for reached in reached(call, outcome) {
             *self.reached.entry(reached).or_default() += 1;
         }
+    }
+
+    /// The cases of `reach` that were not met, in words.
+    fn missing(&self) -> Vec<&'static str> {
+        let missing = ALL_REACHED.into_iter().filter(|reached| !self.reached.contains_key(reached));
+        missing.map(Reached::words).collect()
     }
 
     fn print(&self, netlists: u64, seed: u64) {
@@ -151,5 +162,10 @@ fn main() -> ExitCode {
         }
     }
     tally.print(count, seed);
+    let missing = tally.missing();
+    if count >= ENOUGH && !missing.is_empty() {
+        eprintln!("NOT MET on {count} netlists: {}", missing.join(", "));
+        return ExitCode::FAILURE;
+    }
     ExitCode::SUCCESS
 }

@@ -8,7 +8,7 @@ use std::process::ExitCode;
 use std::{env, fs};
 
 use reference::calls::answer_bytes;
-use reference::capacities::Capacities;
+use reference::capacities::{Capacities, MAX_INPUT_CAPACITY};
 use reference::cases::{any_call, damaged, other_input, sound_with, unbranched, Subject, FILL};
 use reference::engine::{perform, Call, Name, PLAIN};
 use reference::generator::reverse_buffers;
@@ -22,9 +22,11 @@ use reference::views::{block_view, record_view};
 const SEED: u64 = 20_001;
 /// Accepted cases of a family found by chance, with inputs that do not branch.
 const ACCEPTED: usize = 150;
-/// A case found by chance is at most this long, but for the capacity of an input.
+/// A case found by chance is at most this long, and four more where it holds b.
 const CASE_BYTES: usize = 700;
 const TRIES: u64 = 200_000;
+/// How many subjects one try at a case with inputs that branch may look at.
+const BRANCHING_TRIES: usize = 1_000;
 /// A family of which a part has fewer cases of some number than this is not written.
 const LEAST: usize = 3;
 
@@ -47,10 +49,12 @@ struct Part {
     /// The most bytes of a case found by chance.
     longest: usize,
     worked: fn() -> Vec<Case>,
-    by_chance: fn(&mut Random) -> Case,
+    /// One try; nothing if it does not serve the part.
+    by_chance: fn(&mut Random) -> Option<Case>,
 }
 
-/// The first part has inputs that do not branch; a call that takes b has a second, in which they do.
+/// The first part has inputs that do not branch; a call that takes b has a second, in which they do,
+/// and may have a third with more worked cases of the second kind.
 struct Family {
     name: &'static str,
     parts: &'static [Part],
@@ -63,12 +67,16 @@ const FIRST: Part = Part {
     refused: 60,
     longest: CASE_BYTES,
     worked: Vec::new,
-    by_chance: record_view_case,
+    by_chance: |random| Some(record_view_case(random)),
 };
 const FIRST_WITH_B: Part = Part { longest: CASE_BYTES + 4, ..FIRST };
 
 /// What second parts have in common.
 const SECOND: Part = Part { accepted: 25, refused: 10, longest: 500, ..FIRST };
+
+/// What third parts have in common: worked cases alone. They stand behind all others, which keep their
+/// places.
+const THIRD: Part = Part { numbers: &[], accepted: 0, refused: 0, by_chance: |_| None, ..SECOND };
 
 const FAMILIES: [Family; 12] = [
     Family {
@@ -76,7 +84,7 @@ const FAMILIES: [Family; 12] = [
         parts: &[Part {
             numbers: &[0, 2, 4, 5, 6, 7],
             worked: worked_reader,
-            by_chance: |random| reader_case(&any_subject(random).source),
+            by_chance: |random| Some(reader_case(&any_subject(random).source)),
             ..FIRST
         }],
     },
@@ -87,7 +95,7 @@ const FAMILIES: [Family; 12] = [
                 numbers: &[0, 1, 2, 4, 5, 6, 7, 20],
                 refused: 32,
                 worked: worked_count,
-                by_chance: |random| chance_case(random, Name::Count),
+                by_chance: |random| Some(chance_case(random, Name::Count)),
                 ..FIRST_WITH_B
             },
             Part {
@@ -105,7 +113,7 @@ const FAMILIES: [Family; 12] = [
                 numbers: &[0, 1, 2, 4, 5, 6, 7, 20, 21],
                 refused: 32,
                 worked: worked_count_nets,
-                by_chance: |random| chance_case(random, Name::CountNets),
+                by_chance: |random| Some(chance_case(random, Name::CountNets)),
                 ..FIRST_WITH_B
             },
             Part {
@@ -123,7 +131,7 @@ const FAMILIES: [Family; 12] = [
                 numbers: &[0, 1, 2, 4, 5, 6, 7, 8, 9, 10],
                 refused: 24,
                 worked: worked_mapper,
-                by_chance: |random| chance_case(random, Name::Map),
+                by_chance: |random| Some(chance_case(random, Name::Map)),
                 ..FIRST_WITH_B
             },
             Part {
@@ -132,6 +140,7 @@ const FAMILIES: [Family; 12] = [
                 by_chance: |random| branching_case(random, Name::Map),
                 ..SECOND
             },
+            Part { worked: more_mapper, ..THIRD },
         ],
     },
     Family {
@@ -141,7 +150,7 @@ const FAMILIES: [Family; 12] = [
                 numbers: &[0, 1, 2, 4, 5, 6, 7, 11, 12, 13, 14, 15, 16, 17],
                 refused: 16,
                 worked: worked_verifier,
-                by_chance: |random| chance_case(random, Name::Verify),
+                by_chance: |random| Some(chance_case(random, Name::Verify)),
                 ..FIRST_WITH_B
             },
             Part {
@@ -150,6 +159,7 @@ const FAMILIES: [Family; 12] = [
                 by_chance: |random| branching_case(random, Name::Verify),
                 ..SECOND
             },
+            Part { worked: more_verifier, ..THIRD },
         ],
     },
     Family {
@@ -158,7 +168,7 @@ const FAMILIES: [Family; 12] = [
             numbers: &[0, 2, 4, 5, 6, 7, 18, 19],
             refused: 32,
             worked: worked_evaluate,
-            by_chance: |random| chance_case(random, Name::Evaluate),
+            by_chance: |random| Some(chance_case(random, Name::Evaluate)),
             ..FIRST
         }],
     },
@@ -169,7 +179,7 @@ const FAMILIES: [Family; 12] = [
                 numbers: &[0, 1, 2, 4, 5, 6, 7, 11, 12, 13, 14, 15, 16, 17, 18, 19],
                 refused: 14,
                 worked: worked_run,
-                by_chance: |random| chance_case(random, Name::Run),
+                by_chance: |random| Some(chance_case(random, Name::Run)),
                 ..FIRST_WITH_B
             },
             Part {
@@ -178,6 +188,7 @@ const FAMILIES: [Family; 12] = [
                 by_chance: |random| branching_case(random, Name::Run),
                 ..SECOND
             },
+            Part { worked: more_run, ..THIRD },
         ],
     },
     Family {
@@ -187,7 +198,7 @@ const FAMILIES: [Family; 12] = [
                 numbers: &[0, 1, 2, 4, 5, 6, 7, 11, 12, 13, 14, 15, 16, 17, 18, 19],
                 refused: 15,
                 worked: worked_step,
-                by_chance: |random| chance_case(random, Name::Step),
+                by_chance: |random| Some(chance_case(random, Name::Step)),
                 ..FIRST_WITH_B
             },
             Part {
@@ -196,6 +207,7 @@ const FAMILIES: [Family; 12] = [
                 by_chance: |random| branching_case(random, Name::Step),
                 ..SECOND
             },
+            Part { worked: more_step, ..THIRD },
         ],
     },
     Family {
@@ -204,7 +216,7 @@ const FAMILIES: [Family; 12] = [
             numbers: &[0, 1, 2, 4, 5, 6, 22, 23],
             refused: 10,
             worked: worked_levels,
-            by_chance: |random| chance_case(random, Name::Levels),
+            by_chance: |random| Some(chance_case(random, Name::Levels)),
             ..FIRST
         }],
     },
@@ -215,7 +227,7 @@ const FAMILIES: [Family; 12] = [
                 numbers: &[0, 1, 24, 25],
                 refused: 24,
                 worked: worked_strip,
-                by_chance: |random| chance_case(random, Name::Strip),
+                by_chance: |random| Some(chance_case(random, Name::Strip)),
                 ..FIRST_WITH_B
             },
             Part {
@@ -224,6 +236,7 @@ const FAMILIES: [Family; 12] = [
                 by_chance: |random| branching_case(random, Name::Strip),
                 ..SECOND
             },
+            Part { worked: more_strip, ..THIRD },
         ],
     },
     Family { name: "record_view", parts: &[FIRST] },
@@ -233,11 +246,12 @@ const FAMILIES: [Family; 12] = [
             Part {
                 by_chance: |random| {
                     let subject = any_subject(random);
-                    block_view_case(random, subject)
+                    Some(block_view_case(random, subject))
                 },
                 ..FIRST_WITH_B
             },
             Part { worked: branching_block_view, by_chance: branching_block_case, ..SECOND },
+            Part { worked: more_block_view, ..THIRD },
         ],
     },
 ];
@@ -322,12 +336,12 @@ fn block_view_case(random: &mut Random, subject: Subject) -> Case {
     view_case(source, capacities, mapped, driver)
 }
 
-/// A call with no areas and no rows, whose inputs do not branch.
-fn bare(name: Name, source: &[Record], s: u32) -> Call {
+/// A call with no areas and no rows.
+fn bare(name: Name, source: &[Record], capacities: Capacities) -> Call {
     Call {
         name,
         source: encode(source),
-        capacities: Capacities::unbranched(s),
+        capacities,
         number: 0,
         records: Vec::new(),
         mapped: Vec::new(),
@@ -403,21 +417,21 @@ fn worked_count() -> Vec<Case> {
         (2, &[2, 3, 3, 3]),
         (4, &[2, 2, 2, 2, 2]),
     ];
-    let mut calls: Vec<Call> =
-        nets.iter().map(|(s, net)| bare(Name::Count, &shapes::net(net), *s)).collect();
+    let on = |source: &[Record], s: u32| bare(Name::Count, source, Capacities::unbranched(s));
+    let mut calls: Vec<Call> = nets.iter().map(|(s, net)| on(&shapes::net(net), *s)).collect();
     for s in 2..=4 {
-        calls.push(bare(Name::Count, &shapes::net(&[4095]), s));
-        calls.push(bare(Name::Count, &shapes::net(&[1, 4095]), s));
-        calls.push(bare(Name::Count, &shapes::net(&[4095; 5]), s));
-        calls.push(bare(Name::Count, &shapes::wide(40, s as usize), s));
-        calls.push(bare(Name::Count, &shapes::wide_majorities(14, s as usize), s));
+        calls.push(on(&shapes::net(&[4095]), s));
+        calls.push(on(&shapes::net(&[1, 4095]), s));
+        calls.push(on(&shapes::net(&[4095; 5]), s));
+        calls.push(on(&shapes::wide(40, s as usize), s));
+        calls.push(on(&shapes::wide_majorities(14, s as usize), s));
         for level in 1..=3 {
             let twice = [Record::new(INPUT, 0, 0, &[]), Record::new(AND, 0, level, &[0, 0])];
-            calls.push(bare(Name::Count, &twice, s));
+            calls.push(on(&twice, s));
         }
     }
     for record in 0..=5 {
-        calls.push(Call { number: record, ..bare(Name::Count, &shapes::worked(), 2) });
+        calls.push(Call { number: record, ..on(&shapes::worked(), 2) });
     }
     calls.iter().map(call_case).collect()
 }
@@ -428,7 +442,7 @@ fn worked_count_nets() -> Vec<Case> {
     let on = |source: &[Record], s: u32, list: &[u16]| {
         let records: Vec<u8> = list.iter().flat_map(|index| index.to_le_bytes()).collect();
         let areas = vec![vec![FILL; 2 * records.len()]];
-        Call { records, areas, ..bare(Name::CountNets, source, s) }
+        Call { records, areas, ..bare(Name::CountNets, source, Capacities::unbranched(s)) }
     };
     let worked = shapes::worked();
     let mut calls = vec![on(&[], 2, &[]), on(&[], 3, &[0]), on(&worked, 4, &[])];
@@ -465,8 +479,12 @@ fn worked_count_nets() -> Vec<Case> {
     calls.iter().map(call_case).collect()
 }
 
-fn map_on(source: &[Record], capacity: u32, len: usize) -> Call {
-    Call { areas: vec![vec![FILL; len]], ..bare(Name::Map, source, capacity) }
+fn map_in(source: &[Record], capacities: Capacities, len: usize) -> Call {
+    Call { areas: vec![vec![FILL; len]], ..bare(Name::Map, source, capacities) }
+}
+
+fn map_on(source: &[Record], s: u32, len: usize) -> Call {
+    map_in(source, Capacities::unbranched(s), len)
 }
 
 /// The worked cases (specification 8.2, 8.3), chains, wide fanouts, and too many records.
@@ -507,7 +525,7 @@ fn worked_verifier() -> Vec<Case> {
     let source = shapes::worked();
     let legal = encode(&mapped(&source, 2));
     let on = |mapped: Vec<u8>, capacity: u32| {
-        call_case(&Call { mapped, ..bare(Name::Verify, &source, capacity) })
+        call_case(&Call { mapped, ..bare(Name::Verify, &source, Capacities::unbranched(capacity)) })
     };
     let mut cases: Vec<Case> = (1..=5).map(|capacity| on(legal.clone(), capacity)).collect();
     for at in 0..legal.len() {
@@ -542,7 +560,7 @@ fn worked_evaluate() -> Vec<Case> {
         call_case(&Call {
             rows: row.to_vec(),
             areas: vec![values],
-            ..bare(Name::Evaluate, source, 0)
+            ..bare(Name::Evaluate, source, Capacities::unbranched(0))
         })
     };
     let worked = shapes::worked();
@@ -575,7 +593,7 @@ fn run_on(source: &[Record], s: u32, rows: &[Vec<u8>]) -> Call {
         rows: rows.concat(),
         areas: vec![vec![FILL; 2 * mapped.len()], vec![FILL; outputs]],
         mapped: encode(&mapped),
-        ..bare(Name::Run, source, s)
+        ..bare(Name::Run, source, Capacities::unbranched(s))
     }
 }
 
@@ -616,7 +634,7 @@ fn worked_step() -> Vec<Case> {
             mapped: legal.clone(),
             rows: row.to_vec(),
             areas: vec![state],
-            ..bare(Name::Step, &source, 2)
+            ..bare(Name::Step, &source, Capacities::unbranched(2))
         })
     };
     let mut cases = Vec::new();
@@ -627,8 +645,8 @@ fn worked_step() -> Vec<Case> {
         cases.push(on(row, vec![1; 15]));
         cases.push(on(row, vec![1; 17]));
     }
-    let empty = Call { areas: vec![Vec::new()], ..bare(Name::Step, &[], 2) };
-    cases.push(call_case(&empty));
+    let empty = bare(Name::Step, &[], Capacities::unbranched(2));
+    cases.push(call_case(&Call { areas: vec![Vec::new()], ..empty }));
     cases
 }
 
@@ -638,7 +656,7 @@ fn worked_step() -> Vec<Case> {
 fn worked_levels() -> Vec<Case> {
     let on = |source: &[Record], s: u32, len: usize| Call {
         areas: vec![vec![FILL; len]],
-        ..bare(Name::Levels, source, s)
+        ..bare(Name::Levels, source, Capacities::unbranched(s))
     };
     let fitting = |source: &[Record], s: u32| on(source, s, WIDTH * source.len());
     let worked = shapes::worked();
@@ -684,7 +702,7 @@ fn worked_strip() -> Vec<Case> {
     let on = |mapped: &[u8], s: u32, len: usize| Call {
         mapped: mapped.to_vec(),
         areas: vec![vec![FILL; len]],
-        ..bare(Name::Strip, &[], s)
+        ..bare(Name::Strip, &[], Capacities::unbranched(s))
     };
     let worked = shapes::worked_mapped();
     let legal = encode(&worked);
@@ -750,8 +768,8 @@ fn with(call: Call, s: u32, b: u32) -> Call {
     Call { capacities: Capacities::new(s, b), ..call }
 }
 
-/// The call as it is, then with both capacities wrong, with b wrong, and with b wrong and the source
-/// ragged: 1, then 26, comes first.
+/// The call as it is, then with s, with b and with both wrong, each also with the source ragged: 1,
+/// then 26, comes first.
 fn in_order(call: &Call) -> Vec<Call> {
     let mut calls = vec![call.clone()];
     for (s, b) in [(5, 0), (5, 1), (0, 4096), (2, 0), (4, 4096)] {
@@ -770,35 +788,35 @@ fn branching_subject(random: &mut Random) -> Subject {
     other_input(random, subject)
 }
 
-/// A call that is answered otherwise with b = 1, or with b + 1, or by 26.
-fn branching_case(random: &mut Random, name: Name) -> Case {
-    loop {
+/// A call that is answered otherwise with b = 1, or with b + 1, or by 26; nothing if no subject that is
+/// looked at gives one.
+fn branching_case(random: &mut Random, name: Name) -> Option<Case> {
+    (0..BRANCHING_TRIES).find_map(|_| {
         let subject = branching_subject(random);
         let call = any_call(random, &subject, name);
         let outcome = perform(&PLAIN, &call);
         let Capacities { buffer, input } = call.capacities;
         let other = |b: u32| perform(&PLAIN, &with(call.clone(), buffer, b)) != outcome;
-        if outcome.answer[0] == 26 || other(1) || input < 4095 && other(input + 1) {
-            return call_case(&call);
-        }
-    }
+        let shows = outcome.answer[0] == 26 || other(1) || input < 4095 && other(input + 1);
+        shows.then(|| call_case(&call))
+    })
 }
 
-/// A block view that is another with b = 1, or that 26 makes empty.
-fn branching_block_case(random: &mut Random) -> Case {
-    loop {
+/// A block view that is another with b = 1, or that 26 makes empty; nothing if no subject that is
+/// looked at gives one.
+fn branching_block_case(random: &mut Random) -> Option<Case> {
+    (0..BRANCHING_TRIES).find_map(|_| {
         let subject = branching_subject(random);
         let own = subject.capacities;
         let case = block_view_case(random, subject);
         let [source, numbers, mapped, part] = &case.fields[..] else {
-            continue;
+            return None;
         };
         let other = Capacities::unbranched(own.buffer);
         let driver = usize::from(numbers[8]);
-        if block_view(source, other, mapped, driver) != &part[..] {
-            return case;
-        }
-    }
+        let shows = block_view(source, other, mapped, driver) != &part[..];
+        shows.then_some(case)
+    })
 }
 
 /// The nets of 8.1 with another b, at an input and at a gate; b at its limits; as many sinks as an
@@ -806,7 +824,7 @@ fn branching_block_case(random: &mut Random) -> Case {
 fn branching_count() -> Vec<Case> {
     let on = |source: &[Record], s: u32, b: u32, record: usize| Call {
         number: record as u32,
-        ..with(bare(Name::Count, source, s), s, b)
+        ..bare(Name::Count, source, Capacities::new(s, b))
     };
     let mut calls = Vec::new();
     for (b, s, net) in NETS {
@@ -838,7 +856,7 @@ fn branching_count_nets() -> Vec<Case> {
     let on = |source: &[Record], s: u32, b: u32, list: &[usize]| {
         let records: Vec<u8> = list.iter().flat_map(|&k| (k as u16).to_le_bytes()).collect();
         let areas = vec![vec![FILL; 2 * records.len()]];
-        Call { records, areas, ..with(bare(Name::CountNets, source, s), s, b) }
+        Call { records, areas, ..bare(Name::CountNets, source, Capacities::new(s, b)) }
     };
     let mut calls = Vec::new();
     for (b, s, net) in NETS {
@@ -858,14 +876,18 @@ fn branching_count_nets() -> Vec<Case> {
     calls.iter().map(call_case).collect()
 }
 
+/// The mapper in an area that fits, or in one of 30 bytes where it refuses.
+fn map_fitting(source: &[Record], capacities: Capacities) -> Call {
+    let own = mapping(&encode(source), capacities);
+    map_in(source, capacities, own.map_or(30, |own| WIDTH * own.records.len()))
+}
+
 /// The nets of 8.1 with another b, alone and beside a gate with the same sinks; areas that fit and one
 /// byte short; b at its limits; as many nodes as an input may feed, and one more.
 fn branching_mapper() -> Vec<Case> {
-    let on = |source: &[Record], s: u32, b: u32, len: usize| with(map_on(source, s, len), s, b);
-    let fitting = |source: &[Record], s: u32, b: u32| {
-        let own = mapping(&encode(source), Capacities::new(s, b));
-        on(source, s, b, own.map_or(30, |own| WIDTH * own.records.len()))
-    };
+    let on =
+        |source: &[Record], s: u32, b: u32, len: usize| map_in(source, Capacities::new(s, b), len);
+    let fitting = |source: &[Record], s: u32, b: u32| map_fitting(source, Capacities::new(s, b));
     let mut calls = Vec::new();
     for (b, s, net) in NETS {
         calls.push(fitting(&shapes::twins(net, false), s, b));
@@ -896,13 +918,24 @@ fn branching_mapper() -> Vec<Case> {
     calls.iter().map(call_case).collect()
 }
 
+/// As many nodes as an input may feed at most, and one more.
+fn more_mapper() -> Vec<Case> {
+    let calls = [4095, 4096].map(|sinks| {
+        map_fitting(&shapes::sinks_at(sinks, 1), Capacities::new(2, MAX_INPUT_CAPACITY))
+    });
+    calls.iter().map(call_case).collect()
+}
+
 /// What the mapper writes for a source with these capacities.
 fn branched(source: &[Record], s: u32, b: u32) -> Vec<Record> {
     mapping(&encode(source), Capacities::new(s, b)).expect("a tree on every net").records
 }
 
-/// Sources with the b that they need, and a mapped netlist for it.
-fn branching_netlists() -> Vec<(Vec<Record>, u32, u32, Vec<Record>)> {
+/// A source with s and the b that it needs, and a mapped netlist for them.
+type Netlist = (Vec<Record>, u32, u32, Vec<Record>);
+
+/// Netlists whose inputs branch, with s = 2.
+fn branching_netlists() -> Vec<Netlist> {
     let mut all = Vec::new();
     let sources = [
         (2, shapes::unbuffered()),
@@ -926,24 +959,40 @@ fn branching_netlists() -> Vec<(Vec<Record>, u32, u32, Vec<Record>)> {
     all
 }
 
-/// One input that feeds so many slots, its source and its mapped netlist being the same.
-fn crowd(sinks: usize) -> Vec<Record> {
-    shapes::sinks_at(sinks, 1)
+/// Netlists with s = 3 and s = 4, in which an input feeds three buffers.
+fn more_netlists() -> Vec<Netlist> {
+    let sources = [(3, shapes::sinks_at(7, 2)), (4, shapes::sinks_at(9, 2))];
+    let netlist = |(s, source): (u32, Vec<Record>)| {
+        let mapped = branched(&source, s, 3);
+        (source, s, 3, mapped)
+    };
+    sources.map(netlist).into()
+}
+
+fn verify_on(source: &[Record], s: u32, b: u32, mapped: &[Record]) -> Call {
+    Call { mapped: encode(mapped), ..bare(Name::Verify, source, Capacities::new(s, b)) }
+}
+
+/// Netlists judged with less than their b, with it and with more.
+fn verified(netlists: &[Netlist]) -> Vec<Call> {
+    let mut calls = Vec::new();
+    for (source, s, b, mapped) in netlists {
+        for b in [1, b - 1, *b, b + 1, 4095] {
+            calls.push(verify_on(source, *s, b, mapped));
+        }
+    }
+    calls
+}
+
+fn more_verifier() -> Vec<Case> {
+    verified(&more_netlists()).iter().map(call_case).collect()
 }
 
 /// Mapped netlists judged with less than their b, with it and with more; b at its limits; gates that
 /// feed two slots, and buffers that feed more than s; an input that feeds more than a byte counts.
 fn branching_verifier() -> Vec<Case> {
-    let on = |source: &[Record], s: u32, b: u32, mapped: &[Record]| Call {
-        mapped: encode(mapped),
-        ..with(bare(Name::Verify, source, s), s, b)
-    };
-    let mut calls = Vec::new();
-    for (source, s, b, mapped) in branching_netlists() {
-        for b in [1, b - 1, b, b + 1, 4095] {
-            calls.push(on(&source, s, b, &mapped));
-        }
-    }
+    let on = verify_on;
+    let mut calls = verified(&branching_netlists());
     let source = shapes::worked();
     for b in LIMITS {
         calls.push(on(&source, 2, b, &shapes::worked_mapped()));
@@ -968,7 +1017,8 @@ fn branching_verifier() -> Vec<Case> {
     several[2].slots.swap(0, 1);
     calls.push(on(&source, 2, 1, &several));
     for (sinks, b) in CROWDS {
-        calls.push(on(&crowd(sinks), 2, b, &crowd(sinks)));
+        let crowd = shapes::sinks_at(sinks, 1);
+        calls.push(on(&crowd, 2, b, &crowd));
     }
     let call = on(&source, 2, 2, &shapes::worked_mapped()[..4]);
     calls.extend(in_order(&call));
@@ -983,17 +1033,27 @@ fn branching_run_on(source: &[Record], s: u32, b: u32, mapped: &[Record]) -> Cal
         rows: random.bits(3 * number_of(INPUT, source)),
         areas: vec![vec![FILL; 2 * mapped.len()], vec![FILL; 3 * number_of(OUTPUT, source)]],
         mapped: encode(mapped),
-        ..with(bare(Name::Run, source, s), s, b)
+        ..bare(Name::Run, source, Capacities::new(s, b))
     }
+}
+
+/// Runs over netlists with their b and with one less.
+fn runs(netlists: &[Netlist]) -> Vec<Call> {
+    let mut calls = Vec::new();
+    for (source, s, b, mapped) in netlists {
+        calls.push(branching_run_on(source, *s, *b, mapped));
+        calls.push(branching_run_on(source, *s, b - 1, mapped));
+    }
+    calls
+}
+
+fn more_run() -> Vec<Case> {
+    runs(&more_netlists()).iter().map(call_case).collect()
 }
 
 /// Runs over inputs that branch, with their b and with one less; b at its limits.
 fn branching_run() -> Vec<Case> {
-    let mut calls = Vec::new();
-    for (source, s, b, mapped) in branching_netlists() {
-        calls.push(branching_run_on(&source, s, b, &mapped));
-        calls.push(branching_run_on(&source, s, b - 1, &mapped));
-    }
+    let mut calls = runs(&branching_netlists());
     let unbuffered = shapes::unbuffered();
     for b in LIMITS {
         calls.push(branching_run_on(&unbuffered, 2, b, &unbuffered));
@@ -1003,58 +1063,97 @@ fn branching_run() -> Vec<Case> {
         call.rows = [[row & 1, row >> 1]; 3].concat();
         calls.push(call);
     }
-    calls.push(branching_run_on(&crowd(257), 4, 257, &crowd(257)));
-    calls.push(branching_run_on(&crowd(257), 4, 256, &crowd(257)));
+    let crowd = shapes::sinks_at(257, 1);
+    calls.push(branching_run_on(&crowd, 4, 257, &crowd));
+    calls.push(branching_run_on(&crowd, 4, 256, &crowd));
     let mut call = branching_run_on(&unbuffered, 2, 2, &unbuffered);
     call.areas[0].pop();
     calls.extend(in_order(&call));
     calls.iter().map(call_case).collect()
 }
 
-/// Single steps over the same netlists, from states of any bytes.
-fn branching_step() -> Vec<Case> {
-    let mut random = Random::new(SEED);
-    let mut on = |source: &[Record], s: u32, b: u32, mapped: &[Record]| Call {
+/// One step from a state of any bytes.
+fn branching_step_on(
+    random: &mut Random,
+    source: &[Record],
+    s: u32,
+    b: u32,
+    mapped: &[Record],
+) -> Call {
+    Call {
         mapped: encode(mapped),
         rows: random.bits(number_of(INPUT, source)),
         areas: vec![random.bytes(2 * mapped.len())],
-        ..with(bare(Name::Step, source, s), s, b)
-    };
-    let mut calls = Vec::new();
-    for (source, s, b, mapped) in branching_netlists() {
-        calls.push(on(&source, s, b, &mapped));
-        calls.push(on(&source, s, b, &mapped));
-        calls.push(on(&source, s, b - 1, &mapped));
+        ..bare(Name::Step, source, Capacities::new(s, b))
     }
+}
+
+/// Two steps over each netlist with its b, and one with one less.
+fn steps(random: &mut Random, netlists: &[Netlist]) -> Vec<Call> {
+    let mut calls = Vec::new();
+    for (source, s, b, mapped) in netlists {
+        for b in [*b, *b, b - 1] {
+            calls.push(branching_step_on(random, source, *s, b, mapped));
+        }
+    }
+    calls
+}
+
+fn more_step() -> Vec<Case> {
+    steps(&mut Random::new(SEED), &more_netlists()).iter().map(call_case).collect()
+}
+
+/// Single steps over the same netlists as the runs.
+fn branching_step() -> Vec<Case> {
+    let mut random = Random::new(SEED);
+    let mut calls = steps(&mut random, &branching_netlists());
+    let mut on = |source: &[Record], s: u32, b: u32, mapped: &[Record]| {
+        branching_step_on(&mut random, source, s, b, mapped)
+    };
     let unbuffered = shapes::unbuffered();
     for b in LIMITS {
         calls.push(on(&unbuffered, 2, b, &unbuffered));
     }
-    calls.push(on(&crowd(257), 4, 257, &crowd(257)));
-    calls.push(on(&crowd(257), 4, 256, &crowd(257)));
+    let crowd = shapes::sinks_at(257, 1);
+    calls.push(on(&crowd, 4, 257, &crowd));
+    calls.push(on(&crowd, 4, 256, &crowd));
     let mut call = on(&unbuffered, 2, 2, &unbuffered);
     call.rows.pop();
     calls.extend(in_order(&call));
     calls.iter().map(call_case).collect()
 }
 
+fn strip_on(mapped: &[u8], s: u32, b: u32, len: usize) -> Call {
+    Call {
+        mapped: mapped.to_vec(),
+        areas: vec![vec![FILL; len]],
+        ..bare(Name::Strip, &[], Capacities::new(s, b))
+    }
+}
+
+/// Netlists stripped with less than their b, with it and with more, and in an area one byte short.
+fn stripped(netlists: &[Netlist]) -> Vec<Call> {
+    let mut calls = Vec::new();
+    for (source, s, b, mapped) in netlists {
+        let (mapped, len) = (encode(mapped), WIDTH * source.len());
+        for b in [1, b - 1, *b, b + 1, 4095] {
+            calls.push(strip_on(&mapped, *s, b, len));
+        }
+        calls.push(strip_on(&mapped, *s, *b, len - 1));
+        calls.push(strip_on(&mapped, *s, b - 1, len - 1));
+    }
+    calls
+}
+
+fn more_strip() -> Vec<Case> {
+    stripped(&more_netlists()).iter().map(call_case).collect()
+}
+
 /// Netlists whose inputs branch, with less than their b, with it and with more; b at its limits, also
 /// for netlists without a source, and with an area that is too short.
 fn branching_strip() -> Vec<Case> {
-    let on = |mapped: &[u8], s: u32, b: u32, len: usize| Call {
-        mapped: mapped.to_vec(),
-        areas: vec![vec![FILL; len]],
-        ..with(bare(Name::Strip, &[], s), s, b)
-    };
-    let mut calls = Vec::new();
-    for (source, s, b, mapped) in branching_netlists() {
-        let (mapped, len) = (encode(&mapped), WIDTH * source.len());
-        for b in [1, b - 1, b, b + 1, 4095] {
-            calls.push(on(&mapped, s, b, len));
-        }
-        calls.push(on(&mapped, s, b, len - 1));
-        calls.push(on(&mapped, s, b - 1, len - 1));
-    }
+    let on = strip_on;
+    let mut calls = stripped(&branching_netlists());
     let worked = encode(&shapes::worked_mapped());
     for b in LIMITS {
         calls.push(on(&worked, 2, b, 50));
@@ -1074,26 +1173,36 @@ fn branching_strip() -> Vec<Case> {
         }
     }
     for (sinks, b) in CROWDS {
-        let records = crowd(sinks);
+        let records = shapes::sinks_at(sinks, 1);
         calls.push(on(&encode(&records), 2, b, WIDTH * records.len()));
     }
     calls.iter().map(call_case).collect()
 }
 
-/// Blocks of the drivers of netlists whose inputs branch, with their b and with others.
-fn branching_block_view() -> Vec<Case> {
+/// Blocks of the first drivers of netlists, with their b and with others.
+fn blocks(random: &mut Random, netlists: &[Netlist]) -> Vec<Case> {
     let mut cases = Vec::new();
-    let mut random = Random::new(SEED);
-    for (source, s, b, mapped) in branching_netlists() {
+    for (source, s, b, mapped) in netlists {
         let area = random.bytes(WIDTH * mapped.len());
         let drivers = (0..source.len()).filter(|&k| source[k].is_driver()).take(3);
         for driver in drivers {
-            for b in [b - 1, b, b + 1] {
-                let capacities = Capacities::new(s, b);
-                cases.push(view_case(encode(&source), capacities, area.clone(), driver));
+            for b in [b - 1, *b, b + 1] {
+                let capacities = Capacities::new(*s, b);
+                cases.push(view_case(encode(source), capacities, area.clone(), driver));
             }
         }
     }
+    cases
+}
+
+fn more_block_view() -> Vec<Case> {
+    blocks(&mut Random::new(SEED), &more_netlists())
+}
+
+/// Blocks of the drivers of netlists whose inputs branch, with their b and with others.
+fn branching_block_view() -> Vec<Case> {
+    let mut random = Random::new(SEED);
+    let mut cases = blocks(&mut random, &branching_netlists());
     let source = encode(&shapes::worked());
     for b in LIMITS {
         cases.push(view_case(source.clone(), Capacities::new(2, b), random.bytes(80), 0));
@@ -1129,16 +1238,18 @@ fn collect(
     };
     let mut found: BTreeMap<u32, usize> = BTreeMap::new();
     for index in 0..TRIES {
-        let case = (part.by_chance)(&mut Random::of(seed, index));
+        if part.numbers.iter().all(|&n| found.get(&n).is_some_and(|&have| have == share(n))) {
+            break;
+        }
+        let Some(case) = (part.by_chance)(&mut Random::of(seed, index)) else {
+            continue;
+        };
         let number = case.number;
         let have = found.get(&number).copied().unwrap_or(0);
         if have < share(number) && size(&case) <= part.longest && seen.insert(case.fields.clone()) {
             *found.entry(number).or_default() += 1;
             *met.entry(number).or_default() += 1;
             cases.push(case);
-        }
-        if part.numbers.iter().all(|&n| found.get(&n).is_some_and(|&have| have == share(n))) {
-            break;
         }
     }
     met

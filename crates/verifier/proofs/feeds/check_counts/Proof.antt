@@ -1,6 +1,6 @@
--- `check_counts` meets its contract: where the buffers' largest count is within capacity, the drivers decide.
+-- `check_counts` meets its contract: where the buffers' largest count is within capacity, the records before them are enough.
 use borrow.Author.Needs.{needs}
-use Rattle.verifier.proofs.Feeding.{drivers-decide, drivers-few}
+use Rattle.verifier.proofs.Feeding.{source-enough, source-few}
 use Rattle.verifier.proofs.feeds.check_counts.Statement.{statement}
 use Rattle.verifier.proofs.feeds.check_counts.Tie as tie
 
@@ -23,13 +23,13 @@ cast-if2 : tie.Need-cast-if2
 cast-if2 c = search needs
 
 returns-2 : tie.Need-returns-2
-returns-2 c = search drivers-few
+returns-2 c = search source-few
 
 first-overfed-requires-2 : tie.Need-first-overfed-requires-2
 first-overfed-requires-2 c κs = search needs
 
 returns-3 : tie.Need-returns-3
-returns-3 c = search drivers-decide
+returns-3 c = search source-enough
 
 pub check-counts-spec : {M : Type 1} → statement M
 check-counts-spec =
