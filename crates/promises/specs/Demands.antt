@@ -65,9 +65,9 @@ pub record Demand1 : Type 0 where
 -- demand 2: what is written is legal, path-balanced, properly branched and accepted, with the number of buffers answered; a net has a
 -- legal tree exactly if the recursion leaves at most b nodes at distance 1 where an input drives it, one where a gate does; 'no
 -- tree' is said exactly when no tree at all is legal, by the count of one net and in a list of counts, which is the single counts;
--- the verifier accepts exactly the legal mapped netlists; a source with its least levels differs in level fields alone, and with the same s and any b from 1 to
--- 4,095 none of 1, 26 and 2 to 8 refuses it; a mapped netlist has one source at most, stripping accepts exactly if there is one and
--- writes it, and what the mapper wrote gives its source back
+-- the verifier accepts exactly the legal mapped netlists; a source with its least levels differs in level fields alone, and with
+-- the same s and any b from 1 to 4,095 none of 1, 26 and 2 to 8 refuses it; a mapped netlist has one source at most, stripping
+-- accepts exactly if there is one and writes it, and what the mapper wrote gives its source back
 pub record Demand2 : Type 0 where
   pub legal : WrittenLegal
   pub balanced : WrittenBalanced
