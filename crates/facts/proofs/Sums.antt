@@ -4,7 +4,7 @@ use mathlib.Core.Path.{_≡_, refl, sym, _∙_, ap, ap₂, subst, subst⁻¹}
 use mathlib.Core.Bool.{Bool, true, false, not, _&&_, _||_}
 use mathlib.Core.Logic.{_↔_}
 use native.Mathlib.Omega.{arith}
-use native.Mathlib.Nat.{mul-zero, mul-suc, mul-add, add-zero, add-suc, add-sub-of-le, mul-add-div, div-eq-of-lt, mul-add-mod-self-left, mod-eq-of-lt, div-mul-le-self, lt-div-mul-add}
+use native.Mathlib.Nat.{mul-zero, mul-suc, mul-add, add-zero, add-suc, add-sub-of-le, mul-add-div, div-eq-of-lt, mul-le-mul-left, mul-add-mod-self-left, mod-eq-of-lt, mod-lt, div-add-mod}
 use native.Mathlib.Decide.{decLt}
 use native.Mathlib.Numerals.{add-one}
 use lib.Dec.{ltb, eqb}
@@ -269,12 +269,36 @@ count-within p a s n h =
       count-none (λ i. p (a + s + i)) n (λ i l e. omega (arith, h (a + s + i) e)),
     )
 
--- at most s numbers give y when divided by s
+-- what gives y when divided by s
+quotient-range : (s y i : ℕ) → 0 < s → i / s ≡ y → (s * y ≤ i) × (i < s * y + s)
+quotient-range s y i h e = rw (← e) (omega (arith, div-add-mod i s, mod-lt i h))
+
+-- at most s numbers do
 pub count-div : (s y n : ℕ) → 0 < s → count (λ i. eqb (i / s) y) n ≤ s
-count-div s y n h = count-within (λ i. eqb (i / s) y) (y * s) s n (λ i e. at i (eqb-true (i / s) y e))
-  where
-    at : (i : ℕ) → i / s ≡ y → (y * s ≤ i) × (i < y * s + s)
-    at i e = rw (← e) (div-mul-le-self i s, lt-div-mul-add h)
+count-div s y n h = count-within (λ i. eqb (i / s) y) (s * y) s n (λ i e. quotient-range s y i h (eqb-true (i / s) y e))
+
+-- which numbers below n give y when divided by s: r of them where n is s * y + r, for r up to s
+count-quotient : (s y r : ℕ) → 0 < s → r ≤ s → count (λ i. eqb (i / s) y) (s * y + r) ≡ r
+count-quotient s y r h l =
+    omega (
+      arith,
+      count-append (λ i. eqb (i / s) y) (s * y) r,
+      count-none (λ i. eqb (i / s) y) (s * y) (λ i b e. omega (arith, quotient-range s y i h (eqb-true (i / s) y e))),
+      count-all (λ i. eqb ((s * y + i) / s) y) r (λ i b. eq-eqb _ y (omega (arith, mul-add-div h y i, div-eq-of-lt {n = i} {m = s} (omega arith)))),
+    )
+
+-- s of them where n / s is above y
+pub count-full : (s y n : ℕ) → 0 < s → y < n / s → count (λ i. eqb (i / s) y) n ≡ s
+count-full s y n h l =
+    count-stop (λ i. eqb (i / s) y) (s * y + s) n
+    (omega (arith, mul-suc s y, mul-le-mul-left {m = suc y} {n = n / s} s l, div-add-mod n s))
+    (λ i b e. omega (arith, quotient-range s y i h (eqb-true (i / s) y e)))
+    ∙ count-quotient s y s h (omega arith)
+
+-- and n % s of them where it is y
+pub count-rest : (s n : ℕ) → 0 < s → count (λ i. eqb (i / s) (n / s)) n ≡ n % s
+count-rest s n h =
+    ap (count (λ i. eqb (i / s) (n / s))) (sym (div-add-mod n s)) ∙ count-quotient s (n / s) (n % s) h (omega (arith, mod-lt n h))
 
 bit-fibre : (b : Bool) (x Y : ℕ) → (b ≡ true → x < Y) → bit b ≡ sum (λ y. bit (b && eqb x y)) Y
 unfolding count

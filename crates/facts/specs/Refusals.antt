@@ -10,7 +10,7 @@ use Rattle.facts.specs.declared.Checked.the-variants.{Passed, Refused}
 infixr 15 _or_
 -- entry n is the row of number n in the table; rows are checked from 1 on
 abbrev pub rows : List ℕ
-rows = 0 ∷ 1 ∷ 5 ∷ 6 ∷ 7 ∷ 7 ∷ 7 ∷ 7 ∷ 10 ∷ 11 ∷ 12 ∷ 13 ∷ 14 ∷ 14 ∷ 14 ∷ 14 ∷ 15 ∷ 16 ∷ 17 ∷ 18 ∷ 20 ∷ 19 ∷ 8 ∷ 9 ∷ 3 ∷ 4 ∷ 2 ∷ []
+rows = 0 ∷ 1 ∷ 7 ∷ 8 ∷ 9 ∷ 9 ∷ 9 ∷ 9 ∷ 12 ∷ 13 ∷ 14 ∷ 15 ∷ 16 ∷ 16 ∷ 16 ∷ 16 ∷ 17 ∷ 18 ∷ 19 ∷ 20 ∷ 22 ∷ 21 ∷ 10 ∷ 11 ∷ 5 ∷ 6 ∷ 2 ∷ 3 ∷ 4 ∷ []
 
 abbrev pub rowOf : ℕ → ℕ
 rowOf number = getD rows number 0

@@ -133,7 +133,7 @@ nodes-some s (c ∷ r) (suc x) p l = omega (arith, div-up s 0 (nodes s r) p (nod
 
 -- a row whose farthest sinks, at most two, stand at distance top, and at most one sink at each distance below
 module _ (s : ℕ) (r : List ℕ) (top : ℕ) (two : 2 ≤ s) (farthest : 0 < getD r top 0) (few : getD r top 0 ≤ 2)
-    (nearer : (k : ℕ) → k < top → getD r k 0 ≤ 1) (beyond : (k : ℕ) → top < k → getD r k 0 ≡ 0) where
+    (nearer : (k : ℕ) → suc k < top → getD r (suc k) 0 ≤ 1) (beyond : (k : ℕ) → top < k → getD r k 0 ≡ 0) where
   positive : 0 < s
   positive = omega arith
 
@@ -141,7 +141,7 @@ module _ (s : ℕ) (r : List ℕ) (top : ℕ) (two : 2 ≤ s) (farthest : 0 < ge
   carries : (k : ℕ) → 1 ≤ k → bit (ltb (suc k) top) + getD r (suc k) 0 ≤ s * bit (ltb k top)
   carries k a =
       elim (decLt (suc k) top) [
-        | yes b ↦ rw (lt-ltb k top (omega arith), lt-ltb (suc k) top b) (omega (arith, nearer (suc k) b))
+        | yes b ↦ rw (lt-ltb k top (omega arith), lt-ltb (suc k) top b) (omega (arith, nearer k b))
         | no b ↦ rw (le-ltb (suc k) top (omega arith)) (elim (decLt k top) [
           | yes l ↦ (let e : suc k ≡ top = omega arith in rw (lt-ltb k top l) (omega (arith, ap (λ (x : ℕ). getD r x 0) e)))
           | no l ↦ rw (le-ltb k top (omega arith)) (omega (arith, beyond (suc k) (omega arith)))

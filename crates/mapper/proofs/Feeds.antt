@@ -1,20 +1,23 @@
--- How many slots each record of the mapped netlist feeds: the nodes that hang on it, and so at most as many as its kind may.
+-- How many slots each record of the mapped netlist feeds: a driver the nodes at distance 1 of its tree, a buffer its s of those one
+-- level further on, the last one of a distance the rest; and so at most as many as its kind may.
 use Prim.Native.Nat.{ℕ, zero, suc, _+_, _≤_, _<_, _/_}
 use mathlib.Core.Path.{_≡_, refl, sym, _∙_, ap, ap₂, subst⁻¹, subst₂}
 use mathlib.Core.Bool.{Bool, true, false, _&&_}
 use native.Mathlib.Omega.{arith}
+use native.Mathlib.Decide.{decLt}
 use native.Mathlib.Nat.{add-assoc}
 use lib.Dec.{eqb}
 use borrow.Author.Tests.{lt-ltb, ltb-true, leb-true, eq-eqb, eqb-true}
 use Rattle.facts.specs.Sums.{bit, sum, count, count₂}
 use Rattle.facts.proofs.Bools.{and-l, and-r, and-i}
-use Rattle.facts.proofs.Sums.{sum-none, sum-single-le, sum-cong, sum-add, sum-append, count-append, count₂-cong, count-none, count-all, count-le, count-mono, count₂-none, count-div, fibres}
+use Rattle.facts.proofs.Sums.{sum-none, sum-single, sum-cong, sum-add, sum-append, count-append, count₂-cong, count-none, count-all, count-cong, count₂-none, count-div, fibres}
 use Rattle.netlist.specs.declared.Capacities.{Capacities}
 use Rattle.netlist.specs.Kinds.{slots, topLevel, buffer, arity}
 use Rattle.netlist.specs.Records.{Netlist, slot, used, fanin, names, feeds}
 use Rattle.netlist.specs.Capacities.{capacityOf}
 use Rattle.netlist.proofs.Source.{no-buffer}
 use Rattle.fanout.specs.Nets.{sinks, sinkAt, nodesAt, treeSize, row}
+use Rattle.fanout.proofs.Nets.{buffers-past, row-length}
 use Rattle.mapper.specs.Mapped.{buffersOf, mappedSize, place, parent, bufferRecord, rank, distance, sinkNumber, sinkParent, mappedAt, mapped}
 use Rattle.mapper.specs.PrivateWriting.{Ready}
 use Rattle.mapper.proofs.Blocks.{sum-blocks, count₂-rank}
@@ -26,6 +29,21 @@ both : (a b : Bool) → (a ≡ true → b ≡ true) → (b ≡ true → a ≡ tr
 both true b f g = sym (f refl)
 both false true f g = g refl
 both false false f g = refl
+
+-- what is summed over all buffers, net by net and distance by distance
+pub sum-places : (n : Netlist) (caps : Capacities) → 0 < caps .buffer → (f : ℕ → ℕ) →
+    sum (λ y. f (n .size + y)) (sum (treeSize n caps) (n .size))
+    ≡ sum (λ d. sum (λ k. sum (λ j. f (place n caps d k j)) (buffersOf n caps d k)) (suc topLevel)) (n .size)
+sum-places n caps p f =
+    sum-blocks g (treeSize n caps) (n .size)
+    ∙ sum-cong _ _ (n .size) (λ d ld.
+    ap (sum (λ z. g (sum (treeSize n caps) d + z))) (tree-sum n caps p d)
+    ∙ sum-blocks (λ z. g (sum (treeSize n caps) d + z)) (buffersOf n caps d) (suc topLevel)
+    ∙ sum-cong _ _ (suc topLevel) (λ k lk.
+    sum-cong _ _ (buffersOf n caps d k) (λ j b. ap f (sym (add-assoc (n .size) (sum (treeSize n caps) d) _)))))
+  where
+    g : ℕ → ℕ
+    g y = f (n .size + y)
 
 -- the nodes of d's tree at distance k that hang on x
 abbrev pub hangsOn : Netlist → Capacities → ℕ → ℕ → ℕ → ℕ → Bool
@@ -43,19 +61,10 @@ module _ (n : Netlist) (caps : Capacities) (r : Ready n caps) (x : ℕ) where
       ≡ sum (λ d. sum (λ k. count (hangsOn n caps x d k) (buffersOf n caps d k)) (suc topLevel)) (n .size)
   unfolding count
   buffers-name =
-      sum-blocks g (treeSize n caps) (n .size)
+      sum-places n caps (pos n caps r) (λ i. count (names (mapped n caps) x i) slots)
       ∙ sum-cong _ _ (n .size) (λ d ld.
-      ap (sum (λ z. g (sum (treeSize n caps) d + z))) (tree-sum n caps (pos n caps r) d)
-      ∙ sum-blocks (λ z. g (sum (treeSize n caps) d + z)) (buffersOf n caps d) (suc topLevel)
-      ∙ sum-cong _ _ (suc topLevel) (λ k lk.
-      sum-cong _ _ (buffersOf n caps d k) (λ j b.
-      ap f (sym (add-assoc (n .size) (sum (treeSize n caps) d) _)) ∙ buffer-names d k j ld (omega arith) b)))
-    where
-      f : ℕ → ℕ
-      f i = count (names (mapped n caps) x i) slots
-
-      g : ℕ → ℕ
-      g y = f (n .size + y)
+      sum-cong _ _ (suc topLevel) (λ k lk.
+      sum-cong _ _ (buffersOf n caps d k) (λ j b. buffer-names d k j ld (omega arith) b)))
 
   -- a used slot of the source hangs on x
   abbrev goes : ℕ → ℕ → Bool
@@ -149,38 +158,37 @@ module _ (n : Netlist) (caps : Capacities) (r : Ready n caps) where
   on-driver x d (suc zero) q l h e = (e, refl)
   on-driver x d (suc (suc k)) q l h e = absurd (omega arith)
 
-  -- where all nodes that hang on x are of one net and distance, x feeds at most those
-  feeds-single : (x d₀ k₀ : ℕ) → d₀ < n .size →
+  -- where all nodes that hang on x are of one net and distance, x feeds those
+  feeds-single : (x d₀ k₀ : ℕ) → d₀ < n .size → 1 ≤ k₀ → k₀ ≤ topLevel →
       ((d k q : ℕ) → IsNode n caps r d k q → parent n caps d k q ≡ x → (d ≡ d₀) × (k ≡ k₀)) →
-      feeds (mapped n caps) x ≤ count (hangsOn n caps x d₀ k₀) (buffersOf n caps d₀ k₀ + sinks n d₀ k₀)
-  feeds-single x d₀ k₀ ld₀ only =
-      omega (
-        arith,
-        feeds-nodes n caps r x,
-        sum-single-le (λ d. sum (λ k. at d k) (suc topLevel)) d₀ (n .size)
-            (λ d ld ne.
-            sum-none _ (suc topLevel)
-            (λ k lk.
-            count-none (hangsOn n caps x d k) _
-            (λ q b e. ne (only d k q (counted-node d k q ld (omega arith) b) (eqb-true _ x e) .0)))),
-        sum-single-le (at d₀) k₀ (suc topLevel)
-            (λ k lk ne.
-            count-none (hangsOn n caps x d₀ k) _
-            (λ q b e. ne (only d₀ k q (counted-node d₀ k q ld₀ (omega arith) b) (eqb-true _ x e) .1))),
-      )
+      feeds (mapped n caps) x ≡ count (hangsOn n caps x d₀ k₀) (nodesAt (caps .buffer) (row n d₀) k₀)
+  feeds-single x d₀ k₀ ld₀ a l only =
+      feeds-nodes n caps r x
+      ∙ sum-single (λ d. sum (λ k. at d k) (suc topLevel)) d₀ (n .size) ld₀
+      (λ d ld ne.
+      sum-none _ (suc topLevel)
+      (λ k lk.
+      count-none (hangsOn n caps x d k) _
+      (λ q b e. ne (only d k q (counted-node d k q ld (omega arith) b) (eqb-true _ x e) .0))))
+      ∙ sum-single (at d₀) k₀ (suc topLevel) (omega arith)
+      (λ k lk ne.
+      count-none (hangsOn n caps x d₀ k) _
+      (λ q b e. ne (only d₀ k q (counted-node d₀ k q ld₀ (omega arith) b) (eqb-true _ x e) .1)))
+      ∙ ap (count (hangsOn n caps x d₀ k₀)) (sym (nodes-split n caps r d₀ k₀ a l))
     where
       at : ℕ → ℕ → ℕ
       at d k = count (hangsOn n caps x d k) (buffersOf n caps d k + sinks n d k)
 
-  pub driver-feeds : (x : ℕ) → x < n .size → feeds (mapped n caps) x ≤ capacityOf caps (n .at x .kind)
+  -- a driver feeds the nodes at distance 1 of its tree
+  pub driver-feeds : (x : ℕ) → x < n .size → feeds (mapped n caps) x ≡ nodesAt (caps .buffer) (row n x) 1
+  unfolding parent
   driver-feeds x l =
-      omega (
-        arith,
-        feeds-single x x 1 l (λ d k q h e. on-driver x d k q l h e),
-        count-le (hangsOn n caps x x 1) (buffersOf n caps x 1 + sinks n x 1),
-        nodes-split n caps r x 1 (omega arith) (omega arith),
-        leb-true (nodesAt (caps .buffer) (row n x) 1) (capacityOf caps (n .at x .kind)) (r .trees x l),
-      )
+      feeds-single x x 1 l (omega arith) (omega arith) (λ d k q h e. on-driver x d k q l h e)
+      ∙ count-all (hangsOn n caps x x 1) _ (λ q b. eq-eqb x x refl)
+
+  pub driver-branches : (x : ℕ) → x < n .size → feeds (mapped n caps) x ≤ capacityOf caps (n .at x .kind)
+  driver-branches x l =
+      omega (arith, driver-feeds x l, leb-true (nodesAt (caps .buffer) (row n x) 1) (capacityOf caps (n .at x .kind)) (r .trees x l))
 
   -- a buffer at distance k carries nodes of its own net at distance k + 1, s at most
   on-buffer : (d₀ k₀ j₀ d k q : ℕ) → d₀ < n .size → k₀ ≤ topLevel → j₀ < buffersOf n caps d₀ k₀ → IsNode n caps r d k q →
@@ -197,17 +205,33 @@ module _ (n : Netlist) (caps : Capacities) (r : Ready n caps) where
             (subst⁻¹ (λ (y : ℕ). j₀ < buffersOf n caps y k₀) f b) (e ∙ ap (λ (y : ℕ). place n caps y k₀ j₀) (sym f))),
       )
 
-  pub buffer-feeds : (d k j : ℕ) → d < n .size → k ≤ topLevel → j < buffersOf n caps d k → feeds (mapped n caps) (place n caps d k j) ≤ caps .buffer
-  unfolding buffersOf parent
-  buffer-feeds d zero j ld l b = absurd (omega arith)
-  buffer-feeds d (suc k) j ld l b =
-      omega (
-        arith,
-        feeds-single (place n caps d (suc k) j) d (suc (suc k)) ld (λ d′ k′ q h e. on-buffer d (suc k) j d′ k′ q ld l b h e),
-        count-mono (hangsOn n caps (place n caps d (suc k) j) d (suc (suc k))) (λ q. eqb (q / (caps .buffer)) j) (buffersOf n caps d (suc (suc k)) + sinks n d (suc (suc k)))
-            (λ q m e. eq-eqb (q / (caps .buffer)) j (omega (arith, eqb-true _ (place n caps d (suc k) j) e))),
-        count-div (caps .buffer) j (buffersOf n caps d (suc (suc k)) + sinks n d (suc (suc k))) (pos n caps r),
-      )
+  -- beyond a buffer stands a node
+  buffer-near : (d k j : ℕ) → j < buffersOf n caps d (suc k) → suc (suc k) ≤ topLevel
+  unfolding buffersOf
+  buffer-near d k j b =
+      elim (decLt topLevel (suc (suc k))) [
+        | yes h ↦ absurd (omega (arith, buffers-past (caps .buffer) (row n d) (suc k) (pos n caps r) (omega (arith, row-length n d))))
+        | no h ↦ omega arith
+      ]
+
+  -- buffer j of a distance feeds those nodes one level further on whose number, divided by s, is j
+  pub buffer-feeds : (d k j : ℕ) → d < n .size → suc k ≤ topLevel → j < buffersOf n caps d (suc k) →
+      feeds (mapped n caps) (place n caps d (suc k) j)
+      ≡ count (λ q. eqb (q / (caps .buffer)) j) (nodesAt (caps .buffer) (row n d) (suc (suc k)))
+  unfolding parent
+  buffer-feeds d k j ld l b =
+      feeds-single (place n caps d (suc k) j) d (suc (suc k)) ld (omega arith) (buffer-near d k j b)
+      (λ d′ k′ q h e. on-buffer d (suc k) j d′ k′ q ld l b h e)
+      ∙ count-cong _ _ _ (λ q m.
+      both _ _
+      (λ e. eq-eqb (q / (caps .buffer)) j (omega (arith, eqb-true _ (place n caps d (suc k) j) e)))
+      (λ e. eq-eqb _ _ (ap (place n caps d (suc k)) (eqb-true (q / (caps .buffer)) j e))))
+
+  pub buffer-branches : (d k j : ℕ) → d < n .size → k ≤ topLevel → j < buffersOf n caps d k → feeds (mapped n caps) (place n caps d k j) ≤ caps .buffer
+  unfolding buffersOf
+  buffer-branches d zero j ld l b = absurd (omega arith)
+  buffer-branches d (suc k) j ld l b =
+      omega (arith, buffer-feeds d k j ld l b, count-div (caps .buffer) j (nodesAt (caps .buffer) (row n d) (suc (suc k))) (pos n caps r))
 
   -- the records of kind 5 are the M - N buffers of all trees
   pub buffer-count : count (λ i. eqb (mappedAt n caps i .kind) buffer) (mappedSize n caps) ≡ sum (treeSize n caps) (n .size)

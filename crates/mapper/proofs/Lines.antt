@@ -25,14 +25,14 @@ use Rattle.mapper.proofs.Nodes.{pos, IsNode, hangs, buffer-node}
 use Rattle.mapper.proofs.SinkParents.{sink-node, sink-parent, flatNumbered}
 
 -- d's line as it is written
-module _ (n : Netlist) (caps : Capacities) (d top atOne : ℕ) (r : Ready n caps) (ld : d < n .size) (h : ShortChain n d top atOne) where
+module _ (n : Netlist) (caps : Capacities) (d top other : ℕ) (r : Ready n caps) (ld : d < n .size) (h : ShortChain n d top other) where
   at : (k : ℕ) → buffersOf n caps d (suc k) ≡ bit (ltb (suc k) top)
   unfolding buffersOf
-  at k = line-at n caps d top atOne (r .allowed .low) h (suc k) (omega arith)
+  at k = line-at n caps d top other (r .allowed .low) h (suc k) (omega arith)
 
   below : (k : ℕ) → k < top → sum (buffersOf n caps d) (suc k) ≡ k
   unfolding buffersOf
-  below k l = omega (arith, sum-first (buffersOf n caps d) k, line-below n caps d top atOne (r .allowed .low) h k l)
+  below k l = omega (arith, sum-first (buffersOf n caps d) k, line-below n caps d top other (r .allowed .low) h k l)
 
   -- what a node hangs on
   line-node : (k q : ℕ) → IsNode n caps r d k q → parent n caps d k q ≡ lineParent d (blockStart n caps d) k
@@ -66,7 +66,7 @@ module _ (n : Netlist) (caps : Capacities) (d top atOne : ℕ) (r : Ready n caps
   line-written area =
       ap (put area (width * blockStart n caps d))
       (encoded-cong _ _ (top - 1) line-record
-      ∙ ap (encoded (λ j. mappedAt n caps (blockStart n caps d + j))) (sym (line-size n caps d top atOne (r .allowed .low) h)))
+      ∙ ap (encoded (λ j. mappedAt n caps (blockStart n caps d + j))) (sym (line-size n caps d top other (r .allowed .low) h)))
 
   pub line-parents : (before after : List ℕ) → ParentsWritten n d (onLine n d (blockStart n caps d)) before after → ParentsWritten n d (onParent n caps) before after
   unfolding onLine

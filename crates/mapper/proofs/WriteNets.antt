@@ -102,9 +102,9 @@ module _ (n : Netlist) (caps : Capacities) (d at : ℕ) (first next : List ℕ) 
   line-start = omega (arith, w .start, w .ready .fits, block-before (treeSize n caps) d (n .size) (w .driver))
 
   -- of one or two it is a line
-  module _ (top atOne : ℕ) (f : ShortChain n d top atOne) where
+  module _ (top other : ℕ) (f : ShortChain n d top other) where
     size : treeSize n caps d ≡ top - 1
-    size = line-size n caps d top atOne (w .ready .allowed .low) f
+    size = line-size n caps d top other (w .ready .allowed .low) f
 
     inside : at + (top - 1) ≤ mappedSize n caps
     inside = omega (arith, w .start, size, block-before (treeSize n caps) d (n .size) (w .driver))
@@ -128,8 +128,8 @@ module _ (n : Netlist) (caps : Capacities) (d at : ℕ) (first next : List ℕ) 
         wrote (at + (top - 1)) next′ counts base area′
         (omega (arith, size, next-start))
         (w .clear) (w .room)
-        (line-parents n caps d top atOne (w .ready) (w .driver) f next next′ (subst (λ (x : ℕ). ParentsWritten n d (onLine n d x) next next′) (w .start) k))
-        (a ∙ rw (e, w .start) (line-written n caps d top atOne (w .ready) (w .driver) f area))
+        (line-parents n caps d top other (w .ready) (w .driver) f next next′ (subst (λ (x : ℕ). ParentsWritten n d (onLine n d x) next next′) (w .start) k))
+        (a ∙ rw (e, w .start) (line-written n caps d top other (w .ready) (w .driver) f area))
 
 -- the nets of the drivers below d are written
 pub record NetsWritten (n : Netlist) (caps : Capacities) (first : List ℕ) (end : ℕ) (area₀ : List ℕ) (d at : ℕ) (next counts base area : List ℕ) : Type 0 where

@@ -1,13 +1,14 @@
 -- For functions inside the engine alone: what the local arrays of the chains hold, and what is counted along them. Slots go by
 -- number: slot y is slot y % slots of record y / slots.
-use Prim.Native.Nat.{ℕ, suc, _-_, _*_, _≤_, _<_, _/_, _%_}
+use Prim.Native.Nat.{ℕ, suc, _+_, _-_, _*_, _≤_, _<_, _/_, _%_}
 use mathlib.Core.Path.{_≡_}
 use mathlib.Core.Bool.{Bool, true, false}
 use mathlib.Core.List.{List}
 use lib.ListN.{length, getD}
+use lib.Dec.{eqb}
 use Rattle.facts.specs.declared.Checked.{Checked}
 use Rattle.facts.specs.Checks.{outcome}
-use Rattle.facts.specs.Sums.{count, seek}
+use Rattle.facts.specs.Sums.{bit, count, seek}
 use Rattle.netlist.specs.declared.Capacities.{Capacities}
 use Rattle.netlist.specs.Kinds.{slots, unused, topLevel}
 use Rattle.netlist.specs.Records.{Netlist, used, fanin, names}
@@ -78,20 +79,17 @@ pub record Chained (n : Netlist) (first next : List ℕ) (d end : ℕ) : Type 0 
   pub nextLong : slotEnd n ≤ length next
   pub stop : end ≡ slotEnd n
 
--- one or two sinks of d: the farthest stands at distance top, and `atOne` of them at distance 1
-pub record ShortChain (n : Netlist) (d top atOne : ℕ) : Type 0 where
+-- one or two sinks of d: one at distance top, and another, no farther, at distance other; without another that is 0
+pub record ShortChain (n : Netlist) (d top other : ℕ) : Type 0 where
   pub above : 1 ≤ top
   pub near : top ≤ topLevel
-  pub ones : atOne ≡ sinks n d 1
-  pub farthest : 0 < sinks n d top
-  pub few : sinks n d top ≤ 2
-  pub nearer : (k : ℕ) → k < top → sinks n d k ≤ 1
-  pub beyond : (k : ℕ) → top < k → sinks n d k ≡ 0
+  pub nearer : other ≤ top
+  pub at : (k : ℕ) → 1 ≤ k → sinks n d k ≡ bit (eqb top k) + bit (eqb other k)
 
 -- what is known of d's sinks; of many, nothing is claimed
 unfoldable pub ChainIs : Netlist → ℕ → Chain → Type 0
 ChainIs n d Empty = (k : ℕ) → sinks n d k ≡ 0
-ChainIs n d (Short top atOne) = ShortChain n d top atOne
+ChainIs n d (Short top other) = ShortChain n d top other
 ChainIs n d Long = Unit {0}
 
 -- d's net: the nodes left at distance 1, and its buffers

@@ -22,10 +22,10 @@ pub const RECORDS: usize = netlist::SOURCE_LIMIT;
 
 pub const SINKS: usize = SLOTS * RECORDS;
 
-// The sinks of a driver: none; one or two, with the largest distance and how many stand at distance 1; or more.
+// The sinks of a driver: none; one or two, with the largest distance and that of the other sink, 0 without another; or more.
 pub enum Chain {
     Empty,
-    Short(usize, u32),
+    Short(usize, usize),
     Long,
 }
 
@@ -168,14 +168,11 @@ pub fn chain_of(source: &[u8], end: usize, first: &[u16], next: &[u16], d: usize
     let a = distance(source, low, p);
     let q = numbers::index(next[p]);
     if end <= q {
-        return Chain::Short(a, numbers::one_if(a == 1));
+        return Chain::Short(a, 0);
     }
     if end <= numbers::index(next[q]) {
         let b = distance(source, low, q);
-        return Chain::Short(
-            facts::larger(a, b),
-            numbers::one_if(a == 1) + numbers::one_if(b == 1),
-        );
+        return Chain::Short(facts::larger(a, b), facts::smaller(a, b));
     }
     Chain::Long
 }

@@ -51,8 +51,8 @@ fn measure(
             nodes: 0,
             buffers: 0,
         },
-        Chain::Short(top, at_one) => TreeTotals {
-            nodes: numbers::one_if(1 < top) + at_one,
+        Chain::Short(top, other) => TreeTotals {
+            nodes: 1 + numbers::one_if(other == 1),
             buffers: top as u32 - 1,
         },
         Chain::Long => {

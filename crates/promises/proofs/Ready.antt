@@ -16,7 +16,7 @@ use Rattle.mapper.specs.PrivateWriting.{Ready}
 use Rattle.fanout.specs.Nets.{fewestInAll}
 use Rattle.mapper.proofs.Mapped.{placed}
 use Rattle.mapper.proofs.Nodes.{pos, kind-kept, inversion-kept, level-kept, slot-kept, named, no-output, balanced, traced, buffer-kind, buffer-inversion, buffer-low, buffer-empty}
-use Rattle.mapper.proofs.Feeds.{driver-feeds, buffer-feeds, buffer-count}
+use Rattle.mapper.proofs.Feeds.{driver-branches, buffer-branches, buffer-count}
 
 module _ (n : Netlist) (caps : Capacities) (r : Ready n caps) where
   kept : (k : ℕ) → k < n .size → Kept (n .at k) (mappedAt n caps k)
@@ -36,11 +36,11 @@ module _ (n : Netlist) (caps : Capacities) (r : Ready n caps) where
   branched : (k : ℕ) → k < mappedSize n caps → feeds (mapped n caps) k ≤ capacityOf caps (mappedAt n caps k .kind)
   branched k l =
       elim (decLt k (n .size)) [
-        | yes a ↦ rw (kind-kept n caps r k a) (driver-feeds n caps r k a)
+        | yes a ↦ rw (kind-kept n caps r k a) (driver-branches n caps r k a)
         | no a ↦
             let p = placed n caps (pos n caps r) k (omega arith) l in
             rw (eq-eqb (mappedAt n caps k .kind) buffer (buffer-kind n caps r k (omega arith) l))
-            (subst (λ (x : ℕ). feeds (mapped n caps) x ≤ caps .buffer) (sym (p .index)) (buffer-feeds n caps r (p .d) (p .k) (p .j) (p .driver) (p .near) (p .number)))
+            (subst (λ (x : ℕ). feeds (mapped n caps) x ≤ caps .buffer) (sym (p .index)) (buffer-branches n caps r (p .d) (p .k) (p .j) (p .driver) (p .near) (p .number)))
       ]
 
   pub mapped-legal : Legal n caps (mapped n caps)

@@ -1,6 +1,6 @@
 -- `chain_of` meets its contract: no sink, one, two, or more.
 use Rattle.nets.proofs.OneChain.{chain-start, chain-next, chain-above, chain-on, distance-is}
-use Rattle.nets.proofs.ShortChains.{chain-empty, chain-one, chain-two, ones-fit}
+use Rattle.nets.proofs.ShortChains.{chain-empty, chain-one, chain-two}
 use Rattle.nets.specs.PrivateChains.{ChainIs}
 use borrow.Author.Needs.{needs}
 use Rattle.nets.proofs.sinks.chain_of.Statement.{statement}
@@ -33,9 +33,6 @@ shared-slice-read-index-2 c = search needs
 index-requires-2 : tie.Need-index-requires-2
 index-requires-2 c κs = search needs
 
-one-if-requires : tie.Need-one-if-requires
-one-if-requires c κs = search needs
-
 returns-2 : tie.Need-returns-2
 returns-2 c = search (chain-one, distance-is)
 
@@ -54,14 +51,8 @@ distance-requires-2 c κs = search (chain-above, chain-on, chain-next, chain-sta
 larger-requires : tie.Need-larger-requires
 larger-requires c κs = search needs
 
-one-if-requires-2 : tie.Need-one-if-requires-2
-one-if-requires-2 c κs = search needs
-
-one-if-requires-3 : tie.Need-one-if-requires-3
-one-if-requires-3 c κs = search needs
-
-add-t25 : tie.Need-add-t25
-add-t25 c = search ones-fit
+smaller-requires : tie.Need-smaller-requires
+smaller-requires c κs = search needs
 
 returns-3 : tie.Need-returns-3
 returns-3 c = search (chain-two, distance-is)
@@ -83,15 +74,12 @@ chain-of-spec =
     mul-index-2
     shared-slice-read-index-2
     index-requires-2
-    one-if-requires
     returns-2
     mul-index-3
     shared-slice-read-index-3
     index-requires-3
     distance-requires-2
     larger-requires
-    one-if-requires-2
-    one-if-requires-3
-    add-t25
+    smaller-requires
     returns-3
     returns-4)

@@ -21,7 +21,7 @@ one-if-requires : tie.Need-one-if-requires
 one-if-requires c κs = search needs
 
 add-t15 : tie.Need-add-t15
-add-t15 c = search (few-fit _ _ _ _ (few-sinks _ _ _ _ _ (c .before .before .before .before .chain-of .ensures) (c .before .before .chain .given .1)))
+add-t15 c = search few-fit
 
 cast-t16 : tie.Need-cast-t16
 cast-t16 c = omega (arith, few-sinks _ _ _ _ _ (c .before .before .before .before .chain-of .ensures) (c .before .before .chain .given .1) .near)

@@ -1,0 +1,86 @@
+-- The promises of price lists.
+use Prim.Native.Nat.{ℕ, zero, suc, _+_, _*_, _≤_, _<_}
+use native.Mathlib.Omega.{arith}
+use mathlib.Core.Path.{_≡_, refl, sym, _∙_, ap, ap₂}
+use mathlib.Core.Logic.{⊎-elim}
+use mathlib.Core.Bool.{Bool, true, false, cond}
+use mathlib.Core.List.{List}
+use lib.ListN.{length, getD, List·getD-eq-default}
+use lib.Dec.{eqb}
+use borrow.Author.Tests.{le-leb, lt-leb, ne-eqb, eqb-true}
+use Rattle.facts.specs.Sums.{bit, sum, count}
+use Rattle.facts.specs.Refusals.{rowOf, Conditions, Fails, Each, First}
+use Rattle.facts.proofs.Sums.{sum-cong, sum-add, sum-scale}
+use Rattle.facts.proofs.Reflect.{same, unlike, both-is}
+use Rattle.facts.proofs.Refusals.{InRow, exact, rows-before, one-row, within-one, first-check, first-then, first-scan, scan-rows}
+use Rattle.netlist.specs.Kinds.{buffer, isGate}
+use Rattle.netlist.specs.Records.{Netlist}
+use Rattle.netlist.specs.Counts.{gates, bufferCount}
+use Rattle.prices.specs.Prices.{listLength, plainPrices, priceOf, junctions, bufferJunctions}
+use Rattle.prices.specs.Checks.{priceCheck, listChecks}
+use Rattle.prices.specs.Promises.{BadLength, ListFails, ListExact, EmptyList}
+use Rattle.prices.specs.Worked.{PriceTableTrue}
+
+-- the prices of a list that fail
+abbrev Zeros : List ℕ → Conditions
+Zeros list = Each (length list) (λ p. Fails 28 p (getD list p 0 ≡ 0))
+
+zeros-row : (list : List ℕ) → InRow (rowOf 28) (Zeros list)
+zeros-row list = scan-rows (λ p. Fails 28 p (getD list p 0 ≡ 0)) (rowOf 28) 28 28 (length list) (λ p. within-one 28 p (getD list p 0 ≡ 0))
+
+-- 27 and 28 stand in the two rows behind 26's
+pub list-rows : (list : List ℕ) (n p : ℕ) → ListFails list n p → (rowOf 26 < rowOf n) × (rowOf n ≤ rowOf 28)
+list-rows list n p =
+    ⊎-elim
+    (λ f. omega (arith, one-row 27 0 (BadLength list) n p f))
+    (λ f. omega (arith, zeros-row list n p f))
+
+pub list-first : (list : List ℕ) → First (ListFails list) (listChecks list)
+unfolding listChecks
+list-first list =
+    first-then
+    (rows-before (rowOf 27) (λ n p f. omega (arith, one-row 27 0 (BadLength list) n p f)) (λ n p f. omega (arith, zeros-row list n p f)))
+    (first-check 27 0 (both-is (unlike (length list) 0) (unlike (length list) listLength)))
+    (first-scan (priceCheck list) (λ p. Fails 28 p (getD list p 0 ≡ 0)) (rowOf 28) 28 28 (λ p. within-one 28 p (getD list p 0 ≡ 0)) (length list)
+    (λ p l. first-check 28 p (same (getD list p 0) 0)))
+
+pub list-exact : ListExact
+list-exact list = exact (list-first list)
+
+-- a kind's price in an empty list: 6 for a gate, 2 for a buffer
+plain-kind : (kind : ℕ) → getD plainPrices kind 0 ≡ 6 * bit (isGate kind) + 2 * bit (eqb kind buffer)
+plain-kind zero = refl
+plain-kind (suc zero) = refl
+plain-kind (suc (suc zero)) = refl
+plain-kind (suc (suc (suc zero))) = refl
+plain-kind (suc (suc (suc (suc zero)))) = refl
+plain-kind (suc (suc (suc (suc (suc zero))))) = refl
+plain-kind (suc (suc (suc (suc (suc (suc k)))))) = past (suc (suc (suc (suc (suc (suc k)))))) (omega arith)
+  where
+    past : (kind : ℕ) → 6 ≤ kind → getD plainPrices kind 0 ≡ 6 * bit (isGate kind) + 2 * bit (eqb kind buffer)
+    past kind l =
+        List·getD-eq-default plainPrices 0 {n = kind} l
+        ∙ sym (rw (le-leb 1 kind (omega arith), lt-leb kind 3 (omega arith), ne-eqb kind buffer (λ e. omega arith)) refl)
+
+plain-buffer : (kind : ℕ) → cond (eqb kind buffer) (getD plainPrices kind 0) 0 ≡ 2 * bit (eqb kind buffer)
+plain-buffer kind = go (eqb kind buffer) refl
+  where
+    go : (b : Bool) → eqb kind buffer ≡ b → cond b (getD plainPrices kind 0) 0 ≡ 2 * bit b
+    go true e = ap (λ (k : ℕ). getD plainPrices k 0) (eqb-true kind buffer e)
+    go false e = refl
+
+pub empty-list : EmptyList
+unfolding junctions bufferJunctions priceOf gates bufferCount count
+empty-list m = (
+  sum-cong _ _ (m .size) (λ x l. plain-kind (m .at x .kind))
+      ∙ sum-add (λ x. 6 * bit (isGate (m .at x .kind))) (λ x. 2 * bit (eqb (m .at x .kind) buffer)) (m .size)
+      ∙ ap₂ _+_ (sum-scale 6 (λ x. bit (isGate (m .at x .kind))) (m .size)) buffers,
+  sum-cong _ _ (m .size) (λ x l. plain-buffer (m .at x .kind)) ∙ buffers,
+)
+  where
+    buffers : sum (λ x. 2 * bit (eqb (m .at x .kind) buffer)) (m .size) ≡ 2 * sum (λ x. bit (eqb (m .at x .kind) buffer)) (m .size)
+    buffers = sum-scale 2 (λ x. bit (eqb (m .at x .kind) buffer)) (m .size)
+
+pub price-table : PriceTableTrue
+unfolding priceOf
+price-table = refl

@@ -1,0 +1,5 @@
+pub mod Prices
+pub mod Checks
+pub mod Promises
+pub mod Worked
+pub mod PrivatePrices
