@@ -4,7 +4,8 @@
  * another; the lowest byte that changed tells how far the call went. The inputs are the deepest that
  * the limits allow: one driver with 12,285 sinks; chains of 4,094 buffers whose records stand in
  * falling order, so that each trace goes through a whole chain; and, with b = 4,095, inputs that feed
- * 4,095 slots each. Elsewhere b is 1.
+ * 4,095 slots each. Elsewhere b is 1. The mapper is called with an empty price list and with one of 11
+ * prices.
  */
 #define _GNU_SOURCE
 #include <stdint.h>
@@ -82,11 +83,18 @@ static void stars(size_t count) {
     output_count = records - count;
 }
 
-static uint32_t map(void) {
-    uint32_t returned =
-        aqfp_map(source, WIDTH * records, 2, input_capacity, mapped, sizeof mapped, answer);
+static uint32_t map_with(const uint8_t *prices, size_t prices_len) {
+    uint32_t returned = aqfp_map(source, WIDTH * records, 2, input_capacity, prices, prices_len,
+                                 mapped, sizeof mapped, answer);
     mapped_records = answer[8] + 256u * answer[9];
     return returned;
+}
+static uint32_t map(void) {
+    return map_with(NULL, 0);
+}
+static uint32_t map_priced(void) {
+    static const uint8_t prices[11] = {10, 12, 11, 14, 9, 13, 4, 2, 3, 5, 6};
+    return map_with(prices, sizeof prices);
 }
 static uint32_t count(void) {
     return aqfp_count(source, WIDTH * records, 2, input_capacity, 0, answer);
@@ -161,6 +169,7 @@ int main(void) {
     puts("| call | input | number | bytes |\n|---|---|---|---|");
     wide();
     row("aqfp_map", map, "12,285 sinks");
+    row("aqfp_map", map_priced, "12,285 sinks, 11 prices");
     row("aqfp_strip", strip, "12,285 sinks");
     row("aqfp_count", count, "12,285 sinks");
     row("aqfp_count_nets", count_nets, "12,285 sinks");

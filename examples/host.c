@@ -1,5 +1,6 @@
-/* A small host: works out the least levels of the netlist of a file, maps the netlist, verifies what
- * was written, strips it again, runs four rows of inputs through it, and prints what it got.
+/* A small host: works out the least levels of the netlist of a file, maps the netlist, with an empty
+ * price list and with another, verifies what was written, strips it again, runs four rows of inputs
+ * through it, and prints what it got.
  *
  *   host FILE     one byte for the capacity, two for the input capacity, low byte first, then the
  *                 source (examples/case.bin is such a file); a missing byte counts as 0
@@ -72,6 +73,7 @@ static void print_row(const char *name, const uint8_t *row, size_t len)
 
 int main(int argc, char **argv)
 {
+    static const uint8_t prices[11] = { 1, 2, 3, 4, 5, 6, 7, 8, 9, 10, 11 };
     uint8_t answer[28];
     const uint8_t *source = file + HEAD;
     size_t len, source_len, mapped_len, m, t, k, inputs, output_count;
@@ -95,13 +97,18 @@ int main(int argc, char **argv)
         return 1;
     print_records(levelled, source_len / RECORD);
 
-    aqfp_map(source, source_len, capacity, input_capacity, mapped, sizeof mapped, answer);
+    aqfp_map(source, source_len, capacity, input_capacity, NULL, 0, mapped, sizeof mapped, answer);
     print_numbers("map", answer, 7);
     if (number(answer, 0) != 0)
         return 1;
     m = number(answer, 2);
     mapped_len = RECORD * m;
     print_records(mapped, m);
+
+    /* A price list changes the last two numbers, and no byte of the mapped netlist. */
+    aqfp_map(source, source_len, capacity, input_capacity, prices, sizeof prices, mapped,
+             sizeof mapped, answer);
+    print_numbers("map with prices", answer, 7);
 
     aqfp_verify(source, source_len, capacity, input_capacity, mapped, mapped_len, answer);
     print_numbers("verify", answer, 3);

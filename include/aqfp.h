@@ -72,6 +72,10 @@
  *        1  capacity not 2, 3 or 4                                                0
  *       26  input_capacity 0 or above 4,095                                       0
  *
+ *       27  prices neither empty nor 11 bytes long                                0
+ *       28  a price of 0, positions in turn                                       its position
+ *                                                                                 in prices
+ *
  *       24  a mapped netlist for which no source exists that aqfp_verify accepts  0
  *           with it and both capacities
  *       25  a source area shorter than that source                                0
@@ -141,20 +145,34 @@
 extern "C" {
 #endif
 
-/* Writes the mapped netlist of a source with the fewest buffers.
+/* Writes the mapped netlist of a source with the fewest buffers, and prices it in Josephson
+ * junctions. Fewest buffers, not the least price: prices change the last two numbers of the
+ * answer and nothing else.
  *
- * In:       source; capacity; input_capacity.
+ * In:       source; capacity; input_capacity; prices, empty or 11 bytes from 1 to 255:
+ *
+ *             bytes 0-1   an AND that feeds no slot, one slot
+ *             bytes 2-3   an OR that feeds no slot, one slot
+ *             bytes 4-5   a MAJ that feeds no slot, one slot
+ *             bytes 6-10  a buffer that feeds no slot, one, two, three, four slots
+ *
+ *           With empty prices every gate costs 6 and every buffer 2. Inputs and outputs cost
+ *           nothing.
  * Out:      mapped, whose first 10 x M bytes are written and whose other bytes stay. Source
  *           records keep their indices; then come buffers by driver, then by distance from it
  *           rising. A mapped area of 600,000 bytes is always enough.
- * Answer:   number, place, M, buffers, D, Josephson junctions (6 a gate, 2 a buffer), share of
- *           the buffers in them (percent, rounded to the nearest whole number, an exact half to
- *           the even one: 12.5 gives 12, 13.5 gives 14; 0 if there are no junctions).
- * Checks:   1, 26, 2 to 10.
+ * Answer:   number, place, M, buffers, D, Josephson junctions, share of the buffers in them.
+ *           Josephson junctions are the sum, over the M records written, of the price of each
+ *           one's kind at the number of slots that it feeds in them. The share is the part of
+ *           the records of kind 5 in that sum (percent, rounded to the nearest whole number, an
+ *           exact half to the even one: 12.5 gives 12, 13.5 gives 14; 0 if there are no
+ *           junctions).
+ * Checks:   1, 26, 27, 28, 2 to 10.
  * Refused:  mapped stays as it was.
  */
 uint32_t aqfp_map(const uint8_t *source, size_t source_len,
                   uint32_t capacity, uint32_t input_capacity,
+                  const uint8_t *prices, size_t prices_len,
                   uint8_t *mapped, size_t mapped_len,
                   uint8_t answer[28]);
 
@@ -281,9 +299,9 @@ uint32_t aqfp_levels(const uint8_t *source, size_t source_len,
  * which aqfp_verify accepts the mapped netlist with these capacities. No two sources have that.
  *
  * Stripped with the same capacities, what aqfp_map wrote comes back as the source that was
- * mapped. Mapping what this call writes, with the same capacities and a mapped area as long as
- * the mapped netlist, is accepted, and gives a netlist with no more buffers: in all, on each net
- * and at each level of each net.
+ * mapped. Mapping what this call writes, with the same capacities, prices that 27 and 28 pass and
+ * a mapped area as long as the mapped netlist, is accepted, and gives a netlist with no more
+ * buffers: in all, on each net and at each level of each net.
  *
  * In:       capacity; input_capacity; mapped, which may be empty.
  * Out:      source, whose first 10 x N bytes are written and whose other bytes stay. An area of

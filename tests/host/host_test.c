@@ -1,9 +1,10 @@
 /* Host tests: every call of aqfp.h and every refusal number, from C.
  *
- * Every call goes through a wrapper that lends each area in a block of its own, with guard bytes
- * or a protected page on either side, and that holds after every call: guard bytes and areas that
- * are only read are unchanged, the value returned is the answer's first number, and a refusal
- * leaves all areas unchanged and gives 0 after its place.
+ * Every call goes through a wrapper that lends each area in a block of its own (but a price list
+ * that is part of the source), with guard bytes or a protected page on either side, and that holds
+ * after every call: guard bytes and areas that are only read are unchanged, the value returned is
+ * the answer's first number, and a refusal leaves all areas unchanged and gives 0 after its place.
+ * The wrapper of the mapper calls it with a price list and with an empty one.
  */
 
 #define _DEFAULT_SOURCE
@@ -18,7 +19,7 @@
 
 enum {
     RECORD = 10, SLOTS = 3, MAX_SOURCE = 4096, MAX_MAPPED = 60000, MAX_LEVEL = 4095, UNUSED = 65535,
-    MAX_ROWS = 10000, MAX_LISTED = 65535, MAX_INPUT_CAPACITY = 4095
+    MAX_ROWS = 10000, MAX_LISTED = 65535, MAX_INPUT_CAPACITY = 4095, PRICES = 11
 };
 enum { INPUT, AND, OR, MAJ, OUTPUT, BUFFER };
 
@@ -60,12 +61,17 @@ static void check(int holds, const char *what)
 
 /* ---- random numbers by a fixed seed ---- */
 
-static uint64_t seed = 1;
+static uint64_t seed = 1, price_seed = 2;
+
+static uint32_t drawn(uint64_t *from, uint32_t n)
+{
+    *from = *from * 6364136223846793005u + 1442695040888963407u;
+    return (uint32_t)(*from >> 33) % n;
+}
 
 static uint32_t below(uint32_t n)
 {
-    seed = seed * 6364136223846793005u + 1442695040888963407u;
-    return (uint32_t)(seed >> 33) % n;
+    return drawn(&seed, n);
 }
 
 /* ---- areas ---- */
@@ -86,7 +92,7 @@ struct area {
 };
 
 static struct area source_area, mapped_area, rows_area, state_area, outputs_area, answer_area;
-static struct area records_area, counts_area, levelled_area;
+static struct area records_area, counts_area, levelled_area, prices_area;
 
 static void make_block(struct area *area)
 {
@@ -210,14 +216,37 @@ static struct bytes part(const uint8_t *at, size_t len)
     return bytes;
 }
 
-static void do_map(struct bytes source, uint32_t capacity, struct bytes mapped)
+/* The price list is `prices_len` bytes of `prices`, from byte `from` on. */
+static void do_map_part(struct bytes source, uint32_t capacity, struct bytes prices, size_t from,
+                        size_t prices_len, struct bytes mapped)
+{
+    static struct area *const read[] = { &source_area, &prices_area, NULL };
+    static struct area *const written[] = { &mapped_area, NULL };
+    const uint8_t *s = lend(&source_area, source.at, source.len);
+    const uint8_t *p = lend(&prices_area, prices.at, prices.len);
+    uint8_t *m = lend(&mapped_area, mapped.at, mapped.len);
+    uint32_t returned = aqfp_map(s, source.len, capacity, input_capacity,
+                                 p == NULL ? NULL : p + from, prices_len, m, mapped.len,
+                                 lend_answer(28));
+    settle("aqfp_map", returned, read, written);
+}
+
+static void do_map_priced(struct bytes source, uint32_t capacity, struct bytes prices,
+                          struct bytes mapped)
+{
+    do_map_part(source, capacity, prices, 0, prices.len, mapped);
+}
+
+/* The price list is `prices_len` bytes of the source, from byte `from` on. */
+static void do_map_within(struct bytes source, uint32_t capacity, size_t from, size_t prices_len,
+                          struct bytes mapped)
 {
     static struct area *const read[] = { &source_area, NULL };
     static struct area *const written[] = { &mapped_area, NULL };
     const uint8_t *s = lend(&source_area, source.at, source.len);
     uint8_t *m = lend(&mapped_area, mapped.at, mapped.len);
-    uint32_t returned =
-        aqfp_map(s, source.len, capacity, input_capacity, m, mapped.len, lend_answer(28));
+    uint32_t returned = aqfp_map(s, source.len, capacity, input_capacity, s + from, prices_len, m,
+                                 mapped.len, lend_answer(28));
     settle("aqfp_map", returned, read, written);
 }
 
@@ -421,6 +450,106 @@ static size_t number_of(unsigned kind, struct bytes records)
     for (k = 0; k < records.len / RECORD; k++)
         found += records.at[RECORD * k] == kind;
     return found;
+}
+
+/* ---- prices, worked out here as specification 2.6 says ---- */
+
+/* How many slots each record feeds. */
+static uint32_t feeds[UNUSED + 1];
+
+static void count_feeds(struct bytes mapped)
+{
+    size_t m = mapped.len / RECORD, k, j;
+    memset(feeds, 0, m * sizeof *feeds);
+    for (k = 0; k < m; k++)
+        for (j = 0; j < used_slots(mapped.at[RECORD * k]); j++)
+            feeds[field(mapped.at + RECORD * k + 4 + 2 * j)]++;
+}
+
+/* The price of a record of a kind that feeds so many slots. */
+static uint64_t price_of(struct bytes prices, unsigned kind, uint32_t slots)
+{
+    static const unsigned first[] = { 0, 0, 2, 4, 0, 6 }, most[] = { 0, 1, 1, 1, 0, 4 };
+    if (kind == INPUT || kind == OUTPUT || kind > BUFFER)
+        return 0;
+    if (prices.len == 0)
+        return kind == BUFFER ? 2 : 6;
+    return slots <= most[kind] ? prices.at[first[kind] + slots] : 0;
+}
+
+/* The share in percent, rounded to the nearest, an exact half to the even one. */
+static uint32_t percent(uint64_t part_of, uint64_t whole)
+{
+    uint64_t down, twice;
+    if (whole == 0)
+        return 0;
+    down = 100 * part_of / whole;
+    twice = 2 * (100 * part_of % whole);
+    return (uint32_t)(down + (twice > whole || (twice == whole && down % 2 == 1)));
+}
+
+/* The answer's JJs and share are those of the records in mapped_area, one by one. */
+static int is_priced(const uint32_t *numbers, struct bytes prices)
+{
+    struct bytes mapped = part(mapped_area.at, (size_t)RECORD * numbers[2]);
+    uint64_t junctions = 0, of_buffers = 0, price;
+    size_t k;
+    if (mapped.len > mapped_area.len)
+        return 0;
+    count_feeds(mapped);
+    for (k = 0; k < numbers[2]; k++) {
+        price = price_of(prices, mapped.at[RECORD * k], feeds[k]);
+        junctions += price;
+        of_buffers += mapped.at[RECORD * k] == BUFFER ? price : 0;
+    }
+    return numbers[5] == junctions && numbers[6] == percent(of_buffers, junctions);
+}
+
+/* The list 1, 2, 3, .., 11. */
+static const uint8_t rising_bytes[PRICES] = { 1, 2, 3, 4, 5, 6, 7, 8, 9, 10, 11 };
+
+/* All prices 1 but one. */
+static void one_price(uint8_t *prices, size_t position, uint8_t price)
+{
+    memset(prices, 1, PRICES);
+    prices[position] = price;
+}
+
+/* Any prices, or all 255, or all 1 but one, by a seed of their own. */
+static struct bytes some_prices(void)
+{
+    static uint8_t prices[PRICES];
+    uint32_t which = drawn(&price_seed, 32);
+    size_t k;
+    if (which < PRICES)
+        one_price(prices, which, (uint8_t)(2 + drawn(&price_seed, 254)));
+    else if (which == PRICES)
+        memset(prices, 255, PRICES);
+    else
+        for (k = 0; k < PRICES; k++)
+            prices[k] = (uint8_t)(1 + drawn(&price_seed, 255));
+    return part(prices, PRICES);
+}
+
+/* Maps with some prices, and then with an empty list: JJs and share go by the list, and nothing
+ * else does. The answer and the areas are left as the second call gave them. */
+static void do_map(struct bytes source, uint32_t capacity, struct bytes mapped)
+{
+    static uint8_t written[BLOCK];
+    struct bytes prices = some_prices();
+    uint32_t numbers[7];
+    do_map_priced(source, capacity, prices, mapped);
+    memcpy(numbers, answer, sizeof numbers);
+    if (mapped.len > 0)
+        memcpy(written, mapped_area.at, mapped.len);
+    do_map_priced(source, capacity, fill(0), mapped);
+    check(memcmp(numbers, answer, 5 * sizeof *numbers) == 0
+          && (mapped.len == 0 || memcmp(written, mapped_area.at, mapped.len) == 0),
+          "prices change JJs and share alone");
+    if (answer[0] != 0)
+        return;
+    check(is_priced(numbers, prices), "JJs and share of the records written, with prices");
+    check(is_priced(answer, fill(0)), "JJs and share of the records written");
 }
 
 /* ---- lists of record indices ---- */
@@ -2511,18 +2640,6 @@ static uint32_t capacity_of(unsigned kind, uint32_t s)
     return kind == INPUT ? input_capacity : kind == BUFFER ? s : 1;
 }
 
-/* How many slots each record feeds. */
-static uint32_t feeds[MAX_MAPPED];
-
-static void count_feeds(struct bytes mapped)
-{
-    size_t m = mapped.len / RECORD, k, j;
-    memset(feeds, 0, m * sizeof *feeds);
-    for (k = 0; k < m; k++)
-        for (j = 0; j < used_slots(mapped.at[RECORD * k]); j++)
-            feeds[field(mapped.at + RECORD * k + 4 + 2 * j)]++;
-}
-
 /* Adds buffers to m records of mapped_bytes, each on a record that may feed one slot more; how many
  * records there are then. */
 static size_t add_spare(size_t m, uint32_t s, uint32_t tries)
@@ -3348,19 +3465,17 @@ static void test_strip_small(void)
 
 /* ---- inputs that branch ---- */
 
-static void test_input_capacities(void)
+/* What the mapper says of each source of `make_later` with an empty area, where nothing before the
+ * source is refused. */
+static const uint32_t later[] = { 10, 0, 2, 3, 4, 5, 6, 7, 8, 9 };
+
+enum { LATER = sizeof later / sizeof later[0] };
+
+static void make_later(struct bytes source[LATER])
 {
-    static const uint32_t bad[] = {
-        0, 4096, 4097, 8191, 65535, 65536, 65537, 69631, 16777217, 2147483649u, 4294967295u
-    };
-    /* What the mapper says of each source with an empty area and a b that passes. */
-    static const uint32_t later[] = { 10, 0, 2, 3, 4, 5, 6, 7, 8 };
-    enum { SOURCES = sizeof later / sizeof later[0] };
     static uint8_t five[2 * RECORD], six[2 * RECORD], seven[2 * RECORD], eight[5 * RECORD];
-    struct bytes source[SOURCES];
-    size_t k, j;
-    uint32_t s;
-    begin("refusal 26, all calls with an input capacity");
+    static uint8_t nine[31 * RECORD];
+    unsigned k;
     two_records(AND, 4, 2, 0, 0, UNUSED);
     memcpy(five, netlist, sizeof five);
     two_records(AND, 0, 2, 0, 1, UNUSED);
@@ -3374,6 +3489,12 @@ static void test_input_capacities(void)
     add_one(OUTPUT, 2, 2);
     add_one(OUTPUT, 2, 2);
     memcpy(eight, netlist, sizeof eight);
+    clear();
+    for (k = 0; k < 16; k++)
+        add_input();
+    for (k = 0; k < 15; k++)
+        add_one(OUTPUT, 3999, k);
+    memcpy(nine, netlist, sizeof nine);
     make_lines(MAX_SOURCE + 1, MAX_SOURCE + 1);
     source[0] = worked;
     source[1] = fill(0);
@@ -3384,16 +3505,29 @@ static void test_input_capacities(void)
     source[6] = part(six, sizeof six);
     source[7] = part(seven, sizeof seven);
     source[8] = part(eight, sizeof eight);
+    source[9] = part(nine, sizeof nine);
+}
+
+static void test_input_capacities(void)
+{
+    static const uint32_t bad[] = {
+        0, 4096, 4097, 8191, 65535, 65536, 65537, 69631, 16777217, 2147483649u, 4294967295u
+    };
+    struct bytes source[LATER];
+    size_t k, j;
+    uint32_t s;
+    begin("refusal 26, all calls with an input capacity");
+    make_later(source);
     for (input_capacity = 1; input_capacity <= MAX_INPUT_CAPACITY; input_capacity += 2047)
         for (s = 2; s <= 4; s++)
-            for (j = 0; j < SOURCES; j++) {
+            for (j = 0; j < LATER; j++) {
                 do_map(source[j], s, fill(0));
                 check(answer[0] == later[j], "a check that comes after 26");
             }
     for (k = 0; k < sizeof bad / sizeof bad[0]; k++) {
         input_capacity = bad[k];
         for (s = 2; s <= 4; s++)
-            for (j = 0; j < SOURCES; j++)
+            for (j = 0; j < LATER; j++)
                 capacities_refused(source[j], s, 26);
         for (j = 0; j < 30; j++)
             capacities_refused(random_bytes(mapped_bytes, 60), 2 + below(3), 26);
@@ -3945,6 +4079,586 @@ static void test_branches_levels(void)
     end();
 }
 
+/* ---- price lists ---- */
+
+static struct bytes rising_prices(void)
+{
+    return part(rising_bytes, PRICES);
+}
+
+static int is_answer(uint32_t m, uint32_t buffers, uint32_t depth, uint32_t junctions,
+                     uint32_t share)
+{
+    return answered(0, 0) && answer[2] == m && answer[3] == buffers && answer[4] == depth
+           && answer[5] == junctions && answer[6] == share;
+}
+
+/* The netlist in `netlist` is what the mapper writes for a source with the list 1, 2, 3, .., 11,
+ * with this depth, these JJs and this share. */
+static void hold_rising(struct bytes source, uint32_t s, uint32_t depth, uint32_t junctions,
+                        uint32_t share, const char *what)
+{
+    do_map_priced(source, s, rising_prices(), fill(netlist_len));
+    check(is_answer((uint32_t)(netlist_len / RECORD), (uint32_t)number_of(BUFFER, made()), depth,
+                    junctions, share), what);
+    check(memcmp(mapped_area.at, netlist, netlist_len) == 0, what);
+    do_map(source, s, fill(netlist_len));
+    check(answered(0, 0) && memcmp(mapped_area.at, netlist, netlist_len) == 0, what);
+}
+
+/* Specification 8.2: record 2, an AND, feeds one slot (2 JJs), buffer 5 two (9), buffers 6 and 7
+ * one each (8 and 8). JJs are 27, of which 25 are the buffers', 92.6 percent. */
+static void test_prices_worked(void)
+{
+    static const uint32_t input_capacities[] = { 1, 2, 255, 4095 };
+    uint8_t prices[PRICES];
+    size_t len, k;
+    uint32_t s;
+    begin("aqfp_map, prices of the worked case");
+    for (k = 0; k < sizeof input_capacities / sizeof input_capacities[0]; k++) {
+        input_capacity = input_capacities[k];
+        for (s = 2; s <= 4; s++) {
+            memcpy(netlist, worked_mapped, sizeof worked_mapped);
+            netlist_len = sizeof worked_mapped;
+            hold_rising(worked, s, 3, 27, 93, "the worked case");
+        }
+    }
+    input_capacity = 1;
+    for (len = 0; len <= 100; len++) {
+        do_map_priced(worked, 2, rising_prices(), fill(len));
+        if (len < 80) {
+            check(answered(10, 0), "an area below 80 bytes gives 10");
+            continue;
+        }
+        check(is_answer(8, 3, 3, 27, 93), "an area of 80 bytes or more");
+        check(memcmp(mapped_area.at, worked_mapped, 80) == 0, "the mapped netlist");
+        check(memcmp(mapped_area.at + 80, filler + 80, len - 80) == 0, "bytes after it stay");
+    }
+    do_map_priced(worked, 2, part(rising_bytes, 10), fill(80));
+    check(answered(27, 0), "a list of 10 bytes");
+    memcpy(prices, rising_bytes, PRICES);
+    prices[8] = 0;
+    do_map_priced(worked, 2, part(prices, PRICES), fill(80));
+    check(answered(28, 8), "a first 0 at position 8");
+    /* No gate and no buffer, and nothing at all. */
+    two_records(OUTPUT, 0, 1, 0, UNUSED, UNUSED);
+    do_map_priced(made(), 2, rising_prices(), fill(20));
+    check(is_answer(2, 0, 1, 0, 0), "an input and its output cost nothing");
+    do_map_priced(fill(0), 2, rising_prices(), fill(0));
+    check(is_answer(0, 0, 0, 0, 0), "an empty source costs nothing");
+    end();
+}
+
+/* Netlists written out by hand. The numbers in brackets are JJs with the list 1, 2, 3, .., 11. */
+static void test_prices_written(void)
+{
+    static const struct {
+        uint32_t s, junctions, share;
+    } fed[] = { { 2, 73, 71 }, { 3, 66, 68 }, { 4, 59, 64 } };
+    struct bytes source;
+    unsigned kind, j, n, gate;
+    size_t k;
+    begin("aqfp_map, prices of netlists written by hand");
+    /* Net P7 of specification 8.1: three sinks at distance 3. Buffer 4 feeds buffers 5 and 6 (9),
+     * buffer 5 outputs 1 and 2 (9), buffer 6 output 3 (8): 26, all of them the buffers'. */
+    clear();
+    add_input();
+    for (j = 1; j <= 3; j++)
+        add_one(OUTPUT, 3, 0);
+    source = keep_source();
+    set_slot(1, 0, 5);
+    set_slot(2, 0, 5);
+    set_slot(3, 0, 6);
+    add_one(BUFFER, 1, 0);
+    add_one(BUFFER, 2, 4);
+    add_one(BUFFER, 2, 4);
+    hold_rising(source, 2, 3, 26, 100, "P7 on an input");
+    /* The same on a gate of three inputs or two, which feeds one slot: AND (2), OR (4), MAJ (6).
+     * JJs are 28, 30 and 32, the buffers' part of them 92.9, 86.7 and 81.25 percent. */
+    for (kind = AND; kind <= MAJ; kind++) {
+        clear();
+        for (j = 0; j < 3; j++)
+            add_input();
+        add(kind, 0, 1, 0, 1, kind == MAJ ? 2 : UNUSED);
+        for (j = 0; j < 3; j++)
+            add_one(OUTPUT, 4, 3);
+        source = keep_source();
+        set_slot(4, 0, 8);
+        set_slot(5, 0, 8);
+        set_slot(6, 0, 9);
+        add_one(BUFFER, 2, 3);
+        add_one(BUFFER, 3, 7);
+        add_one(BUFFER, 3, 7);
+        hold_rising(source, 2, 4, 26 + 2 * kind, kind == AND ? 93 : kind == OR ? 87 : 81,
+                    "P7 on a gate");
+        /* Without the outputs the gate feeds no slot: AND (1), OR (3), MAJ (5). */
+        netlist_len = 4 * RECORD;
+        hold_rising(keep_source(), 2, 0, 2 * kind - 1, 0, "a gate that feeds no slot");
+    }
+    /* Two gates of each kind on input 0, which feeds 14 slots (0); the first of them feeds an
+     * output, the second nothing: 1 + 2 + .. + 6 = 21. Input n, from 1 to 4, has n outputs at
+     * distance 2. With s = 4 a buffer feeds 1 (8), 2 (9), 3 (10) and 4 (11): 38 of 59, 64.4
+     * percent. With s = 3 the four hang on buffers that feed 3 and 1: 45 of 66, 68.2 percent. With
+     * s = 2 the three hang on 2 and 1, the four on 2 and 2: 52 of 73, 71.2 percent. */
+    for (k = 0; k < sizeof fed / sizeof fed[0]; k++) {
+        clear();
+        for (j = 0; j < 5; j++)
+            add_input();
+        for (kind = AND; kind <= MAJ; kind++)
+            for (j = 0; j < 2; j++)
+                add(kind, 0, 1, 0, 0, kind == MAJ ? 0 : UNUSED);
+        for (gate = 5; gate <= 9; gate += 2)
+            add_one(OUTPUT, 2, gate);
+        for (n = 1; n <= 4; n++)
+            for (j = 0; j < n; j++)
+                add_one(OUTPUT, 2, n);
+        source = keep_source();
+        for (n = 1, gate = 14; n <= 4; gate += n++)
+            for (j = 0; j < n; j++) {
+                if (j % fed[k].s == 0)
+                    add_one(BUFFER, 1, n);
+                set_slot(gate + j, 0, netlist_len / RECORD - 1);
+            }
+        for (input_capacity = 14; input_capacity <= MAX_INPUT_CAPACITY; input_capacity += 4081)
+            hold_rising(source, fed[k].s, 2, fed[k].junctions, fed[k].share,
+                        "gates and buffers that feed each number of slots");
+        input_capacity = 13;
+        do_map_priced(source, fed[k].s, rising_prices(), fill(netlist_len));
+        check(answered(8, 0), "input 0 may feed 13 slots");
+        input_capacity = 1;
+    }
+    /* An input that feeds 4,095 slots: 1,365 majorities that feed nothing (5). */
+    clear();
+    add_input();
+    for (j = 0; j < 1365; j++)
+        add(MAJ, 0, 1, 0, 0, 0);
+    input_capacity = MAX_INPUT_CAPACITY;
+    hold_rising(keep_source(), 2, 0, 6825, 0, "an input that feeds 4,095 slots costs nothing");
+    end();
+}
+
+/* A gate that feeds no slot, at position 0, and a buffer that feeds one, at position 7. */
+static void hold_share(unsigned gate, unsigned buffer)
+{
+    uint8_t prices[PRICES];
+    memset(prices, 200, PRICES);
+    prices[0] = (uint8_t)gate;
+    prices[7] = (uint8_t)buffer;
+    make_priced(1, 1);
+    do_map_priced(made(), 2, part(prices, PRICES), fill(netlist_len + RECORD));
+}
+
+/* Shares that are exact halves, and those next to them. */
+static void test_prices_shares(void)
+{
+    static const struct {
+        unsigned gate, buffer;
+        uint32_t share;
+        const char *what;
+    } rows[] = {
+        { 7, 1, 12, "12.5 is rounded to the even 12" },
+        { 5, 3, 38, "37.5 is rounded to the even 38" },
+        { 3, 5, 62, "62.5 is rounded to the even 62" },
+        { 1, 7, 88, "87.5 is rounded to the even 88" },
+        { 199, 1, 0, "0.5 is rounded to the even 0" },
+        { 197, 3, 2, "1.5 is rounded to the even 2" },
+        { 3, 197, 98, "98.5 is rounded to the even 98" },
+        { 1, 199, 100, "99.5 is rounded to the even 100" },
+        { 200, 1, 0, "0.4975 is rounded down" },
+        { 198, 1, 1, "0.5025 is rounded up" },
+        { 1, 200, 100, "99.5025 is rounded up" },
+        { 1, 198, 99, "99.4975 is rounded down" },
+        { 255, 1, 0, "0.4 is rounded down" },
+        { 1, 255, 100, "99.6 is rounded up" },
+        { 2, 1, 33, "33.3 is rounded down" },
+        { 1, 2, 67, "66.7 is rounded up" },
+        { 255, 255, 50, "50 stays" }
+    };
+    unsigned whole, buffer;
+    size_t k;
+    begin("aqfp_map, shares with prices");
+    for (k = 0; k < sizeof rows / sizeof rows[0]; k++) {
+        hold_share(rows[k].gate, rows[k].buffer);
+        check(is_answer(6, 1, 2, rows[k].gate + rows[k].buffer, rows[k].share), rows[k].what);
+    }
+    /* Of 200 JJs each is half a percent. */
+    for (whole = 198; whole <= 202; whole++)
+        for (buffer = 1; buffer < whole; buffer++) {
+            hold_share(whole - buffer, buffer);
+            check(is_answer(6, 1, 2, whole, percent(buffer, whole)), "every share of about 200");
+        }
+    end();
+}
+
+/* The mapper answers a source with each of many lists as it does with an empty one, but for JJs and
+ * share. */
+static void hold_prices(struct bytes source, uint32_t s, size_t mapped_len)
+{
+    static uint8_t first[BLOCK];
+    uint8_t prices[PRICES];
+    uint32_t numbers[7];
+    size_t k;
+    do_map(source, s, fill(mapped_len));
+    memcpy(numbers, answer, sizeof numbers);
+    memcpy(first, mapped_area.at, mapped_len);
+    for (k = 0; k < PRICES + 4; k++) {
+        if (k < PRICES)
+            one_price(prices, k, 255);
+        else if (k == PRICES)
+            memcpy(prices, rising_bytes, PRICES);
+        else if (k == PRICES + 3)
+            memcpy(prices, some_prices().at, PRICES);
+        else
+            memset(prices, k == PRICES + 1 ? 255 : 1, PRICES);
+        do_map_priced(source, s, part(prices, PRICES), fill(mapped_len));
+        check(memcmp(answer, numbers, 5 * sizeof *numbers) == 0, "M, buffers and D with any list");
+        check(memcmp(mapped_area.at, first, mapped_len) == 0, "the same bytes with any list");
+        if (answer[0] == 0)
+            check(is_priced(answer, part(prices, PRICES)), "JJs and share with any list");
+    }
+}
+
+static void test_prices_shapes(void)
+{
+    static const uint32_t input_capacities[] = { 1, 2, 3, 256, 4095 };
+    unsigned sinks, distance;
+    unsigned long k, priced = 0;
+    size_t j;
+    uint32_t s;
+    begin("aqfp_map, one source and many price lists");
+    for (k = 0; k < NETS; k++)
+        for (j = 0; j < sizeof input_capacities / sizeof input_capacities[0]; j++) {
+            input_capacity = input_capacities[j];
+            make_net(nets[k].distances, nets[k].count);
+            hold_prices(made(), nets[k].s, 2000);
+            make_gate_net(nets[k].distances, nets[k].count);
+            hold_prices(made(), nets[k].s, 2000);
+        }
+    for (s = 2; s <= 4; s++)
+        for (sinks = 0; sinks <= 70; sinks++)
+            for (distance = 1 + height(sinks, s); distance <= 2 + height(sinks, s); distance++) {
+                input_capacity = sinks % 3 == 0 ? 1 : sinks;
+                make_sinks_at(sinks, distance);
+                hold_prices(made(), s, 5000);
+                check(answered(0, 0), "a net of so many sinks");
+                input_capacity = MAX_INPUT_CAPACITY;
+                make_sinks_at(sinks, 1 + distance / 2);
+                hold_prices(made(), s, 5000);
+                check(answered(0, 0), "a net of so many sinks on an input that branches");
+            }
+    for (k = 0; k < 300; k++) {
+        struct bytes source = random_source();
+        s = 2 + below(3);
+        input_capacity = k % 3 == 0 ? 1 : random_input_capacity();
+        if (k % 2 == 0) {
+            do_levels(source, s, fill(source.len));
+            memcpy(source_bytes, levelled_area.at, source.len);
+        }
+        hold_prices(source, s, RECORD * 1000);
+        priced += answer[0] == 0;
+    }
+    check(priced > 150, "enough sources were accepted");
+    for (s = 2; s <= 4; s++) {
+        input_capacity = 1;
+        hold_prices(block_source(blocks_of(500, 2048, s)), s, RECORD * 2048);
+        check(answered(0, 0), "blocks");
+    }
+    end();
+}
+
+/* 60,000 records. */
+static void test_prices_most(void)
+{
+    struct blocks b = blocks_of(MAX_SOURCE, MAX_MAPPED, 2);
+    uint32_t buffers = MAX_MAPPED - MAX_SOURCE, gates = b.count + 1, cells = gates + buffers;
+    struct bytes source;
+    uint8_t prices[PRICES];
+    size_t k;
+    begin("aqfp_map, prices of 60,000 records");
+    /* 15 lines of 3,998 buffers that feed one slot each: 59,970. */
+    clear();
+    for (k = 0; k < 15; k++)
+        add_input();
+    for (k = 0; k < 15; k++)
+        add_one(OUTPUT, 3999, (unsigned)k);
+    memset(prices, 255, PRICES);
+    do_map_priced(made(), 2, part(prices, PRICES), fill(600000));
+    check(is_answer(MAX_MAPPED, 59970, 3999, 15292350, 100), "59,970 buffers at 255");
+    do_map_priced(made(), 2, rising_prices(), fill(600000));
+    check(is_answer(MAX_MAPPED, 59970, 3999, 479760, 100), "59,970 buffers at 8");
+    for (k = 0; k < PRICES; k++) {
+        one_price(prices, k, 255);
+        do_map_priced(made(), 2, part(prices, PRICES), fill(600000));
+        check(is_answer(MAX_MAPPED, 59970, 3999, k == 7 ? 15292350 : 59970, 100),
+              "59,970 buffers that feed one slot");
+    }
+    do_map_priced(made(), 2, rising_prices(), fill(599999));
+    check(answered(10, 0), "an area one byte too short for 60,000 records");
+    add_input();
+    do_map_priced(made(), 2, rising_prices(), fill(600010));
+    check(answered(9, 0), "60,001 records");
+    /* Blocks: all prices alike, so that JJs are as many times the gates and buffers. */
+    source = block_source(b);
+    for (k = 1; k <= 255; k += 127) {
+        memset(prices, (int)k, PRICES);
+        do_map_priced(source, 2, part(prices, PRICES), fill(600000));
+        check(is_answer(MAX_MAPPED, buffers, 4 + b.line, (uint32_t)k * cells,
+                        percent(buffers, cells)), "gates and buffers at one price");
+        check(is_priced(answer, part(prices, PRICES)), "gates and buffers at one price");
+    }
+    /* Each majority of a block feeds one slot (6), the last one none (5). With s = 2 an input has
+     * a buffer that feeds two others (9), of which one feeds two slots of the majority (9) and the
+     * other one slot (8). The buffers of all lines feed one slot (8). */
+    check(b.ends == 2, "two buffers hold a majority's slots");
+    do_map_priced(source, 2, rising_prices(), fill(600000));
+    check(answered(0, 0)
+          && answer[5] == 6 * b.count + 5 + 9 * 2 * gates + 8 * (buffers - 2 * gates),
+          "majorities, and buffers that feed one slot and two");
+    check(is_priced(answer, rising_prices()), "majorities, and buffers that feed one slot and two");
+    /* The buffers' part is nearly all, or nearly nothing. */
+    memset(prices, 255, PRICES);
+    prices[4] = prices[5] = 1;
+    do_map_priced(source, 2, part(prices, PRICES), fill(600000));
+    check(answered(0, 0) && answer[5] == gates + 255 * buffers
+          && answer[6] == percent(255 * (uint64_t)buffers, answer[5]),
+          "gates at 1, buffers at 255");
+    memset(prices, 1, PRICES);
+    prices[4] = prices[5] = 255;
+    do_map_priced(source, 2, part(prices, PRICES), fill(600000));
+    check(answered(0, 0) && answer[5] == 255 * gates + buffers
+          && answer[6] == percent(buffers, answer[5]), "gates at 255, buffers at 1");
+    end();
+}
+
+/* Lengths that are refused; of some the low byte, or the low two, would pass. */
+static const size_t bad_lengths[] = {
+    1, 2, 3, 4, 5, 6, 7, 8, 9, 10, 12, 13, 14, 15, 16, 17, 18, 19, 20, 21, 22, 23, 24, 25, 26, 27,
+    28, 29, 30, 31, 32, 33, 34, 35, 36, 37, 38, 39, 40, 110, 121, 255, 256, 257, 267, 512, 523,
+    4096, 65535, 65536, 65547
+};
+
+enum { BAD_LENGTHS = sizeof bad_lengths / sizeof bad_lengths[0] };
+
+static void test_prices_lengths(void)
+{
+    static uint8_t bytes[65547];
+    struct bytes source[2], prices;
+    size_t k, j, i;
+    begin("refusal 27");
+    source[0] = worked;
+    source[1] = fill(0);
+    for (k = 0; k < BAD_LENGTHS; k++) {
+        prices = part(bytes, bad_lengths[k]);
+        for (j = 0; j < 2; j++)
+            for (i = 0; i < 4; i++) {
+                /* No 0; one, first or last; nothing but 0: 27 comes before 28. */
+                memset(bytes, i == 3 ? 0 : 1 + (int)k, sizeof bytes);
+                if (i == 1)
+                    bytes[0] = 0;
+                if (i == 2)
+                    bytes[bad_lengths[k] - 1] = 0;
+                do_map_priced(source[j], 2 + (uint32_t)k % 3, prices, fill(80));
+                check(answered(27, 0), "a list neither empty nor 11 bytes long");
+                do_map_priced(source[j], 2 + (uint32_t)k % 3, prices, fill(0));
+                check(answered(27, 0), "an empty area too");
+            }
+    }
+    memset(bytes, 1, sizeof bytes);
+    do_map_priced(worked, 2, part(bytes, PRICES), fill(80));
+    check(is_answer(8, 3, 3, 4, 75), "a list of 11 bytes");
+    do_map_priced(worked, 2, part(bytes, 0), fill(80));
+    check(is_worked_answer(), "an empty list");
+    /* What stands behind an empty list is not read. */
+    for (k = 0; k < 2; k++) {
+        memset(bytes, (int)k, PRICES);
+        do_map_part(worked, 2, part(bytes, PRICES), 0, 0, fill(80));
+        check(is_worked_answer(), "an empty list before eleven bytes");
+        do_map_part(worked, 2, part(bytes, PRICES), PRICES, 0, fill(80));
+        check(is_worked_answer(), "an empty list behind eleven bytes");
+    }
+    end();
+}
+
+static void test_prices_zeros(void)
+{
+    static const size_t lengths[] = { 80, 79, 0 };
+    uint8_t prices[PRICES];
+    size_t k, j, i;
+    unsigned set;
+    uint32_t first;
+    begin("refusal 28");
+    for (k = 0; k < PRICES; k++)
+        for (j = k; j < PRICES; j++)
+            for (i = 0; i < sizeof lengths / sizeof lengths[0]; i++) {
+                memcpy(prices, rising_bytes, PRICES);
+                prices[k] = prices[j] = 0;
+                do_map_priced(worked, 2, part(prices, PRICES), fill(lengths[i]));
+                check(answered(28, (uint32_t)k), "the first of one price of 0 or two");
+                do_map_priced(fill(0), 2, part(prices, PRICES), fill(lengths[i]));
+                check(answered(28, (uint32_t)k), "the first of one price of 0 or two");
+            }
+    /* Each set of positions. */
+    for (set = 1; set < 1u << PRICES; set++) {
+        first = PRICES;
+        for (k = PRICES; k-- > 0;) {
+            prices[k] = set >> k & 1 ? 0 : 255;
+            first = set >> k & 1 ? (uint32_t)k : first;
+        }
+        do_map_priced(worked, 2 + set % 3, part(prices, PRICES), fill(80));
+        check(answered(28, first), "the first price of 0");
+    }
+    /* Prices that are not 0. */
+    for (k = 0; k < PRICES; k++)
+        for (j = 1; j < 256; j++) {
+            one_price(prices, k, (uint8_t)j);
+            do_map_priced(worked, 2, part(prices, PRICES), fill(80));
+            check(answered(0, 0) && is_priced(answer, part(prices, PRICES)),
+                  "each price from 1 to 255");
+        }
+    end();
+}
+
+/* The number that both capacities and the list give, or 0; the place is at `place`. */
+static uint32_t prices_number(uint32_t s, struct bytes prices, uint32_t *place)
+{
+    size_t k;
+    *place = 0;
+    if (capacities_number(s) != 0)
+        return capacities_number(s);
+    if (prices.len != 0 && prices.len != PRICES)
+        return 27;
+    for (k = 0; k < prices.len; k++)
+        if (prices.at[k] == 0) {
+            *place = (uint32_t)k;
+            return 28;
+        }
+    return 0;
+}
+
+/* The mapper refuses by this number, or answers as it does with an empty list. */
+static void hold_prices_first(struct bytes source, uint32_t s, struct bytes prices,
+                              size_t mapped_len)
+{
+    uint32_t place, number = prices_number(s, prices, &place), numbers[7];
+    if (number != 0) {
+        do_map_priced(source, s, prices, fill(mapped_len));
+        check(answered(number, place), "1, then 26, then 27, then 28, then the source");
+        return;
+    }
+    do_map(source, s, fill(mapped_len));
+    memcpy(numbers, answer, sizeof numbers);
+    do_map_priced(source, s, prices, fill(mapped_len));
+    check(memcmp(numbers, answer, 5 * sizeof *numbers) == 0, "as with an empty list");
+    check(answer[0] != 0 || is_priced(answer, prices), "JJs and share with any list");
+}
+
+/* A list of up to 40 bytes, most often of 11, with a 0 or without. */
+static struct bytes random_prices(void)
+{
+    static uint8_t bytes[40];
+    size_t len = below(3) ? PRICES : below(41), k;
+    for (k = 0; k < len; k++)
+        bytes[k] = (uint8_t)(1 + below(255));
+    if (len > 0)
+        for (k = below(4); k > 2; k--)
+            bytes[below((uint32_t)len)] = 0;
+    return part(bytes, len);
+}
+
+static void test_prices_order(void)
+{
+    static const uint32_t capacities[] = { 2, 3, 4, 0, 1, 5, 258 };
+    static const uint32_t input_capacities[] = { 1, 2, 4095, 0, 4096, 65537 };
+    static uint8_t bytes[6][2 * PRICES];
+    static const size_t lengths[6] = { 0, PRICES, PRICES, PRICES, PRICES - 1, 2 * PRICES };
+    struct bytes source[LATER];
+    unsigned long k, refused[29] = { 0 };
+    size_t i, j, l, n;
+    begin("refusals 27 and 28, their order");
+    make_later(source);
+    /* Good, good, a 0 at the end, nothing but 0, too short and all 0, too long. */
+    memset(bytes, 3, sizeof bytes);
+    bytes[2][PRICES - 1] = 0;
+    memset(bytes[3], 0, PRICES);
+    memset(bytes[4], 0, PRICES);
+    for (i = 0; i < sizeof capacities / sizeof capacities[0]; i++)
+        for (j = 0; j < sizeof input_capacities / sizeof input_capacities[0]; j++)
+            for (l = 0; l < LATER; l++)
+                for (n = 0; n < 6; n++) {
+                    input_capacity = input_capacities[j];
+                    hold_prices_first(source[l], capacities[i], part(bytes[n], lengths[n]), 0);
+                    if (i < 3 && j < 3)
+                        check(answer[0] == (n < 2 ? later[l] : n < 4 ? 28 : 27),
+                              "27 and 28 before all checks of the source");
+                    else
+                        check(answer[0] == (i < 3 ? 26 : 1), "1 and 26 before 27 and 28");
+                }
+    for (k = 0; k < 5000; k++) {
+        struct bytes any = random_bytes(source_bytes, 60);
+        input_capacity = below(8) ? random_input_capacity() : bad_input_capacity();
+        hold_prices_first(any, below(8) ? 2 + below(3) : below(7), random_prices(), below(200));
+        refused[answer[0] <= 28 ? answer[0] : 0]++;
+    }
+    for (n = 26; n <= 28; n++)
+        check(refused[n] > 100, "26, 27 and 28 were given often enough");
+    end();
+}
+
+/* A source in which 11 bytes one after the other are not 0, and what stands around them: a majority
+ * of inputs 257 to 259 and an AND of 260 and 261, both at level 257. */
+static struct bytes make_dense(void)
+{
+    unsigned k;
+    clear();
+    for (k = 0; k < 262; k++)
+        add_input();
+    add(MAJ, 5, 257, 257, 258, 259);
+    add(AND, 3, 257, 260, 261, UNUSED);
+    return keep_source();
+}
+
+/* The list is only read: at any alignment, with other bytes around it, and within the source. */
+static void test_prices_areas(void)
+{
+    static uint8_t around[64];
+    struct bytes dense, prices;
+    size_t k, len;
+    uint32_t place, number, of_buffers, junctions, accepted_lists = 0;
+    begin("aqfp_map, where the price list stands");
+    for (k = 0; k + PRICES <= sizeof around; k++) {
+        memset(around, 0, sizeof around);
+        memcpy(around + k, rising_bytes, PRICES);
+        do_map_part(worked, 2, part(around, sizeof around), k, PRICES, fill(80));
+        check(is_answer(8, 3, 3, 27, 93), "a list between bytes of 0");
+        memset(around, 255, sizeof around);
+        memcpy(around + k, rising_bytes, PRICES);
+        do_map_part(worked, 2, part(around, sizeof around), k, PRICES, fill(80));
+        check(is_answer(8, 3, 3, 27, 93), "a list between bytes of 255");
+    }
+    dense = make_dense();
+    for (len = 10; len <= 12; len++)
+        for (k = RECORD * 255; k + len <= dense.len; k++) {
+            prices = part(dense.at + k, len);
+            number = prices_number(2, prices, &place);
+            do_map_within(dense, 2, k, len, fill(20000));
+            check(answered(number, place), "a list within the source");
+            if (number != 0)
+                continue;
+            accepted_lists++;
+            /* 5 lines of 256 buffers, each of which feeds one slot; both gates feed none. */
+            of_buffers = 1280u * prices.at[7];
+            junctions = of_buffers + prices.at[0] + prices.at[4];
+            check(is_answer(264 + 1280, 1280, 0, junctions, percent(of_buffers, junctions)),
+                  "JJs and share of a list within the source");
+        }
+    check(accepted_lists > 0, "some lists within the source have no 0");
+    do_map_within(dense, 2, 0, dense.len, fill(20000));
+    check(answered(27, 0), "the whole source as the list");
+    do_map_within(dense, 2, 0, 0, fill(20000));
+    check(is_answer(264 + 1280, 1280, 0, 2572, 100), "an empty list within the source");
+    end();
+}
+
 static void fill_filler(void)
 {
     size_t k;
@@ -3966,7 +4680,9 @@ static void test_all(void)
         test_strip_levels, test_strip_branches, test_strip_sizes, test_strip_small,
         test_input_capacities, test_worked_any, test_branches_written, test_branches_fed,
         test_branches_most, test_branches_wide, test_branches_sizes, test_branches_random,
-        test_branches_levels
+        test_branches_levels, test_prices_worked, test_prices_written, test_prices_shares,
+        test_prices_shapes, test_prices_most, test_prices_lengths, test_prices_zeros,
+        test_prices_order, test_prices_areas
     };
     size_t k;
     for (k = 0; k < sizeof tests / sizeof tests[0]; k++) {
@@ -3984,7 +4700,7 @@ int main(void)
     };
     struct area *const areas[] = { &source_area, &mapped_area, &rows_area, &state_area,
                                    &outputs_area, &answer_area, &records_area, &counts_area,
-                                   &levelled_area };
+                                   &levelled_area, &prices_area };
     size_t k;
     setvbuf(stdout, NULL, _IOLBF, 0);
     for (k = 0; k < sizeof areas / sizeof areas[0]; k++)

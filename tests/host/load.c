@@ -28,22 +28,28 @@ static void hold(int holds, const char *what)
     exit(1);
 }
 
-/* The worked case through the library: the mapper's seven numbers, each below 256. */
+/* The worked case through the library, with an empty price list and with 1, 2, 3, .., 11: the
+ * mapper's seven numbers, each below 256. */
 static void map_worked(void *library, const char *path)
 {
-    static const uint8_t expected[7] = { 0, 0, 8, 3, 3, 12, 50 };
+    static const uint8_t expected[2][7] = { { 0, 0, 8, 3, 3, 12, 50 }, { 0, 0, 8, 3, 3, 27, 93 } };
+    static const uint8_t prices[11] = { 1, 2, 3, 4, 5, 6, 7, 8, 9, 10, 11 };
     uint8_t bytes[53], mapped[80], answer[28], numbers[28] = { 0 };
-    uint32_t (*map)(const uint8_t *, size_t, uint32_t, uint32_t, uint8_t *, size_t, uint8_t *);
+    uint32_t (*map)(const uint8_t *, size_t, uint32_t, uint32_t, const uint8_t *, size_t, uint8_t *,
+                    size_t, uint8_t *);
     FILE *in = fopen(path, "rb");
-    size_t k;
+    size_t k, n;
     hold(in != NULL && fread(bytes, 1, sizeof bytes, in) == sizeof bytes, "no worked case");
     fclose(in);
-    for (k = 0; k < 7; k++)
-        numbers[4 * k] = expected[k];
     *(void **)&map = dlsym(library, "aqfp_map");
-    map(bytes + 3, sizeof bytes - 3, bytes[0], bytes[1] | (uint32_t)bytes[2] << 8, mapped,
-        sizeof mapped, answer);
-    hold(memcmp(answer, numbers, sizeof numbers) == 0, "the library maps the worked case otherwise");
+    for (n = 0; n < 2; n++) {
+        for (k = 0; k < 7; k++)
+            numbers[4 * k] = expected[n][k];
+        map(bytes + 3, sizeof bytes - 3, bytes[0], bytes[1] | (uint32_t)bytes[2] << 8, prices,
+            n == 0 ? 0 : sizeof prices, mapped, sizeof mapped, answer);
+        hold(memcmp(answer, numbers, sizeof numbers) == 0,
+             "the library maps the worked case otherwise");
+    }
 }
 
 int main(int argc, char **argv)

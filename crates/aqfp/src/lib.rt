@@ -51,17 +51,18 @@ pub extern "C" fn aqfp_map(
     source: &[u8],
     capacity: u32,
     input_capacity: u32,
+    prices: &[u8],
     mapped: &mut [u8],
     answer: &mut [u8; 28],
 ) -> u32
-    ensures answer { λ r. ⌜ Answered r (now (answer .exit)) (mappingNumbers (mapAnswer (now (source .entry)) (capacitiesOf capacity «input_capacity») (now (mapped .entry)))) ⌝ }
-    ensures area { λ _. ⌜ now (mapped .exit) ≡ mapArea (now (source .entry)) (capacitiesOf capacity «input_capacity») (now (mapped .entry)) ⌝ }
+    ensures answer { λ r. ⌜ Answered r (now (answer .exit)) (mappingNumbers (mapAnswer (now (source .entry)) (capacitiesOf capacity «input_capacity») (now (prices .entry)) (now (mapped .entry)))) ⌝ }
+    ensures area { λ _. ⌜ now (mapped .exit) ≡ mapArea (now (source .entry)) (capacitiesOf capacity «input_capacity») (now (prices .entry)) (now (mapped .entry)) ⌝ }
 {
     let capacities = Capacities {
         buffer: capacity,
         input: input_capacity,
     };
-    let mapping = mapper::map_netlist(source, capacities, mapped);
+    let mapping = mapper::map_netlist(source, capacities, prices, mapped);
     write_answer(
         answer,
         &[

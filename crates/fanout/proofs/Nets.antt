@@ -1,9 +1,9 @@
 -- Laws of one net's counts: rounding up, nodes and buffers per distance, their minimality, lines, and the row's entries.
-use Prim.Native.Nat.{ℕ, zero, suc, _+_, _*_, _-_, _≤_, _<_, _/_}
+use Prim.Native.Nat.{ℕ, zero, suc, _+_, _*_, _-_, _≤_, _<_, _/_, _%_}
 use mathlib.Core.Path.{_≡_, refl, _∙_, ap}
 use mathlib.Core.List.{List, [], _∷_}
 use native.Mathlib.Omega.{arith}
-use native.Mathlib.Nat.{mul-comm, mul-suc, div-self, div-lt-iff-lt-mul, lt-div-mul-add}
+use native.Mathlib.Nat.{mul-comm, mul-suc, div-self, div-lt-iff-lt-mul, lt-div-mul-add, mul-add-div, div-eq-of-lt, div-add-mod, mod-lt}
 use native.Mathlib.Decide.{decLt}
 use lib.ListN.{length, getD, drop, drop-of-length-le, List·getD-eq-default}
 use lib.Seq.{drop-cons, getD-drop}
@@ -36,6 +36,18 @@ up-one s h = let e : 1 + (s - 1) ≡ s = omega arith in ap (λ (x : ℕ). x / s)
 pub div-up : (s q n : ℕ) → 0 < s → q < n → q / s < up s n
 div-up s q n h l =
     div-lt-iff-lt-mul {k = s} {x = q} {y = up s n} h .1 (omega (arith, le-up s n h, mul-comm s (up s n)))
+
+-- n / s, rounded up, is n / s where nothing is left, else one more
+pub up-whole : (s n : ℕ) → 0 < s → n % s ≡ 0 → up s n ≡ n / s
+up-whole s n h e =
+    let m : n + (s - 1) ≡ s * (n / s) + (s - 1) = omega (arith, div-add-mod n s) in
+    ap (λ (x : ℕ). x / s) m ∙ omega (arith, mul-add-div h (n / s) (s - 1), div-eq-of-lt {n = s - 1} {m = s} (omega arith))
+
+pub up-part : (s n : ℕ) → 0 < s → 0 < n % s → up s n ≡ n / s + 1
+up-part s n h l =
+    let m : n + (s - 1) ≡ s * suc (n / s) + (n % s - 1) = omega (arith, div-add-mod n s, mul-suc s (n / s)) in
+    ap (λ (x : ℕ). x / s) m
+    ∙ omega (arith, mul-add-div h (suc (n / s)) (n % s - 1), div-eq-of-lt {n = n % s - 1} {m = s} (omega (arith, mod-lt n h)))
 
 -- past the row there is nothing
 pub nodes-past : (s : ℕ) (r : List ℕ) (k : ℕ) → length r ≤ k → nodesAt s r k ≡ 0
@@ -125,7 +137,7 @@ module _ (s : ℕ) (r : List ℕ) (B : ℕ → ℕ) (h : 0 < s)
   minimal-nodes = omega (arith, nodes-at s r 1 h, minimal 1 (omega arith))
 
 -- a row with a sink has a node
-nodes-some : (s : ℕ) (r : List ℕ) (x : ℕ) → 0 < s → 0 < getD r x 0 → 0 < nodes s r
+pub nodes-some : (s : ℕ) (r : List ℕ) (x : ℕ) → 0 < s → 0 < getD r x 0 → 0 < nodes s r
 unfolding nodes
 nodes-some s [] x p l = absurd (omega (arith, List·getD-eq-default {A = ℕ} [] 0 {n = x} (omega arith)))
 nodes-some s (c ∷ r) zero p l = omega arith

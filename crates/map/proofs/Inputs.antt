@@ -11,10 +11,10 @@ use Rattle.mapper.specs.declared.Mapping.{Mapping}
 use Rattle.mapper.specs.Answer.{mapAnswer}
 
 module _ (input area : List ℕ) (caps : Capacities) (r : Mapping) (e : caps ≡ capacitiesIn input) where
-  pub input-short : length input < capacityBytes → r ≡ mapAnswer [] caps area → r ≡ mapAnswer (drop capacityBytes input) (capacitiesIn input) area
+  pub input-short : length input < capacityBytes → r ≡ mapAnswer [] caps [] area → r ≡ mapAnswer (drop capacityBytes input) (capacitiesIn input) [] area
   input-short l f = f ∙ rw (e, drop-of-length-le input {i = capacityBytes} (omega arith))
 
-  pub input-split : r ≡ mapAnswer (take (length input - capacityBytes) (drop capacityBytes input)) caps area →
-      r ≡ mapAnswer (drop capacityBytes input) (capacitiesIn input) area
+  pub input-split : r ≡ mapAnswer (take (length input - capacityBytes) (drop capacityBytes input)) caps [] area →
+      r ≡ mapAnswer (drop capacityBytes input) (capacitiesIn input) [] area
   input-split f =
       f ∙ rw (e, take-all (length input - capacityBytes) (drop capacityBytes input) (omega (arith, length-drop capacityBytes input)))

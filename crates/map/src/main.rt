@@ -1,5 +1,6 @@
-// The program `map`: standard input is three bytes for the capacities, then the source; the mapper's seven numbers go to standard output.
+// The program `map`: standard input is three bytes for the capacities, then the source; the mapper's seven numbers, with an empty price list, go to standard output.
 ghost use mathlib.Core.Path.{_≡_};
+ghost use mathlib.Core.List.{[]};
 ghost use lib.ListN.{drop};
 ghost use Rattle.netlist.specs.CapacityBytes.{capacityBytes, capacitiesIn};
 ghost use Rattle.mapper.specs.Answer.{mapAnswer};
@@ -39,15 +40,15 @@ fn print_line(m: mapper::Mapping) {
     io::write_all(STDOUT_FILENO, b"\n");
 }
 
-// The mapping of an input: the capacities, then the source.
+// The mapping of an input: the capacities, then the source; the price list is empty.
 fn map_input(input: &[u8], area: &mut [u8]) -> mapper::Mapping
-    ensures { λ r. ⌜ r ≡ mapAnswer (drop capacityBytes (now (input .entry))) (capacitiesIn (now (input .entry))) (now (area .entry)) ⌝ }
+    ensures { λ r. ⌜ r ≡ mapAnswer (drop capacityBytes (now (input .entry))) (capacitiesIn (now (input .entry))) [] (now (area .entry)) ⌝ }
 {
     let capacities = capacity_reader::read_capacities(input);
     if input.len() < CAPACITY_BYTES {
-        return mapper::map_netlist(&input[0..0], capacities, area);
+        return mapper::map_netlist(&input[0..0], capacities, &[], area);
     }
-    mapper::map_netlist(&input[CAPACITY_BYTES..], capacities, area)
+    mapper::map_netlist(&input[CAPACITY_BYTES..], capacities, &[], area)
 }
 
 fn main() {

@@ -1,6 +1,7 @@
--- Laws of the mapper's answer: gates, junctions and share, and which check refuses.
+-- Laws of the mapper's answer: its numbers, and which check refuses.
 use Prim.Native.Nat.{ℕ, _+_, _*_, _≤_, _<_}
-use mathlib.Core.Path.{_≡_}
+use mathlib.Core.Path.{_≡_, refl, sym, ap, ap₂, _∙_}
+use mathlib.Core.Logic.{_↔_}
 use mathlib.Core.Bool.{true, false}
 use mathlib.Core.List.{List}
 use native.Mathlib.Omega.{arith}
@@ -10,77 +11,118 @@ use lib.ListN.{length}
 use borrow.Author.Tests.{lt-ltb, le-ltb, not-false}
 use Rattle.facts.specs.declared.Checked.{Checked}
 use Rattle.facts.specs.declared.Checked.the-variants.{Passed, Refused}
-use Rattle.facts.specs.Checks.{check}
+use Rattle.facts.specs.Checks.{check, _andThen_}
+use Rattle.facts.specs.Sums.{sum}
 use Rattle.facts.specs.Areas.{onto}
-use Rattle.facts.proofs.Sums.{count-le}
-use Rattle.facts.proofs.Reflect.{check-passed, scan-passed}
+use Rattle.facts.proofs.Reflect.{check-passed, then-passed, then-assoc, scan-passed}
 use Rattle.netlist.specs.declared.Capacities.{Capacities}
-use Rattle.netlist.specs.Kinds.{width, sourceLimit, mappedLimit, isGate}
+use Rattle.netlist.specs.Kinds.{width, mappedLimit}
 use Rattle.netlist.specs.Records.{Netlist, netlist, recordCount, depth}
-use Rattle.netlist.specs.Checks.{inputChecks}
-use Rattle.netlist.specs.Counts.{gates}
+use Rattle.netlist.specs.Checks.{capacityChecks, sourceChecks, inputChecks}
 use Rattle.netlist.specs.Bytes.{bytesOf}
 use Rattle.fanout.specs.Nets.{fewestInAll}
 use Rattle.mapper.specs.declared.Mapping.{Mapping}
 use Rattle.mapper.specs.Mapped.{mappedSize, mapped}
 use Rattle.mapper.specs.PrivateWriting.{Ready, Counted, Sized}
-use Rattle.mapper.specs.Answer.{gatePrice, bufferPrice, share, junctions, figures, refusal, tooLarge, tooShort, sourceMaps, mapChecks, mapAnswer, mapArea}
+use Rattle.prices.specs.Prices.{junctions, bufferJunctions}
+use Rattle.prices.specs.Checks.{listChecks}
+use Rattle.prices.specs.PrivatePrices.{PriceList}
+use Rattle.mapper.specs.PrivatePricing.{treePrice, driverPrice}
+use Rattle.mapper.specs.Answer.{share, figures, refusal, tooLarge, tooShort, sourceMaps, mapChecks, mapAnswer, mapArea}
 use Rattle.nets.specs.Checks.{treeCheck, treeChecks, noTree}
 use Rattle.nets.specs.declared.trees.Sizing.{Sizing}
 use Rattle.nets.specs.declared.trees.Sizing.the-variants.{Total, Stops}
 use Rattle.nets.specs.PrivateCounts.{NetNumbers}
 use Rattle.nets.specs.PrivateChains.{Chained, sizingOf}
 use Rattle.nets.proofs.TreeCounts.{total-small, refusing, counting, input-source, input-allowed}
+use Rattle.mapper.proofs.NetPrices.{part-price, whole-price, trees-small, drivers-small}
 
 -- the numbers of an accepted source
-module _ (n : Netlist) (N bs g : ℕ) (size : N ≡ n .size) (few : N ≤ sourceLimit) (b : bs ≤ mappedLimit) (e : g ≡ gates n) where
-  gates-few : g ≤ sourceLimit
-  unfolding gates
-  gates-few = omega (arith, count-le (λ k. isGate (n .at k .kind)) (n .size))
+pub accepted : (n : Netlist) (N bs part whole D percent : ℕ) → N ≡ n .size → D ≡ depth n → percent ≡ share part whole →
+    record { number = 0; place = 0; size = N + bs; buffers = bs; depth = D; junctions = whole; share = percent } ≡ figures n bs part whole
+accepted n N bs part whole D percent e f h = cc
 
-  pub gates-fit : Fits w32 g
-  gates-fit = omega (arith, gates-few)
+-- what the mapper checks: the call, then the trees, the size and the area
+abbrev callChecks : List ℕ → Capacities → List ℕ → Checked
+callChecks bytes caps list = capacityChecks caps andThen listChecks list andThen sourceChecks bytes
 
-  pub gates-price : Fits w32 (gatePrice * g)
-  gates-price = omega (arith, gates-few)
+abbrev pub lateChecks : List ℕ → Capacities → List ℕ → Checked
+lateChecks bytes caps area =
+    treeChecks (netlist bytes) caps andThen check 9 0 (tooLarge (netlist bytes) caps) andThen check 10 0 (tooShort (netlist bytes) caps area)
 
-  pub all-price : Fits w32 (gatePrice * g + bufferPrice * bs)
-  all-price = omega (arith, gates-few)
+module _ (bytes : List ℕ) (caps : Capacities) (list area : List ℕ) where
+  split : mapChecks bytes caps list area ≡ (callChecks bytes caps list andThen lateChecks bytes caps area)
+  unfolding mapChecks
+  split =
+      sym
+      (then-assoc (capacityChecks caps) (listChecks list andThen sourceChecks bytes) (lateChecks bytes caps area)
+      ∙ ap (λ (a : Checked). capacityChecks caps andThen a) (then-assoc (listChecks list) (sourceChecks bytes) (lateChecks bytes caps area)))
 
-  pub accepted : (D part : ℕ) → D ≡ depth n → part ≡ share (bufferPrice * bs) (gatePrice * g + bufferPrice * bs) →
-      record {
-        number = 0;
-        place = 0;
-        size = N + bs;
-        buffers = bs;
-        depth = D;
-        junctions = gatePrice * g + bufferPrice * bs;
-        share = part;
-      } ≡ figures n bs
-  accepted D part f h = cc
+  -- 1, 26, 27, 28 and 2 to 7
+  module _ (number place : ℕ) (a : Checked) (e : a ≡ callChecks bytes caps list) (f : a ≡ Refused number place) where
+    call-refused : mapChecks bytes caps list area ≡ Refused number place
+    call-refused = split ∙ ap (λ (a : Checked). a andThen lateChecks bytes caps area) (sym e ∙ f)
 
--- the answer and the area where a check refuses
-module _ (bytes : List ℕ) (caps : Capacities) (area : List ℕ) where
-  -- 1, 26 and 2 to 7
-  pub refused-input : (number place : ℕ) (a : Checked) (r : Mapping) → a ≡ inputChecks bytes caps → a ≡ Refused number place → r ≡ refusal number place →
-      r ≡ mapAnswer bytes caps area
-  unfolding mapAnswer mapChecks sourceMaps
-  refused-input number place a r e f g = cc
+    pub refused-call : (r : Mapping) → r ≡ refusal number place → r ≡ mapAnswer bytes caps list area
+    unfolding mapAnswer
+    refused-call r g = cc call-refused
 
-  pub kept-input : (number place : ℕ) (a : Checked) → a ≡ inputChecks bytes caps → a ≡ Refused number place → area ≡ mapArea bytes caps area
-  unfolding mapArea mapChecks sourceMaps
-  kept-input number place a e f = cc
+    pub kept-call : area ≡ mapArea bytes caps list area
+    unfolding mapArea
+    kept-call = cc call-refused
+
+  -- once they pass
+  pub passed-source : (a : Checked) → a ≡ callChecks bytes caps list → a ≡ Passed → inputChecks bytes caps ≡ Passed
+  passed-source a e f =
+      let c = then-passed (capacityChecks caps) (listChecks list andThen sourceChecks bytes) .0 (sym e ∙ f) in
+      then-passed (capacityChecks caps) (sourceChecks bytes) .1 (c .0, then-passed (listChecks list) (sourceChecks bytes) .0 (c .1) .1)
+
+  pub passed-list : (a : Checked) → a ≡ callChecks bytes caps list → a ≡ Passed → listChecks list ≡ Passed
+  passed-list a e f =
+      let c = then-passed (capacityChecks caps) (listChecks list andThen sourceChecks bytes) .0 (sym e ∙ f) in
+      then-passed (listChecks list) (sourceChecks bytes) .0 (c .1) .0
+
+  pub checked : inputChecks bytes caps ≡ Passed → listChecks list ≡ Passed → mapChecks bytes caps list area ≡ lateChecks bytes caps area
+  unfolding mapChecks
+  checked i l = let c = then-passed (capacityChecks caps) (sourceChecks bytes) .0 i in rw (c .0, l, c .1) refl
+
+  -- all of them pass exactly if the list does, the source has a mapped netlist, and the area has room for it
+  pub map-passed : (mapChecks bytes caps list area ≡ Passed)
+      ↔ ((listChecks list ≡ Passed) × (sourceMaps bytes caps ≡ Passed) × (check 10 0 (tooShort (netlist bytes) caps area) ≡ Passed))
+  unfolding mapChecks sourceMaps
+  map-passed = (
+    λ e.
+        let c = then-passed (capacityChecks caps) _ .0 e in
+        let l = then-passed (listChecks list) _ .0 (c .1) in
+        let s = then-passed (sourceChecks bytes) _ .0 (l .1) in
+        let t = then-passed (treeChecks (netlist bytes) caps) _ .0 (s .1) in
+        let z = then-passed (check 9 0 (tooLarge (netlist bytes) caps)) _ .0 (t .1) in (
+          l .0,
+          then-passed (inputChecks bytes caps) _ .1
+              (then-passed (capacityChecks caps) _ .1 (c .0, s .0), then-passed (treeChecks (netlist bytes) caps) _ .1 (t .0, z .0)),
+          z .1,
+        ),
+    λ h.
+        let m = then-passed (inputChecks bytes caps) _ .0 (h .1) in
+        let t = then-passed (treeChecks (netlist bytes) caps) _ .0 (m .1) in
+        checked (m .0) (h .0)
+        ∙ then-passed (treeChecks (netlist bytes) caps) _ .1
+        (t .0, then-passed (check 9 0 (tooLarge (netlist bytes) caps)) _ .1 (t .1, h .2)),
+  )
 
   -- 8
-  module _ (i : inputChecks bytes caps ≡ Passed) (number place total : ℕ) (z : Sizing) (e : z ≡ sizingOf (treeChecks (netlist bytes) caps) total)
-      (f : z ≡ Stops number place) where
-    pub refused-tree : (r : Mapping) → r ≡ refusal number place → r ≡ mapAnswer bytes caps area
-    unfolding mapAnswer mapChecks sourceMaps
-    refused-tree r g = cc (refusing (netlist bytes) caps number place total z e f)
+  module _ (i : inputChecks bytes caps ≡ Passed) (l : PriceList list) (number place total : ℕ) (z : Sizing)
+      (e : z ≡ sizingOf (treeChecks (netlist bytes) caps) total) (f : z ≡ Stops number place) where
+    tree-refused : mapChecks bytes caps list area ≡ Refused number place
+    tree-refused = checked i (l .passes) ∙ rw (refusing (netlist bytes) caps number place total z e f) refl
 
-    pub kept-tree : area ≡ mapArea bytes caps area
-    unfolding mapArea mapChecks sourceMaps
-    kept-tree = cc (refusing (netlist bytes) caps number place total z e f)
+    pub refused-tree : (r : Mapping) → r ≡ refusal number place → r ≡ mapAnswer bytes caps list area
+    unfolding mapAnswer
+    refused-tree r g = cc tree-refused
+
+    pub kept-tree : area ≡ mapArea bytes caps list area
+    unfolding mapArea
+    kept-tree = cc tree-refused
 
 -- what 1, 26 and 2 to 8 show
 module _ (bytes : List ℕ) (caps : Capacities) (i : inputChecks bytes caps ≡ Passed) (N : ℕ) (size : N ≡ recordCount bytes) where
@@ -125,37 +167,50 @@ module _ (bytes : List ℕ) (caps : Capacities) (N : ℕ) (first next : List ℕ
   pub counted-ready : N + total ≤ mappedLimit → Ready (netlist bytes) caps
   counted-ready l = passed-ready bytes caps (h .input) (h .trees) (omega (arith, h .records, h .buffers))
 
-  module _ (area : List ℕ) where
+  module _ (list area : List ℕ) (p : PriceList list) where
+    sized : mapChecks bytes caps list area
+        ≡ (check 9 0 (tooLarge (netlist bytes) caps) andThen check 10 0 (tooShort (netlist bytes) caps area))
+    sized = checked bytes caps list area (h .input) (p .passes) ∙ rw (h .trees) refl
+
     -- 9
     module _ (l : mappedLimit < N + total) where
-      large : tooLarge (netlist bytes) caps ≡ true
-      large = lt-ltb mappedLimit (mappedSize (netlist bytes) caps) (omega (arith, h .records, h .buffers))
+      large : mapChecks bytes caps list area ≡ Refused 9 0
+      large = sized ∙ rw (lt-ltb mappedLimit (mappedSize (netlist bytes) caps) (omega (arith, h .records, h .buffers))) refl
 
-      pub refused-large : (r : Mapping) → r ≡ refusal 9 0 → r ≡ mapAnswer bytes caps area
-      unfolding mapAnswer mapChecks sourceMaps
+      pub refused-large : (r : Mapping) → r ≡ refusal 9 0 → r ≡ mapAnswer bytes caps list area
+      unfolding mapAnswer
       refused-large r e = cc large
 
-      pub kept-large : area ≡ mapArea bytes caps area
-      unfolding mapArea mapChecks sourceMaps
+      pub kept-large : area ≡ mapArea bytes caps list area
+      unfolding mapArea
       kept-large = cc large
 
     module _ (l : N + total ≤ mappedLimit) where
-      late : mapChecks bytes caps area ≡ check 10 0 (tooShort (netlist bytes) caps area)
-      unfolding mapChecks sourceMaps
-      late = cc (le-ltb mappedLimit (mappedSize (netlist bytes) caps) (omega (arith, h .records, h .buffers)))
+      late : mapChecks bytes caps list area ≡ check 10 0 (tooShort (netlist bytes) caps area)
+      late = sized ∙ rw (le-ltb mappedLimit (mappedSize (netlist bytes) caps) (omega (arith, h .records, h .buffers))) refl
 
       -- 10
       module _ (b : length area < width * (N + total)) where
         short : tooShort (netlist bytes) caps area ≡ true
         short = lt-ltb (length area) (width * mappedSize (netlist bytes) caps) (omega (arith, h .records, h .buffers))
 
-        pub refused-short : (r : Mapping) → r ≡ refusal 10 0 → r ≡ mapAnswer bytes caps area
+        pub refused-short : (r : Mapping) → r ≡ refusal 10 0 → r ≡ mapAnswer bytes caps list area
         unfolding mapAnswer
         refused-short r e = cc (late, short)
 
-        pub kept-short : area ≡ mapArea bytes caps area
+        pub kept-short : area ≡ mapArea bytes caps list area
         unfolding mapArea
         kept-short = cc (late, short)
+
+      -- the prices of all trees and of all gates fit
+      module _ (part gates : ℕ) (e : part ≡ sum (treePrice list (netlist bytes) caps) (netlist bytes .size))
+          (f : gates ≡ sum (driverPrice list (netlist bytes)) N) where
+        pub part-fits : part ≤ 255 * mappedLimit
+        part-fits = omega (arith, trees-small list p (netlist bytes) caps (input-allowed bytes caps (h .input) .low) (netlist bytes .size), h .records, h .buffers)
+
+        pub whole-fits : Fits w32 (gates + part)
+        whole-fits =
+            omega (arith, part-fits, drivers-small list p (netlist bytes) N, h .records, h .buffers)
 
       module _ (b : width * (N + total) ≤ length area) where
         pub mapped-room : width * mappedSize (netlist bytes) caps ≤ length area
@@ -164,10 +219,16 @@ module _ (bytes : List ℕ) (caps : Capacities) (N : ℕ) (first next : List ℕ
         long : tooShort (netlist bytes) caps area ≡ false
         long = le-ltb (length area) (width * mappedSize (netlist bytes) caps) mapped-room
 
-        pub mapped-answer : (r : Mapping) → r ≡ figures (netlist bytes) total → r ≡ mapAnswer bytes caps area
+        pub mapped-answer : (part gates : ℕ) (r : Mapping) → part ≡ sum (treePrice list (netlist bytes) caps) (netlist bytes .size) →
+            gates ≡ sum (driverPrice list (netlist bytes)) N → r ≡ figures (netlist bytes) total part (gates + part) → r ≡ mapAnswer bytes caps list area
         unfolding mapAnswer
-        mapped-answer r e = cc (late, long)
+        mapped-answer part gates r e f g =
+            let ready = counted-ready l in
+            let a : part ≡ bufferJunctions list (mapped (netlist bytes) caps) = e ∙ sym (part-price list (netlist bytes) caps ready) in
+            let w : gates + part ≡ junctions list (mapped (netlist bytes) caps) =
+            ap₂ _+_ (f ∙ ap (sum (driverPrice list (netlist bytes))) (h .records)) e ∙ sym (whole-price list (netlist bytes) caps ready) in
+            g ∙ rw (late, long) (ap₂ (λ (x y : ℕ). figures (netlist bytes) total x y) a w ∙ rw (h .buffers) refl)
 
-        pub mapped-area : (after : List ℕ) → after ≡ onto (bytesOf (mapped (netlist bytes) caps)) area → after ≡ mapArea bytes caps area
+        pub mapped-area : (after : List ℕ) → after ≡ onto (bytesOf (mapped (netlist bytes) caps)) area → after ≡ mapArea bytes caps list area
         unfolding mapArea
         mapped-area after e = cc (late, long)

@@ -14,11 +14,13 @@ use Rattle.netlist.specs.Bytes.{bytesOf}
 use Rattle.netlist.specs.Checks.{inputChecks, capacityChecks, sourceChecks}
 use Rattle.netlist.proofs.Source.{capacities-passed}
 use Rattle.netlist.proofs.InputCapacity.{capacity-grows}
-use Rattle.fanout.specs.Nets.{row, nodesAt}
+use Rattle.fanout.specs.Nets.{row, nodesAt, fewestInAll}
 use Rattle.nets.specs.Checks.{treeCheck, treeChecks}
 use Rattle.mapper.specs.Mapped.{buffersOf, blockStart, mappedSize, parent, bufferRecord, sinkNumber, rewired, bufferAt, mappedAt, mapped}
-use Rattle.mapper.specs.Answer.{sourceMaps, mapChecks, mapAnswer, mapArea}
+use Rattle.prices.specs.Prices.{junctions, bufferJunctions}
+use Rattle.mapper.specs.Answer.{figures, sourceMaps, mapChecks, mapAnswer, mapArea}
 use Rattle.mapper.specs.Promises.{LargerInputCapacity}
+use Rattle.mapper.proofs.Answering.{map-passed}
 
 -- the mapped netlist is the same for any two capacities of inputs
 module _ (n : Netlist) (s b c : ℕ) where
@@ -59,16 +61,17 @@ module _ (n : Netlist) (s b c : ℕ) where
           (ap not (le-leb nodes _ (omega (arith, leb-true nodes _ had, capacity-grows s b c (n .at d .kind) l))))
 
 pub larger-input-capacity : LargerInputCapacity
-unfolding mapChecks sourceMaps mapAnswer mapArea
-larger-input-capacity bytes s b c area l most e =
+unfolding sourceMaps mapAnswer mapArea
+larger-input-capacity bytes s b c list area l most e =
     let n = netlist bytes in
-    let parts = then-passed (sourceMaps bytes (capacitiesOf s b)) _ .0 e in
-    let early = then-passed (inputChecks bytes (capacitiesOf s b)) _ .0 (parts .0) in
+    let parts = map-passed bytes (capacitiesOf s b) list area .0 e in
+    let early = then-passed (inputChecks bytes (capacitiesOf s b)) _ .0 (parts .1) in
     let late = then-passed (treeChecks n (capacitiesOf s b)) _ .0 (early .1) in
     let source = then-passed (capacityChecks (capacitiesOf s b)) (sourceChecks bytes) .0 (early .0) in
     let a = capacities-passed (capacitiesOf s b) .0 (source .0) in
-    let checks : mapChecks bytes (capacitiesOf s c) area ≡ Passed =
-    then-passed (sourceMaps bytes (capacitiesOf s c)) _ .1 (
+    let checks : mapChecks bytes (capacitiesOf s c) list area ≡ Passed =
+    map-passed bytes (capacitiesOf s c) list area .1 (
+      parts .0,
       then-passed (inputChecks bytes (capacitiesOf s c)) _ .1 (
         then-passed (capacityChecks (capacitiesOf s c)) (sourceChecks bytes) .1 (
           capacities-passed (capacitiesOf s c) .1
@@ -77,6 +80,9 @@ larger-input-capacity bytes s b c area l most e =
         ),
         then-passed (treeChecks n (capacitiesOf s c)) _ .1 (trees-stay n s b c l (late .0), late .1),
       ),
-      parts .1,
+      parts .2,
     ) in
-    (rw (checks, e), rw (checks, e) (ap (λ (m : Netlist). onto (bytesOf m) area) (sym (mapped-alike n s b c))))
+    let alike = sym (mapped-alike n s b c) in (
+      rw (checks, e) (ap (λ (m : Netlist). figures n (fewestInAll n (capacitiesOf s b)) (bufferJunctions list m) (junctions list m)) alike),
+      rw (checks, e) (ap (λ (m : Netlist). onto (bytesOf m) area) alike),
+    )

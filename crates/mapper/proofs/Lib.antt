@@ -5,8 +5,11 @@ pub mod ClearedRow
 pub mod Feeds
 pub mod InputCapacity
 pub mod Lines
+pub mod ListedAnswer
 pub mod Mapped
+pub mod NetPrices
 pub mod Nodes
+pub mod PriceWalk
 pub mod Promises
 pub mod Shares
 pub mod SinkParents

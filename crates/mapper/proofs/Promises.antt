@@ -14,20 +14,21 @@ use Rattle.facts.specs.declared.Checked.the-variants.{Passed, Refused}
 use Rattle.facts.specs.Checks.{check, _andThen_}
 use Rattle.facts.specs.Sums.{sum}
 use Rattle.facts.proofs.Sums.{sum-more}
-use Rattle.facts.specs.Refusals.{rowOf, Fails, _or_, Each, First}
+use Rattle.facts.specs.Refusals.{Conditions, rowOf, Fails, _or_, Each, First}
 use Rattle.facts.specs.Areas.{onto}
 use Rattle.facts.proofs.Bools.{true-false}
 use Rattle.facts.proofs.Reflect.{less, check-passed, then-passed, less-none}
-use Rattle.facts.proofs.Refusals.{exact, rows-before, one-row, within-one, first-check, first-after, first-then, first-scan, scan-rows}
+use Rattle.facts.proofs.Refusals.{InRow, After, exact, rows-before, one-row, within-one, first-check, first-after, first-then, first-scan, scan-rows}
 use Rattle.netlist.specs.declared.Capacities.{Capacities}
 use Rattle.netlist.specs.Kinds.{width, mappedLimit, isDriver}
 use Rattle.netlist.specs.Records.{Netlist, netlist, recordCount, recordAt}
 use Rattle.netlist.specs.Source.{IsSource}
-use Rattle.netlist.specs.Checks.{inputChecks}
+use Rattle.netlist.specs.Checks.{capacityChecks, sourceChecks, inputChecks}
+use Rattle.netlist.specs.Refusals.{SourceFails}
 use Rattle.netlist.specs.Capacities.{capacityOf}
 use Rattle.netlist.specs.Bytes.{recs, bytesOf}
 use Rattle.netlist.proofs.Source.{driver-inside}
-use Rattle.netlist.proofs.Refusals.{input-rows, input-first}
+use Rattle.netlist.proofs.Refusals.{capacities-rows, capacities-first, source-rows, source-first}
 use Rattle.netlist.proofs.Bytes.{length-recs, recs-append}
 use Rattle.fanout.specs.Nets.{row, nodesAt, netHasTree, treeSize, fewestInAll}
 use Rattle.fanout.specs.Trees.{Tree, Legal, netOf}
@@ -39,8 +40,12 @@ use Rattle.mapper.specs.Mapped.{blockStart, mappedSize, mapped}
 use Rattle.mapper.specs.PrivateWriting.{Ready}
 use Rattle.mapper.specs.View.{noEnds, endsOf, blockEnds, between}
 use Rattle.mapper.specs.Answer.{figures, tooLarge, tooShort, sourceMaps, mapChecks, answerOf, areaOf, mapAnswer, mapArea}
-use Rattle.mapper.specs.Promises.{Treeless, TooLarge, TooShort, SourceMapFails, MapFails, MapExact, RefusedLeaves, Accepts, AcceptedMaps, BlockWritten, BlockNone}
-use Rattle.mapper.proofs.Answering.{passed-ready}
+use Rattle.mapper.specs.Promises.{Treeless, TooLarge, TooShort, MapFails, MapExact, RefusedLeaves, Accepts, AcceptedMaps, AnyList, BlockWritten, BlockNone}
+use Rattle.prices.specs.Prices.{junctions, bufferJunctions}
+use Rattle.prices.specs.Checks.{listChecks}
+use Rattle.prices.specs.Promises.{ListFails}
+use Rattle.prices.proofs.Promises.{list-rows, list-first}
+use Rattle.mapper.proofs.Answering.{passed-ready, map-passed}
 use Rattle.nets.specs.Checks.{noTree, treeCheck, treeChecks}
 use Rattle.nets.proofs.TreeCounts.{input-source, input-allowed, measured-none}
 use Rattle.mapper.proofs.Written.{mapped-read}
@@ -68,47 +73,62 @@ treeless-is n caps d i p = (there (isDriver (n .at d .kind)) refl, λ h. back (n
     back false e h = ap not e
 
 -- the checks give their first failing condition
-module _ (bytes : List ℕ) (caps : Capacities) where
-  abbrev Trees : Rattle.facts.specs.Refusals.Conditions
+module _ (bytes : List ℕ) (caps : Capacities) (list area : List ℕ) where
+  abbrev Trees : Conditions
   Trees = Each (recordCount bytes) (λ d. Fails 8 d (Treeless (netlist bytes) caps d))
 
-  tree-rows : Rattle.facts.proofs.Refusals.InRow (rowOf 8) Trees
+  abbrev Sizes : Conditions
+  Sizes = Fails 9 0 (TooLarge (netlist bytes) caps) or Fails 10 0 (TooShort (netlist bytes) caps area)
+
+  tree-rows : InRow (rowOf 8) Trees
   tree-rows = scan-rows (λ d. Fails 8 d (Treeless (netlist bytes) caps d)) (rowOf 8) 8 8 (recordCount bytes) (λ d. within-one 8 d (Treeless (netlist bytes) caps d))
 
-  late-rows : (k p : ℕ) → (Trees or Fails 9 0 (TooLarge (netlist bytes) caps)) k p → (rowOf 7 < rowOf k) × (rowOf k ≤ rowOf 9)
-  late-rows k p =
-      ⊎-elim (λ f. omega (arith, tree-rows k p f)) (λ f. omega (arith, one-row 9 0 (TooLarge (netlist bytes) caps) k p f))
+  size-rows : After (rowOf 8) Sizes
+  size-rows k p =
+      ⊎-elim
+      (λ f. omega (arith, one-row 9 0 (TooLarge (netlist bytes) caps) k p f))
+      (λ f. omega (arith, one-row 10 0 (TooShort (netlist bytes) caps area) k p f))
 
-  maps-first : First (SourceMapFails bytes caps) (sourceMaps bytes caps)
-  unfolding sourceMaps
-  maps-first =
-      first-after
-      (rows-before (rowOf 7) (input-rows bytes caps) (λ k p f. late-rows k p f .0))
-      (input-first bytes caps)
-      (λ i.
+  late-rows : After (rowOf 7) (Trees or Sizes)
+  late-rows k p = ⊎-elim (λ f. omega (arith, tree-rows k p f)) (λ f. omega (arith, size-rows k p f))
+
+  source-late : After (rowOf 28) (SourceFails bytes or Trees or Sizes)
+  source-late k p = ⊎-elim (λ f. source-rows bytes k p f .0) (λ f. omega (arith, late-rows k p f))
+
+  list-late : After (rowOf 26) (ListFails list or SourceFails bytes or Trees or Sizes)
+  list-late k p = ⊎-elim (λ f. list-rows list k p f .0) (λ f. omega (arith, source-late k p f))
+
+  trees-first : inputChecks bytes caps ≡ Passed →
+      First (Trees or Sizes)
+      (treeChecks (netlist bytes) caps andThen check 9 0 (tooLarge (netlist bytes) caps) andThen check 10 0 (tooShort (netlist bytes) caps area))
+  trees-first i =
       first-then
-      (rows-before (rowOf 8) (λ k p f. omega (arith, tree-rows k p f)) (λ k p f. omega (arith, one-row 9 0 (TooLarge (netlist bytes) caps) k p f)))
+      (rows-before (rowOf 8) (λ k p f. omega (arith, tree-rows k p f)) size-rows)
       (first-scan (treeCheck (netlist bytes) caps) (λ d. Fails 8 d (Treeless (netlist bytes) caps d)) (rowOf 8) 8 8
       (λ d. within-one 8 d (Treeless (netlist bytes) caps d)) (recordCount bytes)
       (λ d l. first-check 8 d (treeless-is (netlist bytes) caps d (input-source bytes caps i) (input-allowed bytes caps i .low))))
-      (first-check 9 0 (less mappedLimit (mappedSize (netlist bytes) caps))))
-
-  map-first : (area : List ℕ) → First (MapFails bytes caps area) (mapChecks bytes caps area)
-  unfolding mapChecks
-  map-first area =
-      first-then
+      (first-then
       (rows-before (rowOf 9)
-      (λ k p. ⊎-elim (λ f. omega (arith, input-rows bytes caps k p f)) (λ f. omega (arith, late-rows k p f)))
+      (λ k p f. omega (arith, one-row 9 0 (TooLarge (netlist bytes) caps) k p f))
       (λ k p f. omega (arith, one-row 10 0 (TooShort (netlist bytes) caps area) k p f)))
-      maps-first
-      (first-check 10 0 (less (length area) (width * mappedSize (netlist bytes) caps)))
+      (first-check 9 0 (less mappedLimit (mappedSize (netlist bytes) caps)))
+      (first-check 10 0 (less (length area) (width * mappedSize (netlist bytes) caps))))
+
+  map-first : First (MapFails bytes caps list area) (mapChecks bytes caps list area)
+  unfolding mapChecks
+  map-first =
+      first-after (rows-before (rowOf 26) (λ k p f. capacities-rows caps k p f .1) list-late) (capacities-first caps)
+      (λ c.
+      first-then (rows-before (rowOf 28) (λ k p f. list-rows list k p f .1) source-late) (list-first list)
+      (first-after (rows-before (rowOf 7) (λ k p f. source-rows bytes k p f .1) late-rows) (source-first bytes)
+      (λ i. trees-first (then-passed (capacityChecks caps) (sourceChecks bytes) .1 (c, i)))))
 
 pub map-exact : MapExact
-map-exact bytes caps area = exact (map-first bytes caps area)
+map-exact bytes caps list area = exact (map-first bytes caps list area)
 
 pub refused-leaves : RefusedLeaves
 unfolding mapAnswer mapArea
-refused-leaves bytes caps area number place e =
+refused-leaves bytes caps list area number place e =
     record { answer = cc; kept = cc }
 
 -- what an accepted call shows
@@ -121,22 +141,23 @@ module _ (bytes : List ℕ) (caps : Capacities) where
       passed-ready bytes caps (a .0) (b .0)
       (less-none mappedLimit (mappedSize (netlist bytes) caps) .0 (check-passed 9 0 (tooLarge (netlist bytes) caps) .0 (b .1)))
 
-  module _ (area : List ℕ) (e : mapChecks bytes caps area ≡ Passed) where
-    parts : (sourceMaps bytes caps ≡ Passed) × (check 10 0 (tooShort (netlist bytes) caps area) ≡ Passed)
-    unfolding mapChecks
-    parts = then-passed (sourceMaps bytes caps) (check 10 0 (tooShort (netlist bytes) caps area)) .0 e
+  module _ (list area : List ℕ) (e : mapChecks bytes caps list area ≡ Passed) where
+    parts : (listChecks list ≡ Passed) × (sourceMaps bytes caps ≡ Passed) × (check 10 0 (tooShort (netlist bytes) caps area) ≡ Passed)
+    parts = map-passed bytes caps list area .0 e
 
     ready : Ready (netlist bytes) caps
-    ready = maps-ready (parts .0)
+    ready = maps-ready (parts .1)
 
     room : width * mappedSize (netlist bytes) caps ≤ length area
-    room = less-none (length area) (width * mappedSize (netlist bytes) caps) .0 (check-passed 10 0 (tooShort (netlist bytes) caps area) .0 (parts .1))
+    room = less-none (length area) (width * mappedSize (netlist bytes) caps) .0 (check-passed 10 0 (tooShort (netlist bytes) caps area) .0 (parts .2))
 
-    answered : mapAnswer bytes caps area ≡ figures (netlist bytes) (fewestInAll (netlist bytes) caps)
+    pub answered : mapAnswer bytes caps list area
+        ≡ figures (netlist bytes) (fewestInAll (netlist bytes) caps) (bufferJunctions list (mapped (netlist bytes) caps))
+        (junctions list (mapped (netlist bytes) caps))
     unfolding mapAnswer
-    answered = ap (λ (a : Checked). answerOf a (netlist bytes) caps) e
+    answered = ap (λ (a : Checked). answerOf a (netlist bytes) caps list) e
 
-    area-written : mapArea bytes caps area ≡ onto (bytesOf (mapped (netlist bytes) caps)) area
+    area-written : mapArea bytes caps list area ≡ onto (bytesOf (mapped (netlist bytes) caps)) area
     unfolding mapArea
     area-written = ap (λ (a : Checked). areaOf a (netlist bytes) caps area) e
 
@@ -153,7 +174,7 @@ module _ (bytes : List ℕ) (caps : Capacities) where
     net-none d b =
         sym (measured-none (netlist bytes) caps d (ready .allowed .low) (no-sinks (netlist bytes) d (ready .source) b) .buffers)
 
-    accepts : Accepts bytes caps area
+    accepts : Accepts bytes caps list area
     accepts =
         record {
           number = ap (λ (m : Mapping). m .number) answered;
@@ -174,7 +195,20 @@ module _ (bytes : List ℕ) (caps : Capacities) where
         }
 
 pub accepted-maps : AcceptedMaps
-accepted-maps bytes caps area e = accepts bytes caps area e
+accepted-maps bytes caps list area e = accepts bytes caps list area e
+
+pub any-list : AnyList
+any-list bytes caps list other area e f =
+    let checks = map-passed bytes caps other area .1 (f, parts bytes caps list area e .1, parts bytes caps list area e .2) in
+    let a = answered bytes caps list area e in
+    let b = answered bytes caps other area checks in
+    record {
+      checks = checks;
+      size = ap (λ (m : Mapping). m .size) b ∙ sym (ap (λ (m : Mapping). m .size) a);
+      buffers = ap (λ (m : Mapping). m .buffers) b ∙ sym (ap (λ (m : Mapping). m .buffers) a);
+      depth = ap (λ (m : Mapping). m .depth) b ∙ sym (ap (λ (m : Mapping). m .depth) a);
+      bytes = area-written bytes caps other area checks ∙ sym (area-written bytes caps list area e);
+    }
 
 -- c records from record i on, of a netlist's bytes and what follows them
 part-recs : (m : Netlist) (i c k : ℕ) (rest : List ℕ) →
@@ -185,8 +219,8 @@ part-recs m i c k rest =
 
 pub block-written : BlockWritten
 unfolding sum blockEnds
-block-written bytes caps area d e b =
-    rw (parts bytes caps area e .0, b, le-leb to (recordCount (mapArea bytes caps area)) inside, wide, area-written bytes caps area e)
+block-written bytes caps list area d e b =
+    rw (parts bytes caps list area e .1, b, le-leb to (recordCount (mapArea bytes caps list area)) inside, wide, area-written bytes caps list area e)
     (ap (λ (k : ℕ). take (width * c) (drop (width * start) (recs (mapped (netlist bytes) caps) 0 k ++ past))) all
     ∙ part-recs (mapped (netlist bytes) caps) start c rest past)
   where
@@ -208,8 +242,8 @@ block-written bytes caps area d e b =
     before : to ≤ mappedSize (netlist bytes) caps
     before = omega (arith, sum-more (treeSize (netlist bytes) caps) (suc d) (recordCount bytes) (driver-inside bytes d b))
 
-    inside : to ≤ recordCount (mapArea bytes caps area)
-    inside = omega (arith, before, accepts bytes caps area e .long, room bytes caps area e)
+    inside : to ≤ recordCount (mapArea bytes caps list area)
+    inside = omega (arith, before, accepts bytes caps list area e .long, room bytes caps list area e)
 
     wide : width * to - width * start ≡ width * c
     wide = omega arith

@@ -21,7 +21,8 @@ use Rattle.netlist.proofs.Bytes.{records-none, records-more, records-length}
 use Rattle.fanout.specs.Nets.{row, sinks, buffersAt, treeSize}
 use Rattle.fanout.specs.declared.TreeTotals.{TreeTotals}
 use Rattle.mapper.specs.Mapped.{buffersOf, blockStart, mappedSize, mapped}
-use Rattle.mapper.specs.PrivateWriting.{Ready, Stale, CountedNet, ParentsSet, ParentsWritten, onParent, onLine, lineRecord, NodeCounts, Writable, Wrote}
+use Rattle.mapper.specs.PrivateWriting.{Ready, Stale, CountedNet, ParentsSet, ParentsWritten, onParent, onLine, lineRecord, Writable, Wrote}
+use Rattle.mapper.specs.PrivatePricing.{NodesCounted}
 use Rattle.nets.specs.PrivateChains.{slotEnd, namesSlot, slotDistance, ShortChain}
 use Rattle.nets.proofs.Lines.{line-size}
 use Rattle.nets.proofs.TreeCounts.{measured-none}
@@ -59,18 +60,18 @@ module _ (n : Netlist) (caps : Capacities) (d top : ℕ) (counts : List ℕ) (r 
             ∙ f .beyond (k + x) (omega arith));
       }
 
-module _ (n : Netlist) (caps : Capacities) (d top : ℕ) (counts : List ℕ) (g : CountedNet n caps d counts top) where
-  pub net-stale : (left : List ℕ) → NodeCounts n caps d left → Stale left top
-  net-stale left e =
-      record {
-        size = e .size;
-        near = g .near;
-        beyond = λ k l.
-            elim (decLt topLevel k) [
-              | yes m ↦ List·getD-eq-default left 0 {n = k} (omega (arith, e .size))
-              | no m ↦ e .at k (omega arith) (omega arith) ∙ g .beyond k l
-            ];
-      }
+-- a row of nodes can be cleared up to top
+pub net-stale : (n : Netlist) (caps : Capacities) (d top : ℕ) (counts : List ℕ) → NodesCounted n caps d counts top → Stale counts top
+net-stale n caps d top counts g =
+    record {
+      size = g .nodes .size;
+      near = g .near;
+      beyond = λ k l.
+          elim (decLt topLevel k) [
+            | yes m ↦ List·getD-eq-default counts 0 {n = k} (omega (arith, g .nodes .size))
+            | no m ↦ g .nodes .at k (omega arith) (omega arith) ∙ g .beyond k l
+          ];
+    }
 
 -- the net of d, by its sinks
 module _ (n : Netlist) (caps : Capacities) (d at : ℕ) (first next : List ℕ) (end : ℕ) (counts base area : List ℕ)

@@ -1,4 +1,4 @@
--- The mapper's answer (specification 4.1, 2.6, 3.3): checks 1, 26 and 2 to 10, seven numbers, the area.
+-- The mapper's answer (specification 4.1, 2.6, 3.3): checks 1, 26, 27, 28 and 2 to 10, seven numbers, the area.
 use Prim.Native.Nat.{ℕ, _+_, _*_}
 use mathlib.Core.Bool.{Bool}
 use mathlib.Core.List.{List, [], _∷_}
@@ -11,11 +11,12 @@ use Rattle.facts.specs.Rounding.{rounded}
 use Rattle.netlist.specs.declared.Capacities.{Capacities}
 use Rattle.netlist.specs.Kinds.{width, mappedLimit}
 use Rattle.netlist.specs.Records.{Netlist, netlist, depth}
-use Rattle.netlist.specs.Counts.{gates}
-use Rattle.netlist.specs.Checks.{inputChecks}
+use Rattle.netlist.specs.Checks.{capacityChecks, sourceChecks, inputChecks}
 use Rattle.netlist.specs.Bytes.{bytesOf}
 use Rattle.fanout.specs.Nets.{fewestInAll}
 use Rattle.nets.specs.Checks.{treeChecks}
+use Rattle.prices.specs.Prices.{junctions, bufferJunctions}
+use Rattle.prices.specs.Checks.{listChecks}
 use Rattle.mapper.specs.declared.Mapping.{Mapping}
 use Rattle.mapper.specs.Mapped.{mappedSize, mapped}
 
@@ -32,20 +33,15 @@ unfoldable pub sourceMaps : List ℕ → Capacities → Checked
 sourceMaps bytes caps =
     inputChecks bytes caps andThen treeChecks (netlist bytes) caps andThen check 9 0 (tooLarge (netlist bytes) caps)
 
--- 1, 26 and 2 to 10
-unfoldable pub mapChecks : List ℕ → Capacities → List ℕ → Checked
-mapChecks bytes caps area = sourceMaps bytes caps andThen check 10 0 (tooShort (netlist bytes) caps area)
-
--- junctions of a gate and of a buffer
-abbrev pub gatePrice : ℕ
-gatePrice = 6
-
-abbrev pub bufferPrice : ℕ
-bufferPrice = 2
-
--- JJs of some gates and buffers
-abbrev pub junctions : ℕ → ℕ → ℕ
-junctions gs bs = gatePrice * gs + bufferPrice * bs
+-- 1, 26, 27, 28 and 2 to 10
+unfoldable pub mapChecks : List ℕ → Capacities → List ℕ → List ℕ → Checked
+mapChecks bytes caps list area =
+    capacityChecks caps
+    andThen listChecks list
+    andThen sourceChecks bytes
+    andThen treeChecks (netlist bytes) caps
+    andThen check 9 0 (tooLarge (netlist bytes) caps)
+    andThen check 10 0 (tooShort (netlist bytes) caps area)
 
 -- the buffers' part of all junctions in percent, rounded
 abbrev pub share : ℕ → ℕ → ℕ
@@ -56,34 +52,35 @@ abbrev pub refusal : ℕ → ℕ → Mapping
 refusal number place =
     record { number = number; place = place; size = 0; buffers = 0; depth = 0; junctions = 0; share = 0 }
 
--- the numbers of an accepted source with its buffers
-abbrev pub figures : Netlist → ℕ → Mapping
-figures n bs =
+-- the numbers of an accepted source with its buffers, their JJs and all JJs
+abbrev pub figures : Netlist → ℕ → ℕ → ℕ → Mapping
+figures n bs part whole =
     record {
       number = 0;
       place = 0;
       size = n .size + bs;
       buffers = bs;
       depth = depth n;
-      junctions = junctions (gates n) bs;
-      share = share (bufferPrice * bs) (junctions (gates n) bs);
+      junctions = whole;
+      share = share part whole;
     }
 
--- the answer that the checks leave
-abbrev pub answerOf : Checked → Netlist → Capacities → Mapping
-answerOf checks n caps = outcome checks (figures n (fewestInAll n caps)) refusal
+-- the answer that the checks leave; the mapped netlist is priced
+abbrev pub answerOf : Checked → Netlist → Capacities → List ℕ → Mapping
+answerOf checks n caps list =
+    outcome checks (figures n (fewestInAll n caps) (bufferJunctions list (mapped n caps)) (junctions list (mapped n caps))) refusal
 
 -- the area that the checks leave
 abbrev pub areaOf : Checked → Netlist → Capacities → List ℕ → List ℕ
 areaOf checks n caps area = unlessRefused checks (onto (bytesOf (mapped n caps)) area) area
 
 -- the mapper's seven numbers
-unfoldable pub mapAnswer : List ℕ → Capacities → List ℕ → Mapping
-mapAnswer bytes caps area = answerOf (mapChecks bytes caps area) (netlist bytes) caps
+unfoldable pub mapAnswer : List ℕ → Capacities → List ℕ → List ℕ → Mapping
+mapAnswer bytes caps list area = answerOf (mapChecks bytes caps list area) (netlist bytes) caps list
 
 -- what the area holds after the call
-unfoldable pub mapArea : List ℕ → Capacities → List ℕ → List ℕ
-mapArea bytes caps area = areaOf (mapChecks bytes caps area) (netlist bytes) caps area
+unfoldable pub mapArea : List ℕ → Capacities → List ℕ → List ℕ → List ℕ
+mapArea bytes caps list area = areaOf (mapChecks bytes caps list area) (netlist bytes) caps area
 
 -- the numbers of an answer, in the order of specification 4.1
 unfoldable pub mappingNumbers : Mapping → List ℕ

@@ -1,10 +1,13 @@
-// The mapper: checks 9 and 10 and the mapped netlist, written record by record.
+// The mapper: checks 9 and 10 and the mapped netlist, written record by record and priced.
 ghost use mathlib.Core.Path.{_≡_};
 ghost use Prim.Native.Nat.{suc, _*_, _≤_};
 ghost use lib.ListN.{length, replicate};
 ghost use Rattle.netlist.specs.Kinds.{slots, topLevel, sourceLimit, mappedLimit};
 ghost use Rattle.netlist.specs.Records.{netlist, recordCount};
-ghost use Rattle.netlist.specs.Checks.{inputChecks};
+ghost use Rattle.facts.specs.Checks.{_andThen_};
+ghost use Rattle.netlist.specs.Checks.{capacityChecks, sourceChecks, inputChecks};
+ghost use Rattle.prices.specs.Checks.{listChecks};
+ghost use Rattle.prices.specs.PrivatePrices.{PriceList};
 ghost use Rattle.mapper.specs.Mapped.{mapped};
 ghost use Rattle.mapper.specs.Answer.{refusal, figures, mapAnswer, mapArea};
 ghost use Rattle.mapper.specs.View.{blockView};
@@ -22,8 +25,10 @@ use nets::sinks::RECORDS;
 use nets::sinks::SINKS;
 use nets::trees;
 use nets::trees::Sizing;
+use prices::LIST;
 
 mod block;
+mod pricing;
 mod records;
 mod writing;
 
@@ -31,11 +36,6 @@ mod writing;
 const SMALL: usize = 1024;
 
 const SMALL_SINKS: usize = SLOTS * SMALL;
-
-// Junctions of a gate and of a buffer.
-const GATE_PRICE: u32 = 6;
-
-const BUFFER_PRICE: u32 = 2;
 
 // The mapper's seven numbers (specification 4.1).
 pub struct Mapping {
@@ -69,23 +69,22 @@ fn refuse(number: u32, place: u32) -> Mapping
     }
 }
 
-// The numbers of an accepted source with its buffers.
-fn accept(source: &[u8], n: usize, buffers: u32) -> Mapping
+// The numbers of an accepted source with its buffers, their JJs and all JJs.
+fn accept(source: &[u8], n: usize, buffers: u32, part: u32, whole: u32) -> Mapping
     requires { ⌜ n ≡ recordCount (now source) ⌝ }
     requires { ⌜ n ≤ sourceLimit ⌝ }
     requires { ⌜ buffers ≤ mappedLimit ⌝ }
-    ensures { λ r. ⌜ r ≡ figures (netlist (now (source .entry))) buffers ⌝ }
+    requires { ⌜ part ≤ 255 * mappedLimit ⌝ }
+    ensures { λ r. ⌜ r ≡ figures (netlist (now (source .entry))) buffers part whole ⌝ }
 {
-    let gates = netlist::count_gates(source) as u32;
-    let junctions = GATE_PRICE * gates + BUFFER_PRICE * buffers;
     Mapping {
         number: 0,
         place: 0,
         size: n as u32 + buffers,
         buffers,
         depth: netlist::depth(source) as u32,
-        junctions,
-        share: facts::round(100 * (BUFFER_PRICE * buffers), junctions),
+        junctions: whole,
+        share: facts::round(100 * part, whole),
     }
 }
 
@@ -99,12 +98,14 @@ fn map_trees(
     next: &mut [u16],
     total: usize,
     row: &mut [u32; DISTANCES],
+    prices: &[u32; LIST],
     area: &mut [u8],
 ) -> Mapping
     requires { ⌜ Counted (now source) capacities n (now first) (now next) end total ⌝ }
     requires { ⌜ now row ≡ replicate (suc topLevel) 0 ⌝ }
-    ensures { λ r. ⌜ r ≡ mapAnswer (now (source .entry)) capacities (now (area .entry)) ⌝ }
-    ensures { λ _. ⌜ now (area .exit) ≡ mapArea (now (source .entry)) capacities (now (area .entry)) ⌝ }
+    requires { ⌜ PriceList (now prices) ⌝ }
+    ensures { λ r. ⌜ r ≡ mapAnswer (now (source .entry)) capacities (now (prices .entry)) (now (area .entry)) ⌝ }
+    ensures { λ _. ⌜ now (area .exit) ≡ mapArea (now (source .entry)) capacities (now (prices .entry)) (now (area .entry)) ⌝ }
 {
     let size = n + total;
     if MAPPED_LIMIT < size {
@@ -113,8 +114,9 @@ fn map_trees(
     if area.len() < WIDTH * size {
         return refuse(10, 0);
     }
-    writing::write_mapped(source, capacities, n, end, first, next, row, area);
-    accept(source, n, total as u32)
+    let gates = pricing::price_gates(source, n, end, first, next, prices);
+    let part = writing::write_mapped(source, capacities, n, end, first, next, row, prices, area);
+    accept(source, n, total as u32, part, gates + part)
 }
 
 // Checks 8 to 10 of a source that passes 1, 26 and 2 to 7, and the mapping, in arrays long enough for its chains.
@@ -125,15 +127,16 @@ fn map_with(
     first: &mut [u16],
     next: &mut [u16],
     totals: &mut [u32],
+    prices: &[u32; LIST],
     area: &mut [u8],
 ) -> Mapping
-    requires { ⌜ inputChecks (now source) capacities ≡ Checked.Passed ⌝ }
+    requires { ⌜ (inputChecks (now source) capacities ≡ Checked.Passed) × PriceList (now prices) ⌝ }
     requires { ⌜ n ≡ recordCount (now source) ⌝ }
     requires { ⌜ (n ≤ length (now first)) × (slots * n ≤ length (now next)) ⌝ }
     requires { ⌜ n ≤ length (now totals) ⌝ }
     requires { ⌜ AllUnused (now next) ⌝ }
-    ensures { λ r. ⌜ r ≡ mapAnswer (now (source .entry)) capacities (now (area .entry)) ⌝ }
-    ensures { λ _. ⌜ now (area .exit) ≡ mapArea (now (source .entry)) capacities (now (area .entry)) ⌝ }
+    ensures { λ r. ⌜ r ≡ mapAnswer (now (source .entry)) capacities (now (prices .entry)) (now (area .entry)) ⌝ }
+    ensures { λ _. ⌜ now (area .exit) ≡ mapArea (now (source .entry)) capacities (now (prices .entry)) (now (area .entry)) ⌝ }
 {
     let end = SLOTS * n;
     let mut row = [0u32; DISTANCES];
@@ -149,6 +152,7 @@ fn map_with(
             next,
             total,
             &mut row,
+            prices,
             area,
         ),
         Sizing::Stops(number, place) => refuse(number, place),
@@ -156,10 +160,16 @@ fn map_with(
 }
 
 // Checks 8 to 10 of a source that passes 1, 26 and 2 to 7, and the mapping. A source of few records takes short arrays, which are sooner cleared.
-fn map_source(source: &[u8], capacities: Capacities, area: &mut [u8]) -> Mapping
+fn map_source(
+    source: &[u8],
+    capacities: Capacities,
+    prices: &[u32; LIST],
+    area: &mut [u8],
+) -> Mapping
     requires { ⌜ inputChecks (now source) capacities ≡ Checked.Passed ⌝ }
-    ensures { λ r. ⌜ r ≡ mapAnswer (now (source .entry)) capacities (now (area .entry)) ⌝ }
-    ensures { λ _. ⌜ now (area .exit) ≡ mapArea (now (source .entry)) capacities (now (area .entry)) ⌝ }
+    requires { ⌜ PriceList (now prices) ⌝ }
+    ensures { λ r. ⌜ r ≡ mapAnswer (now (source .entry)) capacities (now (prices .entry)) (now (area .entry)) ⌝ }
+    ensures { λ _. ⌜ now (area .exit) ≡ mapArea (now (source .entry)) capacities (now (prices .entry)) (now (area .entry)) ⌝ }
 {
     let n = netlist::record_count(source);
     if n <= SMALL {
@@ -173,6 +183,7 @@ fn map_source(source: &[u8], capacities: Capacities, area: &mut [u8]) -> Mapping
             &mut first,
             &mut next,
             &mut totals,
+            prices,
             area,
         );
     }
@@ -186,18 +197,53 @@ fn map_source(source: &[u8], capacities: Capacities, area: &mut [u8]) -> Mapping
         &mut first,
         &mut next,
         &mut totals,
+        prices,
         area,
     )
 }
 
-// The mapper: the mapped netlist of a source into the area, and its seven numbers; or a refusal that leaves the area as it was.
-pub fn map_netlist(source: &[u8], capacities: Capacities, area: &mut [u8]) -> Mapping
-    ensures { λ r. ⌜ r ≡ mapAnswer (now (source .entry)) capacities (now (area .entry)) ⌝ }
-    ensures { λ _. ⌜ now (area .exit) ≡ mapArea (now (source .entry)) capacities (now (area .entry)) ⌝ }
+// The mapping of a source that passes 1, 26 and 2 to 7, with the prices of a list that passes 27 and 28.
+fn map_listed(source: &[u8], capacities: Capacities, list: &[u8], area: &mut [u8]) -> Mapping
+    requires { ⌜ inputChecks (now source) capacities ≡ Checked.Passed ⌝ }
+    requires { ⌜ listChecks (now list) ≡ Checked.Passed ⌝ }
+    ensures { λ r. ⌜ r ≡ mapAnswer (now (source .entry)) capacities (now (list .entry)) (now (area .entry)) ⌝ }
+    ensures { λ _. ⌜ now (area .exit) ≡ mapArea (now (source .entry)) capacities (now (list .entry)) (now (area .entry)) ⌝ }
 {
-    let checked = netlist::check_input(source, capacities);
+    let mut table = prices::PLAIN;
+    prices::read_prices(list, &mut table);
+    map_source(source, capacities, &table, area)
+}
+
+// Checks 27, 28 and 2 to 7, in that order.
+fn check_listed(source: &[u8], list: &[u8]) -> Checked
+    ensures { λ a. ⌜ a ≡ (listChecks (now (list .entry)) andThen sourceChecks (now (source .entry))) ⌝ }
+{
+    let checked = prices::check_list(list);
     match checked {
-        Checked::Passed => map_source(source, capacities, area),
+        Checked::Passed => netlist::check_source(source),
+        Checked::Refused(number, place) => Checked::Refused(number, place),
+    }
+}
+
+// Checks 1, 26, 27, 28 and 2 to 7, in that order.
+fn check_call(source: &[u8], capacities: Capacities, list: &[u8]) -> Checked
+    ensures { λ a. ⌜ a ≡ (capacityChecks capacities andThen listChecks (now (list .entry)) andThen sourceChecks (now (source .entry))) ⌝ }
+{
+    let checked = netlist::check_capacities(capacities);
+    match checked {
+        Checked::Passed => check_listed(source, list),
+        Checked::Refused(number, place) => Checked::Refused(number, place),
+    }
+}
+
+// The mapper: the mapped netlist of a source into the area, and its seven numbers; or a refusal that leaves the area as it was.
+pub fn map_netlist(source: &[u8], capacities: Capacities, list: &[u8], area: &mut [u8]) -> Mapping
+    ensures { λ r. ⌜ r ≡ mapAnswer (now (source .entry)) capacities (now (list .entry)) (now (area .entry)) ⌝ }
+    ensures { λ _. ⌜ now (area .exit) ≡ mapArea (now (source .entry)) capacities (now (list .entry)) (now (area .entry)) ⌝ }
+{
+    let checked = check_call(source, capacities, list);
+    match checked {
+        Checked::Passed => map_listed(source, capacities, list, area),
         Checked::Refused(number, place) => refuse(number, place),
     }
 }

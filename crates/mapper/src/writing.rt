@@ -12,6 +12,9 @@ ghost use Rattle.fanout.specs.Nets.{treeSize};
 ghost use Rattle.mapper.specs.Mapped.{blockStart, mappedSize, mapped};
 ghost use Rattle.mapper.specs.PrivateWriting.{Ready, Stale, behind, levelRecord, lineParent, lineRecord, CountedNet, FirstParents, ParentsSet, ParentsWritten, onParent, onLine, ParentsDue, NodeCounts, Writable, Wrote};
 ghost use Rattle.nets.specs.PrivateChains.{Chained};
+ghost use Rattle.prices.specs.PrivatePrices.{PriceList};
+ghost use Rattle.mapper.specs.PrivatePricing.{treePrice, NodesCounted};
+use crate::pricing;
 use crate::records;
 use fanout::DISTANCES;
 use netlist::Capacities;
@@ -19,6 +22,13 @@ use netlist::record_writer;
 use nets::numbers;
 use nets::sinks;
 use nets::sinks::Chain;
+use prices::LIST;
+
+// The buffers of one net as they are written: the record behind the last, and their price.
+struct NetBlock {
+    end: usize,
+    price: u32,
+}
 
 // The row, all zero again: only distances up to top were touched.
 fn clear_row(top: usize, row: &mut [u32; DISTANCES])
@@ -142,7 +152,26 @@ fn count_buffers(
     reach.far
 }
 
-// The tree of d: its buffers go to the area from record start on, its sinks' parents to their slots. The next record is handed back.
+// The price of d's tree, by its row of nodes; then the row is all zero again.
+fn price_row(
+    source: &[u8],
+    capacities: Capacities,
+    d: usize,
+    top: usize,
+    row: &mut [u32; DISTANCES],
+    prices: &[u32; LIST],
+) -> u32
+    requires { ⌜ NodesCounted (netlist (now source)) capacities d (now row) top ⌝ }
+    requires { ⌜ PriceList (now prices) ⌝ }
+    ensures { λ r. ⌜ r ≡ treePrice (now (prices .entry)) (netlist (now (source .entry))) capacities d ⌝ }
+    ensures { λ _. ⌜ now (row .exit) ≡ replicate (suc topLevel) 0 ⌝ }
+{
+    let price = pricing::price_tree(source, capacities, d, top, row, prices);
+    clear_row(top, row);
+    price
+}
+
+// The tree of d: its buffers go to the area from record start on, its sinks' parents to their slots; then the row counts its nodes, by which it is priced.
 fn write_tree(
     source: &[u8],
     capacities: Capacities,
@@ -153,16 +182,21 @@ fn write_tree(
     start: usize,
     row: &mut [u32; DISTANCES],
     base: &mut [u16; DISTANCES],
+    prices: &[u32; LIST],
     area: &mut [u8],
-) -> usize
+) -> NetBlock
     requires { ⌜ Writable (netlist (now source)) capacities d start (now first) (now next) end (now row) (now base) (now area) ⌝ }
-    ensures { λ r. ⌜ Wrote (netlist (now (source .entry))) capacities d start (now (first .entry)) (now (next .exit)) end (now (row .exit)) (now (base .exit)) (now (area .entry)) (now (area .exit)) r ⌝ }
+    requires { ⌜ PriceList (now prices) ⌝ }
+    ensures { λ r. ⌜ Wrote (netlist (now (source .entry))) capacities d start (now (first .entry)) (now (next .exit)) end (now (row .exit)) (now (base .exit)) (now (area .entry)) (now (area .exit)) (r .end) ⌝ }
+    ensures { λ r. ⌜ r .price ≡ treePrice (now (prices .entry)) (netlist (now (source .entry))) capacities d ⌝ }
 {
     let top = count_buffers(source, capacities, end, first, next, d, row);
     let after = write_buffers(source, capacities, d, start, top, row, base, area);
     set_parents(source, capacities, end, first, next, d, base, row);
-    clear_row(top, row);
-    after
+    NetBlock {
+        end: after,
+        price: price_row(source, capacities, d, top, row, prices),
+    }
 }
 
 // What a node at distance k of d's line hangs on: d, or the buffer one level nearer; the first one is record start.
@@ -217,7 +251,7 @@ fn set_line_parents(
     }
 }
 
-// The net of d, by its sinks: nothing, a line or a tree, from record start on. The next record is handed back.
+// The net of d, by its sinks: nothing, a line or a tree, from record start on.
 fn write_net(
     source: &[u8],
     capacities: Capacities,
@@ -228,19 +262,28 @@ fn write_net(
     start: usize,
     row: &mut [u32; DISTANCES],
     base: &mut [u16; DISTANCES],
+    prices: &[u32; LIST],
     area: &mut [u8],
-) -> usize
+) -> NetBlock
     requires { ⌜ Writable (netlist (now source)) capacities d start (now first) (now next) end (now row) (now base) (now area) ⌝ }
-    ensures { λ r. ⌜ Wrote (netlist (now (source .entry))) capacities d start (now (first .entry)) (now (next .exit)) end (now (row .exit)) (now (base .exit)) (now (area .entry)) (now (area .exit)) r ⌝ }
+    requires { ⌜ PriceList (now prices) ⌝ }
+    ensures { λ r. ⌜ Wrote (netlist (now (source .entry))) capacities d start (now (first .entry)) (now (next .exit)) end (now (row .exit)) (now (base .exit)) (now (area .entry)) (now (area .exit)) (r .end) ⌝ }
+    ensures { λ r. ⌜ r .price ≡ treePrice (now (prices .entry)) (netlist (now (source .entry))) capacities d ⌝ }
 {
     let chain = sinks::chain_of(source, end, first, next, d);
     match chain {
-        Chain::Empty => start,
-        Chain::Short(top, _) => {
+        Chain::Empty => NetBlock {
+            end: start,
+            price: 0,
+        },
+        Chain::Short(top, other) => {
             let n = top - 1;
             set_line_parents(source, end, first, next, d, start);
             write_line(area, d, start, netlist::level_at(source, d), n);
-            start + n
+            NetBlock {
+                end: start + n,
+                price: pricing::price_line(prices, n, other),
+            }
         }
         Chain::Long => write_tree(
             source,
@@ -252,12 +295,13 @@ fn write_net(
             start,
             row,
             base,
+            prices,
             area,
         ),
     }
 }
 
-// The nets of all drivers, rising: their buffers behind the source's records, and what each sink hangs on. The row is all zero before each.
+// The nets of all drivers, rising: their buffers behind the source's records, and what each sink hangs on. The row is all zero before each. Their price is handed back.
 fn write_nets(
     source: &[u8],
     capacities: Capacities,
@@ -266,21 +310,24 @@ fn write_nets(
     first: &[u16],
     next: &mut [u16],
     row: &mut [u32; DISTANCES],
+    prices: &[u32; LIST],
     area: &mut [u8],
-)
-    requires { ⌜ Ready (netlist (now source)) capacities ⌝ }
+) -> u32
+    requires { ⌜ Ready (netlist (now source)) capacities × PriceList (now prices) ⌝ }
     requires { ⌜ n ≡ recordCount (now source) ⌝ }
     requires { ⌜ ParentsSet (netlist (now source)) capacities (now first) (now next) 0 end ⌝ }
     requires { ⌜ now row ≡ replicate (suc topLevel) 0 ⌝ }
     requires { ⌜ width * mappedSize (netlist (now source)) capacities ≤ length (now area) ⌝ }
     ensures { λ _. ⌜ ParentsSet (netlist (now (source .entry))) capacities (now (first .entry)) (now (next .exit)) (netlist (now (source .entry)) .size) end ⌝ }
     ensures { λ _. ⌜ now (area .exit) ≡ withRecords (mapped (netlist (now (source .entry))) capacities) (netlist (now (source .entry)) .size) (sum (treeSize (netlist (now (source .entry))) capacities) (netlist (now (source .entry)) .size)) (now (area .entry)) ⌝ }
+    ensures { λ r. ⌜ r ≡ sum (treePrice (now (prices .entry)) (netlist (now (source .entry))) capacities) (netlist (now (source .entry)) .size) ⌝ }
 {
     let mut base = [0u16; DISTANCES];
     let mut at = n;
+    let mut total: u32 = 0;
     let mut d: usize = 0;
     while d < n {
-        at = write_net(
+        let block = write_net(
             source,
             capacities,
             end,
@@ -290,13 +337,17 @@ fn write_nets(
             at,
             row,
             &mut base,
+            prices,
             area,
         );
+        at = block.end;
+        total += block.price;
         d += 1;
     }
+    total
 }
 
-// The whole mapped netlist, into an area that it fits.
+// The whole mapped netlist, into an area that it fits. The price of its buffers is handed back.
 pub(crate) fn write_mapped(
     source: &[u8],
     capacities: Capacities,
@@ -305,15 +356,18 @@ pub(crate) fn write_mapped(
     first: &[u16],
     next: &mut [u16],
     row: &mut [u32; DISTANCES],
+    prices: &[u32; LIST],
     area: &mut [u8],
-)
-    requires { ⌜ Ready (netlist (now source)) capacities ⌝ }
+) -> u32
+    requires { ⌜ Ready (netlist (now source)) capacities × PriceList (now prices) ⌝ }
     requires { ⌜ Chained (netlist (now source)) (now first) (now next) 0 end ⌝ }
     requires { ⌜ n ≡ recordCount (now source) ⌝ }
     requires { ⌜ now row ≡ replicate (suc topLevel) 0 ⌝ }
     requires { ⌜ width * mappedSize (netlist (now source)) capacities ≤ length (now area) ⌝ }
     ensures { λ _. ⌜ now (area .exit) ≡ onto (bytesOf (mapped (netlist (now (source .entry))) capacities)) (now (area .entry)) ⌝ }
+    ensures { λ r. ⌜ r ≡ sum (treePrice (now (prices .entry)) (netlist (now (source .entry))) capacities) (netlist (now (source .entry)) .size) ⌝ }
 {
-    write_nets(source, capacities, n, end, first, next, row, area);
+    let price = write_nets(source, capacities, n, end, first, next, row, prices, area);
     records::write_source(source, next, area);
+    price
 }

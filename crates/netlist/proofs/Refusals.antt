@@ -99,7 +99,7 @@ record-first m k =
     (structure-first m k)
     (first-check 7 k (level-is m (m .at k)))
 
-size-rows : (bytes : List ℕ) (n p : ℕ) → SizeFails bytes n p → (rowOf 26 < rowOf n) × (rowOf n ≤ rowOf 3)
+size-rows : (bytes : List ℕ) (n p : ℕ) → SizeFails bytes n p → (rowOf 28 < rowOf n) × (rowOf n ≤ rowOf 3)
 size-rows bytes n p =
     ⊎-elim
     (λ f. omega (arith, one-row 2 0 (Ragged bytes) n p f))
@@ -110,7 +110,7 @@ module _ (bytes : List ℕ) (f : ℕ → Checked) (F : ℕ → Conditions) (last
   records-rows : InRow (rowOf 7) (Each (recordCount bytes) F)
   records-rows = scan-rows F (rowOf 7) 4 last (recordCount bytes) within
 
-  all-rows : (n p : ℕ) → (SizeFails bytes or Each (recordCount bytes) F) n p → (rowOf 26 < rowOf n) × (rowOf n ≤ rowOf 7)
+  all-rows : (n p : ℕ) → (SizeFails bytes or Each (recordCount bytes) F) n p → (rowOf 28 < rowOf n) × (rowOf n ≤ rowOf 7)
   all-rows n p = ⊎-elim (λ f. omega (arith, size-rows bytes n p f)) (λ f. omega (arith, records-rows n p f))
 
   all-first : ((k : ℕ) → First (F k) (f k)) →
@@ -123,11 +123,11 @@ module _ (bytes : List ℕ) (f : ℕ → Checked) (F : ℕ → Conditions) (last
       (first-check 3 0 (less sourceLimit (recordCount bytes))))
       (first-scan f F (rowOf 7) 4 last within (recordCount bytes) (λ k l. each k))
 
--- the conditions of checks 2 to 7, and of 2 to 6, stand in the table's rows after that of 26, up to that of 7
-pub source-rows : (bytes : List ℕ) (n p : ℕ) → SourceFails bytes n p → (rowOf 26 < rowOf n) × (rowOf n ≤ rowOf 7)
+-- the conditions of checks 2 to 7, and of 2 to 6, stand in the table's rows after that of 28, up to that of 7
+pub source-rows : (bytes : List ℕ) (n p : ℕ) → SourceFails bytes n p → (rowOf 28 < rowOf n) × (rowOf n ≤ rowOf 7)
 source-rows bytes = all-rows bytes (recordChecks (netlist bytes)) (RecordFails (netlist bytes)) 7 (record-within (netlist bytes))
 
-pub structure-rows : (bytes : List ℕ) (n p : ℕ) → StructuresFail bytes n p → (rowOf 26 < rowOf n) × (rowOf n ≤ rowOf 7)
+pub structure-rows : (bytes : List ℕ) (n p : ℕ) → StructuresFail bytes n p → (rowOf 28 < rowOf n) × (rowOf n ≤ rowOf 7)
 structure-rows bytes = all-rows bytes (structureAt (netlist bytes)) (StructureFails (netlist bytes)) 6 (structure-within (netlist bytes))
 
 -- and those of 1, 26 and 2 to 7 in the rows up to that of 7
@@ -153,7 +153,7 @@ structures-first bytes =
 pub input-first : (bytes : List ℕ) (caps : Capacities) → First (InputFails bytes caps) (inputChecks bytes caps)
 input-first bytes caps =
     first-then
-    (rows-before (rowOf 26) (λ n p f. capacities-rows caps n p f .1) (λ n p f. source-rows bytes n p f .0))
+    (rows-before (rowOf 26) (λ n p f. capacities-rows caps n p f .1) (λ n p f. omega (arith, source-rows bytes n p f .0)))
     (capacities-first caps)
     (source-first bytes)
 

@@ -41,6 +41,12 @@ pub sinks-rise : (n : Netlist) (d k y z : ℕ) → y ≤ z → sinksBelow n d k 
 unfolding sinksBelow
 sinks-rise n d k y z l = count-more (λ x. sinkAt n d k (x / slots) (x % slots)) y z l
 
+-- where no slot names d it has no sink
+pub sinks-unnamed : (n : Netlist) (d k : ℕ) → slotEnd n ≤ nextSink n d 0 → sinks n d k ≡ 0
+sinks-unnamed n d k l =
+    let e : nextSink n d 0 ≡ slotEnd n = omega (arith, next-within n d 0 (omega arith)) in
+    sym (sinks-all n d k) ∙ ap (sinksBelow n d k) (sym e) ∙ sinks-skip n d k 0 ∙ sinks-none n d k
+
 -- slot p's record stands above the driver that the slot names
 pub named-above : (n : Netlist) (d p : ℕ) → IsSource n → p < slotEnd n → namesSlot n d p ≡ true → n .at d .level < n .at (p / slots) .level
 named-above n d p i l c =

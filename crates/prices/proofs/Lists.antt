@@ -4,22 +4,23 @@ use native.Mathlib.Omega.{arith}
 use native.Mathlib.Decide.{decLt, ℕ-discrete}
 use mathlib.Core.Path.{_≡_, refl, sym, _∙_, ap, subst⁻¹}
 use mathlib.Core.Logic.{_⊎_, inl, inr, ⊎-elim}
-use mathlib.Core.Bool.{Bool, true, false, not, cond, _&&_}
+use mathlib.Core.Bool.{Bool, true, false, not, cond, _&&_, _||_}
 use mathlib.Core.List.{List, [], _∷_}
 use mir.Val.{Fits}
 use mir.Syntax.{w64}
 use lib.ListN.{length, getD, set, length-set, List·getD-eq-default}
 use lib.Seq.{getD-set-same, getD-set-other, ext-getD}
 use lib.Dec.{eqb, ltb}
-use borrow.Author.Tests.{eq-eqb, ne-eqb, lt-ltb, le-ltb, ltb-false, eqb-true, not-false}
+use borrow.Author.Tests.{eq-eqb, ne-eqb, eqb-true, lt-ltb, le-ltb, ltb-false, lt-leb, le-leb, not-false}
 use Rattle.facts.specs.declared.Checked.{Checked}
 use Rattle.facts.specs.declared.Checked.the-variants.{Passed, Refused}
 use Rattle.facts.specs.Checks.{check, scan}
-use Rattle.facts.specs.Sums.{any}
+use Rattle.facts.specs.Sums.{bit, any}
 use Rattle.facts.proofs.Bools.{true-false}
 use Rattle.facts.proofs.Sums.{any-none}
 use Rattle.facts.proofs.Loops.{Scanning, scan-more, scan-stop, scan-end}
 use Rattle.facts.proofs.Reflect.{then-passed, check-passed}
+use Rattle.netlist.specs.Kinds.{buffer, isGate}
 use Rattle.prices.specs.Prices.{listLength, priceCounts, priceStarts, priceCount, priceStart, plainPrices, listPrice, priceOf}
 use Rattle.prices.specs.Checks.{badLength, priceCheck, listChecks}
 use Rattle.prices.specs.PrivatePrices.{plainList, applied, PriceList}
@@ -71,6 +72,21 @@ module _ (list : List ℕ) (n k : ℕ) (s : Scanning (priceCheck list) n k) wher
 
   pub prices-end : n ≤ k → n ≡ length list → Passed ≡ scan (priceCheck list) 0 (length list)
   prices-end h q = scan-end (priceCheck list) n k s h ∙ ap (scan (priceCheck list) 0) q
+
+-- a kind's price in an empty list: 6 for a gate, 2 for a buffer
+pub plain-kind : (kind : ℕ) → getD plainPrices kind 0 ≡ 6 * bit (isGate kind) + 2 * bit (eqb kind buffer)
+plain-kind zero = refl
+plain-kind (suc zero) = refl
+plain-kind (suc (suc zero)) = refl
+plain-kind (suc (suc (suc zero))) = refl
+plain-kind (suc (suc (suc (suc zero)))) = refl
+plain-kind (suc (suc (suc (suc (suc zero))))) = refl
+plain-kind (suc (suc (suc (suc (suc (suc k)))))) = past (suc (suc (suc (suc (suc (suc k)))))) (omega arith)
+  where
+    past : (kind : ℕ) → 6 ≤ kind → getD plainPrices kind 0 ≡ 6 * bit (isGate kind) + 2 * bit (eqb kind buffer)
+    past kind l =
+        List·getD-eq-default plainPrices 0 {n = kind} l
+        ∙ sym (rw (le-leb 1 kind (omega arith), lt-leb kind 3 (omega arith), ne-eqb kind buffer (λ e. omega arith)) refl)
 
 -- each price of an empty list is a byte
 plain-small : (x : ℕ) → getD plainList x 0 ≤ 255
@@ -235,8 +251,15 @@ unfolding priceOf
 applied-price (p ∷ ps) kind fed l = refl
 applied-price [] kind fed l = rw (lt-ltb fed (priceCount kind) l) (plain-price kind fed l)
 
--- and a kind without prices costs nothing
-pub no-price : (list : List ℕ) (kind fed : ℕ) → getD plainPrices kind 0 ≡ 0 → priceCount kind ≡ 0 → priceOf list kind fed ≡ 0
-unfolding priceOf
-no-price [] kind fed e f = e
-no-price (p ∷ ps) kind fed e f = rw (le-ltb fed (priceCount kind) (omega arith))
+-- what is no gate and no buffer costs nothing
+pub no-price : (list : List ℕ) (kind fed : ℕ) → isGate kind ≡ false → eqb kind buffer ≡ false → priceOf list kind fed ≡ 0
+unfolding priceOf any
+no-price [] kind fed g b = plain-kind kind ∙ rw (g, b) refl
+no-price (p ∷ ps) kind fed g b =
+    elim (decLt 0 (priceCount kind)) [
+      | yes l ↦ absurd (true-false (priced kind) (rw (lt-ltb 0 (priceCount kind) l, g, b) refl) (tested priced refl kind l))
+      | no l ↦ rw (le-ltb fed (priceCount kind) (omega arith)) refl
+    ]
+  where
+    priced : ℕ → Bool
+    priced k = ltb 0 (priceCount k) && not (isGate k || eqb k buffer)

@@ -1,13 +1,13 @@
 -- The promises of price lists.
-use Prim.Native.Nat.{ℕ, zero, suc, _+_, _*_, _≤_, _<_}
+use Prim.Native.Nat.{ℕ, _+_, _*_, _≤_, _<_}
 use native.Mathlib.Omega.{arith}
-use mathlib.Core.Path.{_≡_, refl, sym, _∙_, ap, ap₂}
+use mathlib.Core.Path.{_≡_, refl, _∙_, ap, ap₂}
 use mathlib.Core.Logic.{⊎-elim}
 use mathlib.Core.Bool.{Bool, true, false, cond}
 use mathlib.Core.List.{List}
-use lib.ListN.{length, getD, List·getD-eq-default}
+use lib.ListN.{length, getD}
 use lib.Dec.{eqb}
-use borrow.Author.Tests.{le-leb, lt-leb, ne-eqb, eqb-true}
+use borrow.Author.Tests.{eqb-true}
 use Rattle.facts.specs.Sums.{bit, sum, count}
 use Rattle.facts.specs.Refusals.{rowOf, Conditions, Fails, Each, First}
 use Rattle.facts.proofs.Sums.{sum-cong, sum-add, sum-scale}
@@ -20,6 +20,7 @@ use Rattle.prices.specs.Prices.{listLength, plainPrices, priceOf, juncti
 use Rattle.prices.specs.Checks.{priceCheck, listChecks}
 use Rattle.prices.specs.Promises.{BadLength, ListFails, ListExact, EmptyList}
 use Rattle.prices.specs.Worked.{PriceTableTrue}
+use Rattle.prices.proofs.Lists.{plain-kind}
 
 -- the prices of a list that fail
 abbrev Zeros : List ℕ → Conditions
@@ -46,21 +47,6 @@ list-first list =
 
 pub list-exact : ListExact
 list-exact list = exact (list-first list)
-
--- a kind's price in an empty list: 6 for a gate, 2 for a buffer
-plain-kind : (kind : ℕ) → getD plainPrices kind 0 ≡ 6 * bit (isGate kind) + 2 * bit (eqb kind buffer)
-plain-kind zero = refl
-plain-kind (suc zero) = refl
-plain-kind (suc (suc zero)) = refl
-plain-kind (suc (suc (suc zero))) = refl
-plain-kind (suc (suc (suc (suc zero)))) = refl
-plain-kind (suc (suc (suc (suc (suc zero))))) = refl
-plain-kind (suc (suc (suc (suc (suc (suc k)))))) = past (suc (suc (suc (suc (suc (suc k)))))) (omega arith)
-  where
-    past : (kind : ℕ) → 6 ≤ kind → getD plainPrices kind 0 ≡ 6 * bit (isGate kind) + 2 * bit (eqb kind buffer)
-    past kind l =
-        List·getD-eq-default plainPrices 0 {n = kind} l
-        ∙ sym (rw (le-leb 1 kind (omega arith), lt-leb kind 3 (omega arith), ne-eqb kind buffer (λ e. omega arith)) refl)
 
 plain-buffer : (kind : ℕ) → cond (eqb kind buffer) (getD plainPrices kind 0) 0 ≡ 2 * bit (eqb kind buffer)
 plain-buffer kind = go (eqb kind buffer) refl

@@ -80,12 +80,12 @@ module _ (n : Netlist) (caps : Capacities) (r : Ready n caps) where
           and-i (isBuffer (mapped n caps) x) _ (eq-eqb _ buffer (buffer-kind n caps r x a u)) (eq-eqb _ d (net-of x a u ∙ same))
 
 pub block-exact : BlockExact
-block-exact source caps area d maps drives =
-    let e = written-netlist source caps area maps in
-    let r = mapped-from source caps area maps .ready in
+block-exact source caps list area d maps drives =
+    let e = written-netlist source caps list area maps in
+    let r = mapped-from source caps list area maps .ready in
     record {
       holds =
-          block-written source caps area d (maps-passed source caps area maps) drives
+          block-written source caps list area d (maps-passed source caps list area maps) drives
           ∙ ap (λ (m : Netlist). recs m (blockStart (netlist source) caps d) (treeSize (netlist source) caps d)) (sym e);
       exactly =
           subst

@@ -44,7 +44,7 @@ area-numbered : (Bad : Type 0) (row : List ℕ) → Numbered (AreaFails Bad row)
 area-numbered Bad row number place = ⊎-elim (λ f. omega (arith, f .0)) (λ z. omega (arith, z .2 .0))
 
 source-numbered : (source : List ℕ) → Numbered (SourceFails source)
-source-numbered source number place f = row-positive number (rowOf 26) (source-rows source number place f .0)
+source-numbered source number place f = row-positive number (rowOf 28) (source-rows source number place f .0)
 
 verify-numbered : (source : List ℕ) (caps : Capacities) (mapped : List ℕ) → Numbered (VerifyFails source caps mapped)
 verify-numbered source caps mapped number place =
@@ -136,37 +136,37 @@ module _ (caps : Capacities) (mapped area : List ℕ) where
         );
       }
 
-module _ (source : List ℕ) (caps : Capacities) (area : List ℕ) where
+module _ (source : List ℕ) (caps : Capacities) (list area : List ℕ) where
   abbrev answered : Checked → List ℕ
-  answered a = mappingNumbers (answerOf a (netlist source) caps)
+  answered a = mappingNumbers (answerOf a (netlist source) caps list)
 
   -- an accepted answer's first two numbers are 0
-  numbers-of : mapChecks source caps area ≡ Passed →
-      let a : Mapping = mapAnswer source caps area in
+  numbers-of : mapChecks source caps list area ≡ Passed →
+      let a : Mapping = mapAnswer source caps list area in
       mappingNumbers a ≡ 0 ∷ 0 ∷ a .size ∷ a .buffers ∷ a .depth ∷ a .junctions ∷ a .share ∷ []
   unfolding mapAnswer mappingNumbers
   numbers-of passed = rw passed
 
-  map-numbers : MapNumbers source caps area (mappingNumbers (mapAnswer source caps area))
+  map-numbers : MapNumbers source caps list area (mappingNumbers (mapAnswer source caps list area))
   unfolding mapAnswer mappingNumbers first
   map-numbers =
       record {
         refused =
-            tell (MapFails source caps area) (mapChecks source caps area) answered
-            (λ number place. number ∷ place ∷ 0 ∷ 0 ∷ 0 ∷ 0 ∷ 0 ∷ []) (map-exact source caps area) (map-numbered source caps area)
+            tell (MapFails source caps list area) (mapChecks source caps list area) answered
+            (λ number place. number ∷ place ∷ 0 ∷ 0 ∷ 0 ∷ 0 ∷ 0 ∷ []) (map-exact source caps list area) (map-numbered source caps list area)
             (λ n p f. cc) (λ n p. refl) (λ n p m q f. (cc, cc));
         accepted = λ M B D J P. (
           λ f.
-              let maps : Maps source caps area = ap first f in (
-                map-exact source caps area .passed .0 (maps-passed source caps area maps),
+              let maps : Maps source caps list area = ap first f in (
+                map-exact source caps list area .passed .0 (maps-passed source caps list area maps),
                 subst
-                    (λ (l : List ℕ). Figures source caps (take (width * getD l 2 0) (mapArea source caps area)) (getD l 2 0) (getD l 3 0) (getD l 4 0) (getD l 5 0) (getD l 6 0))
-                    f (figures-hold source caps area maps),
+                    (λ (l : List ℕ). Figures source caps list (take (width * getD l 2 0) (mapArea source caps list area)) (getD l 2 0) (getD l 3 0) (getD l 4 0) (getD l 5 0) (getD l 6 0))
+                    f (figures-hold source caps list area maps),
               ),
           λ c.
-              let passed = map-exact source caps area .passed .1 (c .0) in
-              let maps : Maps source caps area = ap (λ (a : Checked). answerOf a (netlist source) caps .number) passed in
-              numbers-of passed ∙ figures-same source caps (mapArea source caps area) _ _ _ _ _ M B D J P (figures-hold source caps area maps) (c .1),
+              let passed = map-exact source caps list area .passed .1 (c .0) in
+              let maps : Maps source caps list area = ap (λ (a : Checked). answerOf a (netlist source) caps list .number) passed in
+              numbers-of passed ∙ figures-same source caps list (mapArea source caps list area) _ _ _ _ _ M B D J P (figures-hold source caps list area maps) (c .1),
         );
       }
 

@@ -17,15 +17,15 @@ use Rattle.promises.specs.Written.{Maps, written}
 
 -- the block of d holds the records from `from` on, `many` of them; and a record of the netlist is a buffer on d's net, its slot
 -- traced back through buffers, exactly if it is one of these
-pub record BlockOf (source : List ℕ) (caps : Capacities) (area : List ℕ) (d from many : ℕ) : Type 0 where
-  pub holds : blockView source caps (mapArea source caps area) d ≡ recs (netlist (written source caps area)) from many
-  pub exactly : (x : ℕ) → x < netlist (written source caps area) .size →
-      (onNet (netlist (written source caps area)) d x ≡ true) ↔ ((from ≤ x) × (x < from + many))
+pub record BlockOf (source : List ℕ) (caps : Capacities) (list area : List ℕ) (d from many : ℕ) : Type 0 where
+  pub holds : blockView source caps (mapArea source caps list area) d ≡ recs (netlist (written source caps list area)) from many
+  pub exactly : (x : ℕ) → x < netlist (written source caps list area) .size →
+      (onNet (netlist (written source caps list area)) d x ≡ true) ↔ ((from ≤ x) × (x < from + many))
 
 abbrev pub BlockExact : Type 0
 BlockExact =
-    (source : List ℕ) (caps : Capacities) (area : List ℕ) (d : ℕ) → Maps source caps area → isDriver (recordAt source d .kind) ≡ true →
-    BlockOf source caps area d (blockStart (netlist source) caps d) (treeSize (netlist source) caps d)
+    (source : List ℕ) (caps : Capacities) (list area : List ℕ) (d : ℕ) → Maps source caps list area → isDriver (recordAt source d .kind) ≡ true →
+    BlockOf source caps list area d (blockStart (netlist source) caps d) (treeSize (netlist source) caps d)
 
 -- where the area ends before the block does, the part is empty
 abbrev pub BlockShort : Type 0

@@ -12,11 +12,12 @@ use Rattle.netlist.specs.declared.Capacities.{Capacities}
 use Rattle.netlist.specs.Kinds.{width}
 use Rattle.netlist.specs.Records.{netlist, recordCount}
 use Rattle.netlist.specs.Source.{OutputsAt}
-use Rattle.netlist.specs.Counts.{bufferCount, gates}
+use Rattle.netlist.specs.Counts.{bufferCount}
 use Rattle.levels.specs.Levels.{levelsAnswer}
 use Rattle.levels.specs.Promises.{LevelsFail}
 use Rattle.nets.specs.Counts.{countsAnswer}
 use Rattle.nets.specs.Promises.{CountsFail}
+use Rattle.prices.specs.Prices.{junctions, bufferJunctions}
 use Rattle.mapper.specs.Answer.{mapAnswer, mapArea, mappingNumbers}
 use Rattle.mapper.specs.Promises.{MapFails}
 use Rattle.verifier.specs.Checks.{verifyAnswer, verifiedNumbers}
@@ -39,8 +40,8 @@ pub record TwoNumbers (F : Conditions) (numbers : List ℕ) : Type 0 where
   pub refused : AnsweredExactly F numbers (λ number place. number ∷ place ∷ [])
   pub accepted : (numbers ≡ 0 ∷ 0 ∷ []) ↔ Clear F
 
--- the last five of an accepted mapping's numbers, as facts of the source and of the netlist written
-pub record Figures (source : List ℕ) (caps : Capacities) (written : List ℕ) (M buffers D JJs share : ℕ) : Type 0 where
+-- the last five of an accepted mapping's numbers, as facts of the source, of the price list and of the netlist written
+pub record Figures (source : List ℕ) (caps : Capacities) (list written : List ℕ) (M buffers D JJs share : ℕ) : Type 0 where
   -- M is the records written: the source's and the buffers
   pub records : recordCount written ≡ M
   pub added : M ≡ recordCount source + buffers
@@ -49,17 +50,18 @@ pub record Figures (source : List ℕ) (caps : Capacities) (written : List ℕ) 
   pub fewest : buffers ≡ fewestInAll (netlist source) caps
   -- D is the level of the outputs written, or 0
   pub outputs : OutputsAt (netlist written) D
-  -- JJs are 6 a gate and 2 a buffer written, the share is the buffers' part of them in percent, rounded
-  pub prices : JJs ≡ 6 * gates (netlist written) + 2 * bufferCount (netlist written)
-  pub part : Rounded (100 * (2 * bufferCount (netlist written))) JJs share
+  -- JJs are the prices of all records written, each of its kind at the number of slots that it feeds there; the share is the part of
+  -- those of kind 5 in percent, rounded
+  pub prices : JJs ≡ junctions list (netlist written)
+  pub part : Rounded (100 * bufferJunctions list (netlist written)) JJs share
 
 -- the mapper's seven numbers
-pub record MapNumbers (source : List ℕ) (caps : Capacities) (area : List ℕ) (numbers : List ℕ) : Type 0 where
-  pub refused : AnsweredExactly (MapFails source caps area) numbers (λ number place. number ∷ place ∷ 0 ∷ 0 ∷ 0 ∷ 0 ∷ 0 ∷ [])
+pub record MapNumbers (source : List ℕ) (caps : Capacities) (list area : List ℕ) (numbers : List ℕ) : Type 0 where
+  pub refused : AnsweredExactly (MapFails source caps list area) numbers (λ number place. number ∷ place ∷ 0 ∷ 0 ∷ 0 ∷ 0 ∷ 0 ∷ [])
   -- written are the first M records of the area
   pub accepted : (M buffers D JJs share : ℕ) →
       (numbers ≡ 0 ∷ 0 ∷ M ∷ buffers ∷ D ∷ JJs ∷ share ∷ [])
-      ↔ (Clear (MapFails source caps area) × Figures source caps (take (width * M) (mapArea source caps area)) M buffers D JJs share)
+      ↔ (Clear (MapFails source caps list area) × Figures source caps list (take (width * M) (mapArea source caps list area)) M buffers D JJs share)
 
 -- the verifier's three numbers
 pub record VerifyNumbers (source : List ℕ) (caps : Capacities) (mapped : List ℕ) (numbers : List ℕ) : Type 0 where
@@ -76,7 +78,7 @@ pub record StripNumbers (caps : Capacities) (mapped area : List ℕ) (numbers : 
 
 -- of each call; the count's numbers are in `NumbersExactly` of fanout
 pub record NumbersExact : Type 0 where
-  pub map : (source : List ℕ) (caps : Capacities) (area : List ℕ) → MapNumbers source caps area (mappingNumbers (mapAnswer source caps area))
+  pub map : (source : List ℕ) (caps : Capacities) (list area : List ℕ) → MapNumbers source caps list area (mappingNumbers (mapAnswer source caps list area))
   pub verify : (source : List ℕ) (caps : Capacities) (mapped : List ℕ) →
       VerifyNumbers source caps mapped (verifiedNumbers (verifyAnswer source caps mapped))
   pub countNets : (source : List ℕ) (caps : Capacities) (records counts : List ℕ) →

@@ -16,54 +16,54 @@ use Rattle.verifier.specs.Checks.{verifyAnswer}
 use Rattle.verifier.specs.Accepted.{Accepted}
 use Rattle.verifier.specs.Fewest.{NoMore}
 
--- the mapper accepts source, capacities and area
-abbrev pub Maps : List ℕ → Capacities → List ℕ → Type 0
-Maps source caps area = mapAnswer source caps area .number ≡ 0
+-- the mapper accepts source, capacities, price list and area
+abbrev pub Maps : List ℕ → Capacities → List ℕ → List ℕ → Type 0
+Maps source caps list area = mapAnswer source caps list area .number ≡ 0
 
 -- what it writes: the first M records of the area
-abbrev pub written : List ℕ → Capacities → List ℕ → List ℕ
-written source caps area = take (width * mapAnswer source caps area .size) (mapArea source caps area)
+abbrev pub written : List ℕ → Capacities → List ℕ → List ℕ → List ℕ
+written source caps list area = take (width * mapAnswer source caps list area .size) (mapArea source caps list area)
 
 -- demand 2: what the mapper writes is legal and keeps every gate, level and fanin
 abbrev pub WrittenLegal : Type 0
-WrittenLegal = (source : List ℕ) (caps : Capacities) (area : List ℕ) → Maps source caps area → Accepted source caps (written source caps area)
+WrittenLegal = (source : List ℕ) (caps : Capacities) (list area : List ℕ) → Maps source caps list area → Accepted source caps (written source caps list area)
 
 -- demand 2, in the words of Lee, Riener and De Micheli: path-balanced and properly branched
 abbrev pub WrittenBalanced : Type 0
 WrittenBalanced =
-    (source : List ℕ) (caps : Capacities) (area : List ℕ) → Maps source caps area →
-    PathBalanced (netlist (written source caps area)) × ProperlyBranched caps (netlist (written source caps area))
+    (source : List ℕ) (caps : Capacities) (list area : List ℕ) → Maps source caps list area →
+    PathBalanced (netlist (written source caps list area)) × ProperlyBranched caps (netlist (written source caps list area))
 
 -- demand 2: the verifier accepts it, with the mapper's number of buffers
 abbrev pub WrittenAccepted : Type 0
 WrittenAccepted =
-    (source : List ℕ) (caps : Capacities) (area : List ℕ) → Maps source caps area →
-    verifyAnswer source caps (written source caps area) ≡ Buffers (mapAnswer source caps area .buffers)
+    (source : List ℕ) (caps : Capacities) (list area : List ℕ) → Maps source caps list area →
+    verifyAnswer source caps (written source caps list area) ≡ Buffers (mapAnswer source caps list area .buffers)
 
 -- accepted, bytes beyond 10 × M stay as they were
 abbrev pub BeyondKept : Type 0
 BeyondKept =
-    (source : List ℕ) (caps : Capacities) (area : List ℕ) → Maps source caps area →
-    drop (width * mapAnswer source caps area .size) (mapArea source caps area) ≡ drop (width * mapAnswer source caps area .size) area
+    (source : List ℕ) (caps : Capacities) (list area : List ℕ) → Maps source caps list area →
+    drop (width * mapAnswer source caps list area .size) (mapArea source caps list area) ≡ drop (width * mapAnswer source caps list area .size) area
 
 -- demand 3: no netlist that the verifier accepts has fewer buffers, in all, on a net, or at a level of a net
 abbrev pub WrittenLeast : Type 0
 WrittenLeast =
-    (source : List ℕ) (caps : Capacities) (area other : List ℕ) (buffers : ℕ) → Maps source caps area →
+    (source : List ℕ) (caps : Capacities) (list area other : List ℕ) (buffers : ℕ) → Maps source caps list area →
     verifyAnswer source caps other ≡ Buffers buffers →
-    (mapAnswer source caps area .buffers ≤ buffers)
-    × NoMore (netlist source) (netlist (written source caps area)) (netlist other)
+    (mapAnswer source caps list area .buffers ≤ buffers)
+    × NoMore (netlist source) (netlist (written source caps list area)) (netlist other)
 
 -- M less N, the answered buffers, the records of kind 5 written and the sum of the counts of all nets are one number
-pub record OneNumber (source : List ℕ) (caps : Capacities) (area : List ℕ) : Type 0 where
-  pub added : mapAnswer source caps area .size ≡ recordCount source + mapAnswer source caps area .buffers
-  pub kinds : bufferCount (netlist (written source caps area)) ≡ mapAnswer source caps area .buffers
-  pub counts : fewestInAll (netlist source) caps ≡ mapAnswer source caps area .buffers
+pub record OneNumber (source : List ℕ) (caps : Capacities) (list area : List ℕ) : Type 0 where
+  pub added : mapAnswer source caps list area .size ≡ recordCount source + mapAnswer source caps list area .buffers
+  pub kinds : bufferCount (netlist (written source caps list area)) ≡ mapAnswer source caps list area .buffers
+  pub counts : fewestInAll (netlist source) caps ≡ mapAnswer source caps list area .buffers
 
 abbrev pub BuffersOneNumber : Type 0
-BuffersOneNumber = (source : List ℕ) (caps : Capacities) (area : List ℕ) → Maps source caps area → OneNumber source caps area
+BuffersOneNumber = (source : List ℕ) (caps : Capacities) (list area : List ℕ) → Maps source caps list area → OneNumber source caps list area
 
--- where the verifier accepts any mapped netlist, the mapper refuses by nothing but 10
+-- where the verifier accepts any mapped netlist, the mapper refuses by nothing but 27, 28 and 10
 abbrev pub MapsWhereAccepted : Type 0
 MapsWhereAccepted =
     (source : List ℕ) (caps : Capacities) (other : List ℕ) (buffers : ℕ) →

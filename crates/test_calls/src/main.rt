@@ -319,10 +319,11 @@ fn block_view_agrees(file: &[u8], at: usize) -> bool {
     check::same(block, cases::field(file, part))
 }
 
-// A case of the mapper: source, numbers (capacity, input capacity, length of the area); answer, area after.
+// A case of the mapper: source, numbers (capacity, input capacity, length of the area), prices; answer, area after.
 fn mapper_agrees(file: &[u8], at: usize, area: &mut [u8]) -> bool {
     let numbers = cases::skip(file, at);
-    let answer = cases::skip(file, numbers);
+    let prices = cases::skip(file, numbers);
+    let answer = cases::skip(file, prices);
     let after = cases::skip(file, answer);
     let asked = cases::field(file, numbers);
     let n = cases::number(asked, 8) as usize;
@@ -334,6 +335,7 @@ fn mapper_agrees(file: &[u8], at: usize, area: &mut [u8]) -> bool {
         cases::field(file, at),
         cases::number(asked, 0),
         cases::number(asked, 4),
+        cases::field(file, prices),
         &mut area[0..n],
         &mut got,
     );
@@ -478,7 +480,7 @@ fn main() {
     test_family(b"evaluate", EVALUATE, 5);
     test_family(b"step", STEP, 7);
     test_family(b"run", RUN, 9);
-    test_family(b"mapper", MAPPER, 4);
+    test_family(b"mapper", MAPPER, 5);
     test_family(b"block_view", BLOCK_VIEW, 4);
     test_sizes();
 }

@@ -19,8 +19,8 @@ fn answer<const K: usize, const A: usize>(result: Result<[u32; K], Refusal>) -> 
     numbers
 }
 
-pub fn map(source: &[u8], capacities: Capacities, mapped: &mut [u8]) -> [u32; 7] {
-    answer(mapper::map(source, capacities, mapped))
+pub fn map(source: &[u8], capacities: Capacities, prices: &[u8], mapped: &mut [u8]) -> [u32; 7] {
+    answer(mapper::map(source, capacities, prices, mapped))
 }
 
 pub fn count(source: &[u8], capacities: Capacities, record: u32) -> [u32; 3] {

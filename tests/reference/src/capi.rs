@@ -40,13 +40,16 @@ pub unsafe extern "C" fn aqfp_map(
     source_len: usize,
     capacity: u32,
     input_capacity: u32,
+    prices: *const u8,
+    prices_len: usize,
     mapped: *mut u8,
     mapped_len: usize,
     answer: *mut u8,
 ) -> u32 {
     let capacities = Capacities::new(capacity, input_capacity);
+    let (source, prices) = (lent(source, source_len), lent(prices, prices_len));
     let area = lent_mut(mapped, mapped_len);
-    give(&calls::map(lent(source, source_len), capacities, area), answer)
+    give(&calls::map(source, capacities, prices, area), answer)
 }
 
 /// # Safety

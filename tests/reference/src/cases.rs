@@ -5,6 +5,7 @@ use crate::damage::{self, ALL_DAMAGE, SOURCE_CHECKS};
 use crate::engine::{Call, Name, NAMES};
 use crate::generator::{self, steep, ALL_LEVELS};
 use crate::mapper::mapping;
+use crate::prices::LIST;
 use crate::random::Random;
 use crate::record::*;
 use crate::shapes;
@@ -134,6 +135,7 @@ fn call(name: Name, subject: &Subject) -> Call {
         name,
         source: subject.source.clone(),
         capacities: subject.capacities,
+        prices: Vec::new(),
         number: 0,
         records: Vec::new(),
         mapped: Vec::new(),
@@ -142,7 +144,69 @@ fn call(name: Name, subject: &Subject) -> Call {
     }
 }
 
-/// The mapper, on an area filled with one byte.
+/// The stream of the price lists of netlist `index` of a seed. It is their own, so that what else is
+/// drawn does not depend on them.
+pub fn list_stream(seed: u64, index: u64) -> Random {
+    Random::of(seed ^ 0x5052_4943_4553, index)
+}
+
+/// So many prices from 1 to 255: any, all the largest, or all different.
+fn good_prices(random: &mut Random, len: usize) -> Vec<u8> {
+    let any = |random: &mut Random| random.between(1, 255) as u8;
+    match random.below(8) {
+        0 => vec![255; len],
+        1..=3 if len <= 255 => {
+            let mut prices: Vec<u8> = (1..=255).collect();
+            random.shuffle(&mut prices);
+            prices.truncate(len);
+            prices
+        }
+        _ => (0..len).map(|_| any(random)).collect(),
+    }
+}
+
+/// The prices with one of them 0, with several or with all.
+fn with_zeros(random: &mut Random, mut prices: Vec<u8>) -> Vec<u8> {
+    let zeros = match random.below(6) {
+        0 => prices.len(),
+        1..=2 => random.between(2, 4),
+        _ => 1,
+    };
+    if zeros >= prices.len() {
+        return vec![0; prices.len()];
+    }
+    for _ in 0..zeros {
+        let at = random.below(prices.len());
+        prices[at] = 0;
+    }
+    prices
+}
+
+/// A list that 27 refuses, with and without prices of 0.
+pub fn wrong_length(random: &mut Random) -> Vec<u8> {
+    let len = random.pick(&[1, 2, 3, 4, 5, 6, 7, 8, 9, 10, 10, 12, 12, 13, 22, 255]);
+    let prices = good_prices(random, len);
+    if random.one_in(2) {
+        with_zeros(random, prices)
+    } else {
+        prices
+    }
+}
+
+/// A price list: empty 8 times in 20, good 9 times, of the wrong length once, with prices of 0 twice.
+pub fn price_list(random: &mut Random) -> Vec<u8> {
+    match random.below(20) {
+        0..=7 => Vec::new(),
+        8..=16 => good_prices(random, LIST),
+        17 => wrong_length(random),
+        _ => {
+            let prices = good_prices(random, LIST);
+            with_zeros(random, prices)
+        }
+    }
+}
+
+/// The mapper, on an area filled with one byte, with an empty price list.
 pub fn map_call(random: &mut Random, subject: &Subject) -> Call {
     let right = match mapping(&subject.source, subject.capacities) {
         Ok(mapping) => WIDTH * mapping.records.len(),
@@ -535,9 +599,11 @@ fn chains_call(random: &mut Random) -> Call {
     strip_of(random, &Call { mapped, ..call(Name::Strip, &subject) })
 }
 
-/// All calls made on netlist `index` of a seed: most are small, one in 250 is at a limit.
+/// All calls made on netlist `index` of a seed: most are small, one in 250 is at a limit. The mapper
+/// is called twice, with a price list each.
 pub fn calls_by_seed(seed: u64, index: u64) -> Vec<Call> {
     let mut random = Random::of(seed, index);
+    let mut lists = list_stream(seed, index);
     if index % 1000 == 999 {
         let mut calls = vec![
             full_call(&mut random),
@@ -557,7 +623,13 @@ pub fn calls_by_seed(seed: u64, index: u64) -> Vec<Call> {
     let subject = damaged(&mut random, subject);
     let mut calls = Vec::new();
     for name in NAMES {
-        calls.push(any_call(&mut random, &subject, name));
+        let call = any_call(&mut random, &subject, name);
+        if name == Name::Map {
+            calls.push(Call { prices: price_list(&mut lists), ..call.clone() });
+            calls.push(Call { prices: price_list(&mut lists), ..call });
+            continue;
+        }
+        calls.push(call);
         if matches!(name, Name::Count | Name::CountNets | Name::Verify | Name::Levels | Name::Strip)
         {
             calls.push(any_call(&mut random, &subject, name));

@@ -6,7 +6,8 @@ use crate::{calls, fast};
 
 /// One implementation of the calls. An answer's numbers stand in the order of specification 4.
 pub struct Engine {
-    pub map: fn(&[u8], Capacities, &mut [u8]) -> [u32; 7],
+    /// Takes a price list behind the capacities.
+    pub map: fn(&[u8], Capacities, &[u8], &mut [u8]) -> [u32; 7],
     pub count: fn(&[u8], Capacities, u32) -> [u32; 3],
     pub count_nets: fn(&[u8], Capacities, &[u8], &mut [u8]) -> [u32; 2],
     pub verify: fn(&[u8], Capacities, &[u8]) -> [u32; 3],
@@ -41,6 +42,9 @@ pub const FAST: Engine = Engine {
     levels: fast::levels,
     strip: fast::strip,
 };
+
+/// The fast path with the mapper's prices from passes over what it has written.
+pub const BY_A_PASS: Engine = Engine { map: fast::map_priced_by_a_pass, ..FAST };
 
 #[derive(Clone, Copy, PartialEq, Eq, Debug)]
 pub enum Name {
@@ -90,6 +94,8 @@ pub struct Call {
     pub name: Name,
     pub source: Vec<u8>,
     pub capacities: Capacities,
+    /// The mapper's price list.
+    pub prices: Vec<u8>,
     /// The count's record, or the run's number of rows.
     pub number: u32,
     /// The list of record indices.
@@ -112,7 +118,7 @@ pub fn perform(engine: &Engine, call: &Call) -> Outcome {
     let (source, capacities, mapped) = (&call.source[..], call.capacities, &call.mapped[..]);
     let mut areas = call.areas.clone();
     let answer = match call.name {
-        Name::Map => (engine.map)(source, capacities, &mut areas[0]).to_vec(),
+        Name::Map => (engine.map)(source, capacities, &call.prices, &mut areas[0]).to_vec(),
         Name::Count => (engine.count)(source, capacities, call.number).to_vec(),
         Name::CountNets => {
             (engine.count_nets)(source, capacities, &call.records, &mut areas[0]).to_vec()

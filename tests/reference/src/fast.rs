@@ -5,6 +5,7 @@ use std::mem::MaybeUninit;
 
 use crate::calls::NO_TREE;
 use crate::capacities::{Capacities, MAX_INPUT_CAPACITY};
+use crate::prices::LIST;
 use crate::record::*;
 use crate::simulator::Run;
 
@@ -77,6 +78,47 @@ fn check_capacities(capacities: Capacities) -> Result<Buffers, Refused> {
     match capacities.input {
         1..=MAX_INPUT_CAPACITY => Ok(buffers),
         _ => Err((26, 0)),
+    }
+}
+
+/// The prices of a list, looked up by kind and number of slots.
+struct Prices {
+    /// Of the kinds of a source's records, by whether they feed a slot.
+    records: [[u32; 2]; 5],
+    /// Of buffers, by the slots that they feed.
+    buffers: [u32; 5],
+}
+
+impl Prices {
+    const EMPTY: Prices =
+        Prices { records: [[0, 0], [6, 6], [6, 6], [6, 6], [0, 0]], buffers: [2; 5] };
+
+    fn of(list: &[u8; LIST]) -> Prices {
+        let at = |position: usize| u32::from(list[position]);
+        let [and, or, maj] = [0, 2, 4].map(|first| [at(first), at(first + 1)]);
+        Prices { records: [[0, 0], and, or, maj, [0, 0]], buffers: [6, 7, 8, 9, 10].map(at) }
+    }
+
+    /// What the buffers cost on which so many nodes hang: all feed S of them but the last, which
+    /// feeds the rest.
+    #[inline(always)]
+    fn feeding<const S: usize>(&self, nodes: u32) -> u32 {
+        let rest = nodes as usize % S;
+        let last = if rest > 0 { self.buffers[rest] } else { 0 };
+        nodes / S as u32 * self.buffers[S] + last
+    }
+}
+
+/// Checks 27 and 28.
+#[inline(always)]
+fn check_prices(list: &[u8]) -> Result<Prices, Refused> {
+    if list.is_empty() {
+        return Ok(Prices::EMPTY);
+    }
+    let list: &[u8; LIST] = list.try_into().map_err(|_| (27, 0))?;
+    match list.iter().position(|&price| price == 0) {
+        Some(position) => Err((28, position as u32)),
+        None => Ok(Prices::of(list)),
     }
 }
 
@@ -181,9 +223,13 @@ struct Sinks<'a> {
 }
 
 impl Sinks<'_> {
-    fn fill(mut self, source: &[Bytes]) -> Self {
+    /// Records in falling order. `seen` gets each one's kind and whether it feeds a slot: all its
+    /// sinks stand behind it.
+    #[inline(always)]
+    fn fill(mut self, source: &[Bytes], mut seen: impl FnMut(u8, bool)) -> Self {
         let sinks = &mut self;
         for (k, r) in source.iter().enumerate().rev() {
+            seen(r[0], sinks.first[k] != NONE);
             for j in (0..USED[usize::from(r[0])]).rev() {
                 let number = 4 * k + j;
                 sinks.next[number] = sinks.first[slot(r, j)];
@@ -220,13 +266,20 @@ fn driver_capacity(r: &Bytes, b: u32) -> u32 {
 }
 
 /// Walks the row downwards and clears it: the fewest buffers, or nothing if the driver would feed
-/// more than `most` slots.
+/// more than `most` slots. `seen` gets the number of nodes at each distance from 2 on.
 #[inline(always)]
-fn walk_row<const S: usize>(row: &mut [u16; LEVELS], largest: usize, most: u32) -> Option<u32> {
+fn walk_row<const S: usize>(
+    row: &mut [u16; LEVELS],
+    largest: usize,
+    most: u32,
+    mut seen: impl FnMut(u32),
+) -> Option<u32> {
     let mut nodes = 0;
     let mut buffers = 0;
     for count in row[2..=largest.max(1)].iter_mut().rev() {
-        nodes = (nodes + u32::from(*count)).div_ceil(S as u32);
+        nodes += u32::from(*count);
+        seen(nodes);
+        nodes = nodes.div_ceil(S as u32);
         *count = 0;
         buffers += nodes;
     }
@@ -245,29 +298,46 @@ fn only_sink(source: &[Bytes], sinks: &Sinks, driver: usize) -> Option<(usize, u
     Some((at, usize::from(level(&source[at / 4]) - level(&source[driver]))))
 }
 
-/// Check 8 for every driver, and the buffers of all nets.
-fn count_all<const S: usize>(
+/// The buffers of all nets, and what they cost.
+struct Counted {
+    buffers: u32,
+    junctions: u32,
+}
+
+/// Check 8 for every driver, and the buffers of all nets. With PRICED also what they cost, each tree
+/// while it is walked.
+fn count_all<const S: usize, const PRICED: bool>(
     source: &[Bytes],
     b: u32,
+    prices: &Prices,
     sinks: &Sinks,
     row: &mut [u16; LEVELS],
-) -> Result<u32, Refused> {
-    let mut buffers = 0;
+) -> Result<Counted, Refused> {
+    let mut counted = Counted { buffers: 0, junctions: 0 };
     for driver in 0..source.len() {
         if sinks.first[driver] == NONE {
             continue;
         }
         if let Some((_, distance)) = only_sink(source, sinks, driver) {
-            buffers += distance as u32 - 1;
+            let buffers = distance as u32 - 1;
+            counted.buffers += buffers;
+            if PRICED {
+                counted.junctions += buffers * prices.buffers[1];
+            }
             continue;
         }
         let largest = fill_row(source, sinks, driver, row);
-        match walk_row::<S>(row, largest, driver_capacity(&source[driver], b)) {
-            Some(fewest) => buffers += fewest,
+        let priced = |nodes: u32| {
+            if PRICED {
+                counted.junctions += prices.feeding::<S>(nodes);
+            }
+        };
+        match walk_row::<S>(row, largest, driver_capacity(&source[driver], b), priced) {
+            Some(fewest) => counted.buffers += fewest,
             None => return Err((8, driver as u32)),
         }
     }
-    Ok(buffers)
+    Ok(counted)
 }
 
 /// The mapped netlist while it is written.
@@ -379,9 +449,42 @@ fn share(part: u32, whole: u32) -> u32 {
     }
 }
 
-fn map_checked<const S: usize>(
+/// What the written gates cost, and what the buffers behind the source's n records do: one pass over
+/// the records counts the slots that each feeds, then the prices are looked up and added.
+fn price_written(prices: &Prices, records: &[Bytes], n: usize) -> (u32, u32) {
+    let mut feeds = Local::<u16, MAX_MAPPED>::new();
+    let feeds = feeds.first(records.len(), 0);
+    let (kept, buffers) = records.split_at(n);
+    for r in kept {
+        for j in 0..USED[usize::from(r[0])] {
+            feeds[slot(r, j)] += 1;
+        }
+    }
+    for r in buffers {
+        feeds[slot(r, 0)] += 1;
+    }
+    let (of_kept, of_buffers) = feeds.split_at(n);
+    let gate = |(r, &fed): (&Bytes, &u16)| prices.records[usize::from(r[0])][usize::from(fed > 0)];
+    let buffer = |&fed: &u16| prices.buffers[usize::from(fed)];
+    (kept.iter().zip(of_kept).map(gate).sum(), of_buffers.iter().map(buffer).sum())
+}
+
+/// When the mapper prices.
+#[derive(Clone, Copy, PartialEq, Eq)]
+enum Pricing {
+    /// The list is empty: by the numbers of gates and of buffers.
+    Numbers,
+    /// While it counts the buffers of the nets.
+    Walk,
+    /// By passes over what it has written.
+    Pass,
+}
+
+fn map_checked<const S: usize, const PRICED: bool>(
     source: &[u8],
     b: u32,
+    prices: &Prices,
+    pricing: Pricing,
     mapped: &mut [u8],
 ) -> Result<[u32; 7], Refused> {
     let (source, totals) = check_source(source)?;
@@ -389,9 +492,15 @@ fn map_checked<const S: usize>(
     let mut first = Local::<u16, MAX_SOURCE>::new();
     let mut next = Local::<u16, SLOT_NUMBERS>::new();
     let lists = Sinks { first: first.first(n, NONE), next: next.first(4 * n, NONE) };
-    let sinks = lists.fill(source);
+    let mut gate_junctions = 0;
+    let sinks = lists.fill(source, |kind, fed| {
+        if PRICED {
+            gate_junctions += prices.records[usize::from(kind)][usize::from(fed)];
+        }
+    });
     let mut row = [0; LEVELS];
-    let buffers = count_all::<S>(source, b, &sinks, &mut row)?;
+    let counted = count_all::<S, PRICED>(source, b, prices, &sinks, &mut row)?;
+    let buffers = counted.buffers;
     let m = n as u32 + buffers;
     if m as usize > MAX_MAPPED {
         return Err((9, 0));
@@ -399,22 +508,58 @@ fn map_checked<const S: usize>(
     if mapped.len() < WIDTH * m as usize {
         return Err((10, 0));
     }
-    write_all::<S>(source, &sinks, &mut row, mapped.as_chunks_mut().0);
-    let gates = (n - totals.inputs - totals.outputs) as u32;
-    let junctions = 6 * gates + 2 * buffers;
-    Ok([0, 0, m, buffers, totals.depth.into(), junctions, share(200 * buffers, junctions)])
+    let records = mapped.as_chunks_mut().0;
+    write_all::<S>(source, &sinks, &mut row, records);
+    let (gate_part, buffer_part) = match pricing {
+        Pricing::Numbers => (6 * (n - totals.inputs - totals.outputs) as u32, 2 * buffers),
+        Pricing::Walk => (gate_junctions, counted.junctions),
+        Pricing::Pass => price_written(prices, &records[..m as usize], n),
+    };
+    let junctions = gate_part + buffer_part;
+    Ok([0, 0, m, buffers, totals.depth.into(), junctions, share(100 * buffer_part, junctions)])
+}
+
+/// Checks 1, 26, 27 and 28, then the rest, with a list that is not empty priced as is said.
+#[inline(always)]
+fn map_priced(
+    source: &[u8],
+    capacities: Capacities,
+    list: &[u8],
+    pricing: Pricing,
+    mapped: &mut [u8],
+) -> Result<[u32; 7], Refused> {
+    let s = check_capacities(capacities)?;
+    let prices = &check_prices(list)?;
+    let b = capacities.input;
+    let pricing = if list.is_empty() { Pricing::Numbers } else { pricing };
+    match (s, pricing) {
+        (Buffers::Two, Pricing::Walk) => map_checked::<2, true>(source, b, prices, pricing, mapped),
+        (Buffers::Three, Pricing::Walk) => {
+            map_checked::<3, true>(source, b, prices, pricing, mapped)
+        }
+        (Buffers::Four, Pricing::Walk) => {
+            map_checked::<4, true>(source, b, prices, pricing, mapped)
+        }
+        (Buffers::Two, _) => map_checked::<2, false>(source, b, prices, pricing, mapped),
+        (Buffers::Three, _) => map_checked::<3, false>(source, b, prices, pricing, mapped),
+        (Buffers::Four, _) => map_checked::<4, false>(source, b, prices, pricing, mapped),
+    }
 }
 
 #[inline(never)]
-pub fn map(source: &[u8], capacities: Capacities, mapped: &mut [u8]) -> [u32; 7] {
-    let b = capacities.input;
-    let answer = match check_capacities(capacities) {
-        Ok(Buffers::Two) => map_checked::<2>(source, b, mapped),
-        Ok(Buffers::Three) => map_checked::<3>(source, b, mapped),
-        Ok(Buffers::Four) => map_checked::<4>(source, b, mapped),
-        Err(refusal) => Err(refusal),
-    };
-    answer.unwrap_or_else(refused)
+pub fn map(source: &[u8], capacities: Capacities, prices: &[u8], mapped: &mut [u8]) -> [u32; 7] {
+    map_priced(source, capacities, prices, Pricing::Walk, mapped).unwrap_or_else(refused)
+}
+
+/// The same, priced by passes over the written records: for a measurement.
+#[inline(never)]
+pub fn map_priced_by_a_pass(
+    source: &[u8],
+    capacities: Capacities,
+    prices: &[u8],
+    mapped: &mut [u8],
+) -> [u32; 7] {
+    map_priced(source, capacities, prices, Pricing::Pass, mapped).unwrap_or_else(refused)
 }
 
 fn count_checked<const S: usize>(source: &[u8], b: u32, record: u32) -> Result<[u32; 3], Refused> {
@@ -436,7 +581,7 @@ fn count_checked<const S: usize>(source: &[u8], b: u32, record: u32) -> Result<[
             }
         }
     }
-    Ok([0, 0, walk_row::<S>(&mut row, largest, most).unwrap_or(NO_TREE)])
+    Ok([0, 0, walk_row::<S>(&mut row, largest, most, |_| {}).unwrap_or(NO_TREE)])
 }
 
 #[inline(never)]
@@ -464,7 +609,7 @@ fn count_each<const S: usize>(source: &[Bytes], b: u32, sinks: &Sinks, counted: 
         }
         let largest = fill_row(source, sinks, driver, &mut row);
         let most = driver_capacity(&source[driver], b);
-        *count = walk_row::<S>(&mut row, largest, most).unwrap_or(NO_TREE);
+        *count = walk_row::<S>(&mut row, largest, most, |_| {}).unwrap_or(NO_TREE);
     }
 }
 
@@ -491,7 +636,7 @@ fn count_nets_checked<const S: usize>(
     let mut first = Local::<u16, MAX_SOURCE>::new();
     let mut next = Local::<u16, SLOT_NUMBERS>::new();
     let lists = Sinks { first: first.first(n, NONE), next: next.first(4 * n, NONE) };
-    let sinks = lists.fill(source);
+    let sinks = lists.fill(source, |_, _| {});
     let mut counted = Local::<u32, MAX_SOURCE>::new();
     let counted = counted.first(n, 0);
     count_each::<S>(source, b, &sinks, counted);

@@ -16,6 +16,7 @@ pub mod generator;
 pub mod levels;
 pub mod mapper;
 pub mod net;
+pub mod prices;
 pub mod random;
 pub mod reach;
 pub mod record;

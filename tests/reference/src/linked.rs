@@ -10,6 +10,8 @@ extern "C" {
         source_len: usize,
         capacity: u32,
         input_capacity: u32,
+        prices: *const u8,
+        prices_len: usize,
         mapped: *mut u8,
         mapped_len: usize,
         answer: *mut u8,
@@ -113,7 +115,7 @@ fn numbers<const A: usize>(bytes: &[u8], returned: u32) -> [u32; A] {
 // written areas apart from all others, and the answer has the length that the interface states.
 // Answer areas start out filled, so that a byte left unwritten shows.
 
-fn map(source: &[u8], capacities: Capacities, mapped: &mut [u8]) -> [u32; 7] {
+fn map(source: &[u8], capacities: Capacities, prices: &[u8], mapped: &mut [u8]) -> [u32; 7] {
     let mut answer = [0xA5; 28];
     let returned = unsafe {
         aqfp_map(
@@ -121,6 +123,8 @@ fn map(source: &[u8], capacities: Capacities, mapped: &mut [u8]) -> [u32; 7] {
             source.len(),
             capacities.buffer,
             capacities.input,
+            prices.as_ptr(),
+            prices.len(),
             mapped.as_mut_ptr(),
             mapped.len(),
             answer.as_mut_ptr(),

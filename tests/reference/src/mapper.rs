@@ -1,7 +1,9 @@
-//! The mapper: checks 1, 26, 2 to 10 and the mapped netlist in the order of specification 2.5.
+//! The mapper: checks 1, 26, 27, 28, 2 to 10 and the mapped netlist in the order of specification
+//! 2.5.
 
 use crate::capacities::Capacities;
 use crate::net::{buffers_by_distance, distances, fewest_of, sinks, Sink};
+use crate::prices::{self, junctions};
 use crate::record::*;
 use crate::refusal::{refuse, Refusal};
 use crate::source::{check_source, depth, number_of};
@@ -76,27 +78,29 @@ pub fn mapping(bytes: &[u8], capacities: Capacities) -> Result<Mapping, Refusal>
     Ok(Mapping { records, starts })
 }
 
-/// Josephson junctions: 6 a gate, 2 a buffer.
-fn junctions(records: &[Record]) -> usize {
-    6 * records.iter().filter(|record| record.is_gate()).count() + 2 * number_of(BUFFER, records)
-}
-
 /// A part in percent: of all whole numbers a nearest one, of two as near the even one.
 fn share(part: usize, whole: usize) -> usize {
     let nearest = |percent: &usize| ((percent * whole).abs_diff(100 * part), percent % 2);
     (0..=100).min_by_key(nearest).unwrap_or(0)
 }
 
-/// The mapper: the seven numbers after number and place, with the area written.
-pub fn map(source: &[u8], capacities: Capacities, area: &mut [u8]) -> Result<[u32; 5], Refusal> {
+/// The mapper: the five numbers after number and place, with the area written.
+pub fn map(
+    source: &[u8],
+    capacities: Capacities,
+    prices: &[u8],
+    area: &mut [u8],
+) -> Result<[u32; 5], Refusal> {
+    capacities.check()?;
+    prices::check(prices)?;
     let records = mapping(source, capacities)?.records;
     let bytes = encode(&records);
     if area.len() < bytes.len() {
         return refuse(10, 0);
     }
     area[..bytes.len()].copy_from_slice(&bytes);
-    let buffers = number_of(BUFFER, &records);
-    let jjs = junctions(&records);
-    let numbers = [records.len(), buffers, depth(&records).into(), jjs, share(2 * buffers, jjs)];
+    let jjs = junctions(prices, &area[..bytes.len()]);
+    let (buffers, depth) = (number_of(BUFFER, &records), depth(&records).into());
+    let numbers = [records.len(), buffers, depth, jjs.all, share(jjs.buffers, jjs.all)];
     Ok(numbers.map(|number| number as u32))
 }

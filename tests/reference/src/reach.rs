@@ -1,4 +1,5 @@
-//! What a call shows of inputs that branch, so that comparisons can say what they met.
+//! What a call shows of inputs that branch and of price lists, so that comparisons can say what they
+//! met.
 
 use std::collections::BTreeSet;
 
@@ -7,7 +8,9 @@ use crate::capacities::Capacities;
 use crate::engine::{Call, Name, Outcome};
 use crate::generator::fanouts;
 use crate::net::{buffers_by_distance, distances};
+use crate::prices;
 use crate::record::*;
+use crate::source::check_source;
 
 #[derive(Clone, Copy, PartialEq, Eq, PartialOrd, Ord, Debug)]
 pub enum Reached {
@@ -28,9 +31,31 @@ pub enum Reached {
     OverfullInput,
     /// 17 on a gate that feeds as few slots as an input could.
     OverfullGate,
+    /// The mapper accepts with an empty list.
+    EmptyList,
+    /// The mapper accepts with a list of prices.
+    FullList,
+    /// The same, and a buffer feeds so many slots.
+    PricedBuffer(u8),
+    /// The same, and a gate of a kind feeds so many slots.
+    PricedGate(u8, u8),
+    /// 27.
+    WrongLength,
+    /// 27 although a price is 0.
+    WrongLengthAndZero,
+    /// 27 although a check from 2 to 7 fails.
+    WrongLengthAndSource,
+    /// 28 at a position.
+    ZeroAt(u8),
+    /// 28 although a later price is 0 too.
+    Zeros,
+    /// 28 although a check from 2 to 7 fails.
+    ZeroAndSource,
+    /// 1 or 26, although 27 or 28 fails too.
+    Before(u8, u8),
 }
 
-pub const ALL_REACHED: [Reached; 8] = [
+pub const ALL_REACHED: [Reached; 40] = [
     Reached::Branching,
     Reached::Crowded,
     Reached::Full,
@@ -39,12 +64,44 @@ pub const ALL_REACHED: [Reached; 8] = [
     Reached::TreelessCount,
     Reached::OverfullInput,
     Reached::OverfullGate,
+    Reached::EmptyList,
+    Reached::FullList,
+    Reached::PricedBuffer(1),
+    Reached::PricedBuffer(2),
+    Reached::PricedBuffer(3),
+    Reached::PricedBuffer(4),
+    Reached::PricedGate(AND, 0),
+    Reached::PricedGate(AND, 1),
+    Reached::PricedGate(OR, 0),
+    Reached::PricedGate(OR, 1),
+    Reached::PricedGate(MAJ, 0),
+    Reached::PricedGate(MAJ, 1),
+    Reached::WrongLength,
+    Reached::WrongLengthAndZero,
+    Reached::WrongLengthAndSource,
+    Reached::ZeroAt(0),
+    Reached::ZeroAt(1),
+    Reached::ZeroAt(2),
+    Reached::ZeroAt(3),
+    Reached::ZeroAt(4),
+    Reached::ZeroAt(5),
+    Reached::ZeroAt(6),
+    Reached::ZeroAt(7),
+    Reached::ZeroAt(8),
+    Reached::ZeroAt(9),
+    Reached::ZeroAt(10),
+    Reached::Zeros,
+    Reached::ZeroAndSource,
+    Reached::Before(1, 27),
+    Reached::Before(1, 28),
+    Reached::Before(26, 27),
+    Reached::Before(26, 28),
 ];
 
 impl Reached {
     /// In words.
-    pub fn words(self) -> &'static str {
-        match self {
+    pub fn words(self) -> String {
+        let words = match self {
             Reached::Branching => "inputs that branch",
             Reached::Crowded => "inputs that feed over 255 slots",
             Reached::Full => "inputs that feed b slots",
@@ -53,7 +110,26 @@ impl Reached {
             Reached::TreelessCount => "no tree by count on inputs at b + 1",
             Reached::OverfullInput => "17 on inputs at b + 1",
             Reached::OverfullGate => "17 on gates at b or less",
-        }
+            Reached::EmptyList => "empty lists accepted",
+            Reached::FullList => "lists of prices accepted",
+            Reached::PricedBuffer(slots) => return format!("priced buffers that feed {slots}"),
+            Reached::PricedGate(kind, slots) => {
+                return format!("priced gates of kind {kind} that feed {slots}");
+            }
+            Reached::WrongLength => "27",
+            Reached::WrongLengthAndZero => "27 with a price of 0",
+            Reached::WrongLengthAndSource => "27 with a bad source",
+            Reached::ZeroAt(position) => return format!("28 at {position}"),
+            Reached::Zeros => "28 with a later price of 0",
+            Reached::ZeroAndSource => "28 with a bad source",
+            Reached::Before(number, later) => return format!("{number} with {later}"),
+        };
+        words.to_string()
+    }
+
+    /// Whether it is about price lists.
+    pub fn of_lists(self) -> bool {
+        self >= Reached::EmptyList
     }
 }
 
@@ -80,6 +156,45 @@ fn accepted(mapped: &[u8], capacities: Capacities) -> Vec<Reached> {
         shown.push(Reached::Full);
     }
     shown
+}
+
+/// An accepted call of the mapper: what its list shows on the mapped netlist.
+fn priced(list: &[u8], mapped: &[u8]) -> Vec<Reached> {
+    if list.is_empty() {
+        return vec![Reached::EmptyList];
+    }
+    let records = decode(mapped);
+    let one = |(record, fed): (&Record, usize)| match record.kind {
+        BUFFER => Some(Reached::PricedBuffer(fed as u8)),
+        AND | OR | MAJ => Some(Reached::PricedGate(record.kind, fed as u8)),
+        _ => None,
+    };
+    let shown: BTreeSet<Reached> = records.iter().zip(fanouts(&records)).filter_map(one).collect();
+    [Reached::FullList].into_iter().chain(shown).collect()
+}
+
+/// A call of the mapper that 1, 26, 27 or 28 refuses: what its list shows.
+fn refused_list(call: &Call, number: u32) -> Vec<Reached> {
+    let list = &call.prices[..];
+    let Err(refusal) = prices::check(list) else {
+        return Vec::new();
+    };
+    let later = refusal.place as usize + 1;
+    let bad_source = check_source(&call.source).is_err();
+    let all = match number {
+        27 => vec![
+            (true, Reached::WrongLength),
+            (list.contains(&0), Reached::WrongLengthAndZero),
+            (bad_source, Reached::WrongLengthAndSource),
+        ],
+        28 => vec![
+            (true, Reached::ZeroAt(refusal.place as u8)),
+            (list[later..].contains(&0), Reached::Zeros),
+            (bad_source, Reached::ZeroAndSource),
+        ],
+        _ => vec![(true, Reached::Before(number as u8, refusal.number as u8))],
+    };
+    all.into_iter().filter(|(shows, _)| *shows).map(|(_, reached)| reached).collect()
 }
 
 /// The drivers that were counted and have no tree.
@@ -129,8 +244,9 @@ pub fn reached(call: &Call, outcome: &Outcome) -> Vec<Reached> {
     let one = match (number, call.name) {
         (0, Name::Map) => {
             let mapped = &outcome.areas[0][..WIDTH * outcome.answer[2] as usize];
-            return accepted(mapped, call.capacities);
+            return [accepted(mapped, call.capacities), priced(&call.prices, mapped)].concat();
         }
+        (1 | 26 | 27 | 28, Name::Map) => return refused_list(call, number),
         (0, Name::Verify | Name::Run | Name::Step | Name::Strip) => {
             return accepted(&call.mapped, call.capacities);
         }

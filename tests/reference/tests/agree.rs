@@ -5,14 +5,25 @@ use std::collections::BTreeMap;
 use reference::calls::{answer_bytes, count, map, verify, NO_TREE};
 use reference::capacities::Capacities;
 use reference::cases::{
-    any_call, crowded_call, crowded_input_call, damaged, limit, other_input, sound,
+    any_call, crowded_call, crowded_input_call, damaged, limit, list_stream, other_input,
+    price_list, sound,
 };
-use reference::engine::{perform, Name, Outcome, FAST, NAMES, PLAIN};
+use reference::engine::{perform, Call, Name, Outcome, BY_A_PASS, FAST, NAMES, PLAIN};
 use reference::generator::{above_depth, fanouts, foreign, source, Levels};
 use reference::random::Random;
 use reference::reach::{reached, Reached, ALL_REACHED};
 use reference::record::{decode, encode, Record, INPUT};
 use reference::shapes;
+
+/// The call; the mapper's with an empty list, and with so many lists that are drawn.
+fn with_lists(call: Call, lists: usize, random: &mut Random) -> Vec<Call> {
+    let mut calls = vec![call.clone()];
+    if call.name == Name::Map {
+        let priced = |_| Call { prices: price_list(random), ..call.clone() };
+        calls.extend((0..lists).map(priced));
+    }
+    calls
+}
 
 #[test]
 fn fast_is_plain() {
@@ -20,13 +31,17 @@ fn fast_is_plain() {
     let mut shown: BTreeMap<Reached, usize> = BTreeMap::new();
     for index in 0..4000 {
         let mut random = Random::of(7, index);
+        let mut lists = list_stream(7, index);
         let subject = sound(&mut random, 60);
         let subject = other_input(&mut random, subject);
         let subject = damaged(&mut random, subject);
-        for name in NAMES {
-            let call = any_call(&mut random, &subject, name);
+        let calls = NAMES.map(|name| any_call(&mut random, &subject, name));
+        for call in calls.into_iter().flat_map(|call| with_lists(call, 12, &mut lists)) {
             let plain = perform(&PLAIN, &call);
             assert_eq!(perform(&FAST, &call), plain, "seed 7, index {index}, {call:?}");
+            if call.name == Name::Map {
+                assert_eq!(perform(&BY_A_PASS, &call), plain, "seed 7, index {index}, {call:?}");
+            }
             if plain.answer[0] > 0 {
                 assert_eq!(plain.areas, call.areas);
             }
@@ -40,7 +55,7 @@ fn fast_is_plain() {
     let all = ALL_REACHED.iter().filter(|&&reached| reached != Reached::Crowded);
     let rare: Vec<&Reached> = all.filter(|reached| !often(reached)).collect();
     assert!(rare.is_empty(), "rare: {rare:?}, met: {shown:?}");
-    let missing: Vec<u32> = (0..=26).filter(|number| !met.contains_key(number)).collect();
+    let missing: Vec<u32> = (0..=28).filter(|number| !met.contains_key(number)).collect();
     assert_eq!(missing, [3, 9], "met: {met:?}");
 }
 
@@ -49,17 +64,24 @@ fn fast_is_plain_at_the_limits() {
     let mut shown: BTreeMap<Reached, usize> = BTreeMap::new();
     for index in 0..120 {
         let mut random = Random::of(8, index);
+        let mut lists = list_stream(8, index);
         let subject = limit(&mut random);
-        for name in NAMES {
-            let call = any_call(&mut random, &subject, name);
+        let calls = NAMES.map(|name| any_call(&mut random, &subject, name));
+        for call in calls.into_iter().flat_map(|call| with_lists(call, 3, &mut lists)) {
             let plain = perform(&PLAIN, &call);
+            let name = call.name;
             assert!(perform(&FAST, &call) == plain, "seed 8, index {index}, {name:?}");
+            if name == Name::Map {
+                assert!(perform(&BY_A_PASS, &call) == plain, "seed 8, index {index}");
+            }
             for reached in reached(&call, &plain) {
                 *shown.entry(reached).or_default() += 1;
             }
         }
     }
-    assert_eq!(shown.len(), ALL_REACHED.len(), "met: {shown:?}");
+    let all = ALL_REACHED.into_iter().filter(|reached| !reached.of_lists());
+    let missing: Vec<Reached> = all.filter(|reached| !shown.contains_key(reached)).collect();
+    assert!(missing.is_empty(), "missing: {missing:?}, met: {shown:?}");
 }
 
 /// Each count of a list is the count of one net; a refusal before 20 is the same for both.
@@ -101,9 +123,9 @@ fn shares_agree() {
     let mut halves = [0, 0];
     for (gates, buffers) in (0..60).flat_map(|gates| (0..60).map(move |buffers| (gates, buffers))) {
         let source = encode(&shapes::priced(gates, buffers));
-        let answer = (PLAIN.map)(&source, Capacities::unbranched(2), &mut vec![0; 3000]);
+        let answer = (PLAIN.map)(&source, Capacities::unbranched(2), &[], &mut vec![0; 3000]);
         assert_eq!(
-            (FAST.map)(&source, Capacities::new(2, 7), &mut vec![0; 3000]),
+            (FAST.map)(&source, Capacities::new(2, 7), &[], &mut vec![0; 3000]),
             answer,
             "{gates}, {buffers}"
         );
@@ -138,7 +160,7 @@ fn foreign_netlists_are_accepted_and_no_smaller() {
         let records = source(&mut random, 30, capacities, Levels::Lowered);
         let bytes = encode(&records);
         let mut area = vec![0; 100_000];
-        let ours = map(&bytes, capacities, &mut area);
+        let ours = map(&bytes, capacities, &[], &mut area);
         assert_eq!(ours[0], 0, "seed 9, index {index}");
         let len = 10 * ours[2] as usize;
         assert_eq!(verify(&bytes, capacities, &area[..len]), [0, 0, ours[3]]);
@@ -165,7 +187,7 @@ fn padded_to_the_limit() {
     let mut area = vec![0; 80];
     let source = encode(&shapes::worked());
     let capacities = Capacities::unbranched(2);
-    map(&source, capacities, &mut area);
+    map(&source, capacities, &[], &mut area);
     let records = decode(&area);
     let full = encode(&shapes::padded(&records, 2, 60_000));
     assert_eq!(verify(&source, capacities, &full), [0, 0, 59_995]);

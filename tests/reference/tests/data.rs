@@ -40,6 +40,7 @@ fn call(name: Name, fields: &[Vec<u8>]) -> (Call, &[Vec<u8>]) {
         name,
         source: Vec::new(),
         capacities: Capacities::new(0, 0),
+        prices: Vec::new(),
         number: 0,
         records: Vec::new(),
         mapped: Vec::new(),
@@ -64,7 +65,10 @@ fn call(name: Name, fields: &[Vec<u8>]) -> (Call, &[Vec<u8>]) {
         call.capacities.input = own.remove(0);
     }
     match name {
-        Name::Map => call.areas = vec![vec![FILL; own.remove(0) as usize]],
+        Name::Map => {
+            call.areas = vec![vec![FILL; own.remove(0) as usize]];
+            call.prices = next();
+        }
         Name::Count | Name::Run => call.number = own.remove(0),
         Name::CountNets => call.records = next(),
         _ => {}
@@ -89,7 +93,7 @@ fn every_call() {
     let families = [
         ("count", 3, Name::Count),
         ("count_nets", 6, Name::CountNets),
-        ("mapper", 4, Name::Map),
+        ("mapper", 5, Name::Map),
         ("verifier", 4, Name::Verify),
         ("evaluate", 5, Name::Evaluate),
         ("run", 9, Name::Run),

@@ -41,7 +41,7 @@ fn hold_levels(records: &[Record], s: u32, expected: &[u16]) {
     }
     assert!(passes(&wanted, s as usize), "2 to 8 of the copy, s {s}");
     for b in [1, 2, 4095] {
-        let number = (FAST.map)(&wanted, Capacities::new(s, b), &mut [])[0];
+        let number = (FAST.map)(&wanted, Capacities::new(s, b), &[], &mut [])[0];
         assert!(matches!(number, 0 | 9 | 10), "{number}, 2 to 8 of the copy, s {s}, b {b}");
     }
 }

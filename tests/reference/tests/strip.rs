@@ -260,7 +260,7 @@ fn buffers(mapped: &[Record]) -> BTreeMap<(u16, u16), usize> {
 /// level of any net. Answers how many fewer there are.
 fn hold_no_more(s: Capacities, mapped: &[Record], source: &[u8]) -> usize {
     let mut area = vec![0; WIDTH * mapped.len()];
-    let answer = (PLAIN.map)(source, s, &mut area);
+    let answer = (PLAIN.map)(source, s, &[], &mut area);
     assert_eq!(answer[0], 0, "{s:?}, {mapped:?}");
     let again = buffers(&decode(&area[..WIDTH * answer[2] as usize]));
     let theirs = buffers(mapped);

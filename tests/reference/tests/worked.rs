@@ -2,7 +2,7 @@
 
 use reference::calls::{answer_bytes, evaluate, map, run, step, verify, NO_TREE};
 use reference::capacities::Capacities;
-use reference::engine::{Engine, FAST, PLAIN};
+use reference::engine::{Engine, BY_A_PASS, FAST, PLAIN};
 use reference::mapper::mapping;
 use reference::net::{fewest, fewest_by_formula};
 use reference::record::*;
@@ -148,12 +148,12 @@ fn nodes_of_distance_1_hang_on_the_driver() {
     ];
     for engine in [PLAIN, FAST] {
         let mut area = vec![0; 110];
-        let answer = (engine.map)(&encode(&source), Capacities::new(2, 3), &mut area);
+        let answer = (engine.map)(&encode(&source), Capacities::new(2, 3), &[], &mut area);
         assert_eq!(answer, [0, 0, 11, 4, 0, 26, 31]);
         assert_eq!(decode(&area), expected);
         assert_eq!((engine.verify)(&encode(&source), Capacities::new(2, 3), &area), [0, 0, 4]);
         assert_eq!((engine.verify)(&encode(&source), Capacities::new(2, 2), &area), [17, 0, 0]);
-        let treeless = (engine.map)(&encode(&source), Capacities::new(2, 2), &mut area);
+        let treeless = (engine.map)(&encode(&source), Capacities::new(2, 2), &[], &mut area);
         assert_eq!(treeless, [8, 0, 0, 0, 0, 0, 0]);
     }
 }
@@ -166,7 +166,7 @@ fn limits_of_b() {
         for b in [1, 2, 4094, 4095] {
             let capacities = Capacities::new(2, b);
             let mut area = [0; 80];
-            assert_eq!((engine.map)(&source, capacities, &mut area)[..3], [0, 0, 8], "b {b}");
+            assert_eq!((engine.map)(&source, capacities, &[], &mut area)[..3], [0, 0, 8], "b {b}");
             assert_eq!(area[..], mapped, "b {b}");
             assert_eq!((engine.verify)(&source, capacities, &mapped), [0, 0, 3], "b {b}");
         }
@@ -176,7 +176,7 @@ fn limits_of_b() {
                 let refused = [number, 0, 0];
                 for source in [&source[..], &source[1..], &[]] {
                     let mut area = [7; 80];
-                    assert_eq!((engine.map)(source, capacities, &mut area)[..3], refused);
+                    assert_eq!((engine.map)(source, capacities, &[], &mut area)[..3], refused);
                     assert_eq!(area, [7; 80]);
                     assert_eq!((engine.count)(source, capacities, 9), refused);
                     hold_refusal(source, capacities, &[9], 3, [number, 0]);
@@ -214,7 +214,7 @@ fn crowds() {
             let capacities = Capacities::new(2, b as u32);
             for engine in [PLAIN, FAST] {
                 let mut area = vec![0; source.len()];
-                let [number, _, m, buffers, ..] = (engine.map)(&source, capacities, &mut area);
+                let [number, _, m, buffers, ..] = (engine.map)(&source, capacities, &[], &mut area);
                 let verified = (engine.verify)(&source, capacities, &source);
                 let stripped = (engine.strip)(capacities, &source, &mut vec![0; source.len()]);
                 if fits {
@@ -232,7 +232,7 @@ fn crowds() {
         let feeding = encode(&feeding_gate(b.min(4093)));
         let capacities = Capacities::new(2, b as u32);
         for engine in [PLAIN, FAST] {
-            let answer = (engine.map)(&gate, capacities, &mut vec![0; 200_000]);
+            let answer = (engine.map)(&gate, capacities, &[], &mut vec![0; 200_000]);
             assert_eq!(answer, [8, 2, 0, 0, 0, 0, 0], "b {b}");
             assert_eq!((engine.verify)(&feeding, capacities, &feeding), [17, 1, 0], "b {b}");
             let stripped = (engine.strip)(capacities, &feeding, &mut vec![0; feeding.len()]);
@@ -264,7 +264,8 @@ fn shares() {
     for (gates, buffers, jjs, share) in SHARES {
         let source = encode(&shapes::priced(gates, buffers));
         for engine in [PLAIN, FAST] {
-            let answer = (engine.map)(&source, Capacities::unbranched(2), &mut vec![0; 10_000]);
+            let answer =
+                (engine.map)(&source, Capacities::unbranched(2), &[], &mut vec![0; 10_000]);
             assert_eq!(
                 [answer[0], answer[3], answer[5], answer[6]],
                 [0, buffers as u32, jjs, share]
@@ -336,30 +337,60 @@ fn listed_counts_refused() {
 #[test]
 fn map_case() {
     let mut area = vec![0xA5; 90];
-    assert_eq!(map(&worked(), Capacities::unbranched(2), &mut area), [0, 0, 8, 3, 3, 12, 50]);
+    assert_eq!(map(&worked(), Capacities::unbranched(2), &[], &mut area), [0, 0, 8, 3, 3, 12, 50]);
     assert_eq!(area[..80], worked_mapped());
     assert_eq!(area[80..], [0xA5; 10]);
 }
 
 #[test]
 fn map_case_area_and_capacity() {
-    assert_eq!(map(&worked(), Capacities::unbranched(2), &mut [0xA5; 80]), [0, 0, 8, 3, 3, 12, 50]);
+    assert_eq!(
+        map(&worked(), Capacities::unbranched(2), &[], &mut [0xA5; 80]),
+        [0, 0, 8, 3, 3, 12, 50]
+    );
     let mut short = [0xA5; 79];
-    assert_eq!(map(&worked(), Capacities::unbranched(2), &mut short), [10, 0, 0, 0, 0, 0, 0]);
+    assert_eq!(map(&worked(), Capacities::unbranched(2), &[], &mut short), [10, 0, 0, 0, 0, 0, 0]);
     assert_eq!(short, [0xA5; 79]);
-    assert_eq!(map(&worked(), Capacities::unbranched(5), &mut [0xA5; 80]), [1, 0, 0, 0, 0, 0, 0]);
-    assert_eq!(map(&[], Capacities::unbranched(2), &mut []), [0; 7]);
+    assert_eq!(
+        map(&worked(), Capacities::unbranched(5), &[], &mut [0xA5; 80]),
+        [1, 0, 0, 0, 0, 0, 0]
+    );
+    assert_eq!(map(&[], Capacities::unbranched(2), &[], &mut []), [0; 7]);
+}
+
+/// The worked case with price lists: 1 to 11, one of 10 bytes, one with its first 0 at position 8.
+#[test]
+fn map_case_with_prices() {
+    let rising: [u8; 11] = [1, 2, 3, 4, 5, 6, 7, 8, 9, 10, 11];
+    let mut zero = rising;
+    (zero[8], zero[10]) = (0, 0);
+    for engine in [PLAIN, FAST, BY_A_PASS] {
+        let hold = |prices: &[u8], answer: [u32; 7]| {
+            let mut area = [0xA5; 90];
+            let found = (engine.map)(&worked(), Capacities::unbranched(2), prices, &mut area);
+            assert_eq!(found, answer, "{prices:?}");
+            match answer[0] {
+                0 => assert_eq!(area[..], [&worked_mapped()[..], &[0xA5; 10]].concat()),
+                _ => assert_eq!(area, [0xA5; 90]),
+            }
+        };
+        hold(&rising, [0, 0, 8, 3, 3, 27, 93]);
+        hold(&[], [0, 0, 8, 3, 3, 12, 50]);
+        hold(&[255; 11], [0, 0, 8, 3, 3, 4 * 255, 75]);
+        hold(&rising[..10], [27, 0, 0, 0, 0, 0, 0]);
+        hold(&zero, [28, 8, 0, 0, 0, 0, 0]);
+    }
 }
 
 #[test]
 fn too_many_records() {
     // 15 chains of 4,094 buffers and 30 records are over 60,000; 14 are not.
     let source = encode(&shapes::lines(15, 4095));
-    assert_eq!(map(&source, Capacities::unbranched(2), &mut []), [9, 0, 0, 0, 0, 0, 0]);
+    assert_eq!(map(&source, Capacities::unbranched(2), &[], &mut []), [9, 0, 0, 0, 0, 0, 0]);
     let source = encode(&shapes::lines(14, 4095));
     let mut area = vec![0; 600_000];
     assert_eq!(
-        map(&source, Capacities::unbranched(2), &mut area)[..4],
+        map(&source, Capacities::unbranched(2), &[], &mut area)[..4],
         [0, 0, 28 + 14 * 4094, 14 * 4094]
     );
 }

@@ -16,6 +16,9 @@ part-map-netlist-start c = search needs
 part-map-netlist-end : tie.Need-part-map-netlist-end
 part-map-netlist-end c = search needs
 
+slice-aggregate-map-netlist : tie.Need-slice-aggregate-map-netlist
+slice-aggregate-map-netlist c = search needs
+
 map-netlist-requires : tie.Need-map-netlist-requires
 map-netlist-requires c κs = search needs
 
@@ -34,6 +37,9 @@ part-map-netlist-start-2 c = search needs
 part-map-netlist-end-2 : tie.Need-part-map-netlist-end-2
 part-map-netlist-end-2 c = search needs
 
+slice-aggregate-map-netlist-2 : tie.Need-slice-aggregate-map-netlist-2
+slice-aggregate-map-netlist-2 c = search needs
+
 map-netlist-requires-2 : tie.Need-map-netlist-requires-2
 map-netlist-requires-2 c κs = search needs
 
@@ -51,12 +57,14 @@ map-input-spec =
     sub-map-netlist
     part-map-netlist-start
     part-map-netlist-end
+    slice-aggregate-map-netlist
     map-netlist-requires
     same-length
     returns
     sub-map-netlist-2
     part-map-netlist-start-2
     part-map-netlist-end-2
+    slice-aggregate-map-netlist-2
     map-netlist-requires-2
     same-length-2
     returns-2)

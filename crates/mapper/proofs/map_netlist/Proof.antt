@@ -1,17 +1,17 @@
--- `map_netlist` meets its contract: capacities and source first.
-use Rattle.mapper.proofs.Answering.{refused-input, kept-input}
+-- `map_netlist` meets its contract: the call is checked first.
+use Rattle.mapper.proofs.Answering.{refused-call, kept-call, passed-source, passed-list}
 use borrow.Author.Needs.{needs}
 use Rattle.mapper.proofs.map_netlist.Statement.{statement}
 use Rattle.mapper.proofs.map_netlist.Tie as tie
 
-check-input-requires : tie.Need-check-input-requires
-check-input-requires c κs = search needs
+check-call-requires : tie.Need-check-call-requires
+check-call-requires c κs = search needs
 
 enum-told : tie.Need-enum-told
 enum-told c = search needs
 
-map-source-requires : tie.Need-map-source-requires
-map-source-requires c κs = cc
+map-listed-requires : tie.Need-map-listed-requires
+map-listed-requires c κs = (search passed-source, search passed-list)
 
 enum-known-checked : tie.Need-enum-known-checked
 enum-known-checked c = search needs
@@ -26,15 +26,15 @@ returns : tie.Need-returns
 returns c = search needs
 
 returns-2 : tie.Need-returns-2
-returns-2 c = (search refused-input, search kept-input)
+returns-2 c = (search refused-call, search kept-call)
 
 pub map-netlist-spec : {M : Type 1} → statement M
 map-netlist-spec =
     tie.close
     (tie.spec
-    check-input-requires
+    check-call-requires
     enum-told
-    map-source-requires
+    map-listed-requires
     enum-known-checked
     refuse-requires
     same-length

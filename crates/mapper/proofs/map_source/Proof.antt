@@ -18,7 +18,7 @@ slice-aggregate-map-with-3 : tie.Need-slice-aggregate-map-with-3
 slice-aggregate-map-with-3 c = search needs
 
 map-with-requires : tie.Need-map-with-requires
-map-with-requires c κs = (search needs, (search needs, (search needs, (search needs, search (needs, all-unused)))))
+map-with-requires c κs = ((search needs, search needs), (search needs, (search needs, (search needs, search (needs, all-unused)))))
 
 same-length : tie.Need-same-length
 same-length c = search needs
@@ -36,7 +36,7 @@ slice-aggregate-map-with-6 : tie.Need-slice-aggregate-map-with-6
 slice-aggregate-map-with-6 c = search needs
 
 map-with-requires-2 : tie.Need-map-with-requires-2
-map-with-requires-2 c κs = (search needs, (search needs, ((search (input-source, records-few), search (input-source, slots-few)), (search (input-source, records-few), search (needs, all-unused)))))
+map-with-requires-2 c κs = ((search needs, search needs), (search needs, ((search (input-source, records-few), search (input-source, slots-few)), (search (input-source, records-few), search (needs, all-unused)))))
 
 same-length-2 : tie.Need-same-length-2
 same-length-2 c = search needs

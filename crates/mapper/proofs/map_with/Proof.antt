@@ -22,8 +22,7 @@ enum-known-sizing : tie.Need-enum-known-sizing
 enum-known-sizing c = search needs
 
 map-trees-requires : tie.Need-map-trees-requires
-map-trees-requires c κs =
-    (counted-all _ _ (search needs) _ (search needs) _ _ (search needs) (c .before .before .before .before .before .sizing .given .1) _ _ _ (search needs), search needs)
+map-trees-requires c κs = (counted-all _ _ (search needs) _ (search needs) _ _ (search needs) (c .before .before .before .before .before .sizing .given .1) _ _ _ (search needs), (search needs, search needs))
 
 enum-known-sizing-2 : tie.Need-enum-known-sizing-2
 enum-known-sizing-2 c = search needs
@@ -32,7 +31,7 @@ refuse-requires : tie.Need-refuse-requires
 refuse-requires c κs = search needs
 
 same-length : tie.Need-same-length
-same-length c = search needs
+same-length c = search (needs, c .before .before .before .before .before .before .before .before .before .before .before .before .before .before .before .before .before .before .size-trees .kept .1 .1 .1 .1 .0, c .before .before .before .before .before .before .before .before .before .before .before .before .before .before .before .before .before .before .before .before .before .before .before .before .before .empty-chains .kept .1 .1 .0)
 
 same-length-2 : tie.Need-same-length-2
 same-length-2 c = search needs
@@ -56,7 +55,9 @@ same-length-7 : tie.Need-same-length-7
 same-length-7 c = search needs
 
 returns-2 : tie.Need-returns-2
-returns-2 c = (search refused-tree, search kept-tree)
+returns-2 c =
+    let pre = c .before .before .before .before .before .before .before .before .before .before .before .before .before .before .before .before .before .before .before .before .before .before .before .before .pre in
+    (search (refused-tree, pre .0 .0, pre .0 .1), search (kept-tree, pre .0 .0, pre .0 .1))
 
 pub map-with-spec : {M : Type 1} → statement M
 map-with-spec =

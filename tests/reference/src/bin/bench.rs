@@ -1,11 +1,13 @@
 //! Times the static library and the fast path on the same inputs in the same run, in turns.
 //!
-//! Five tables: for each call, shape and size the median time of both and the median of the samples'
+//! Six tables: for each call, shape and size the median time of both and the median of the samples'
 //! ratios; then how our time grows from N = 512 to N = 4,096, the two sizes in turns as well, since
 //! the machine's own speed drifts; then the time of the mapper and of least levels on sources that
 //! they refuse, in turns with the accepted one, of those with b = 1, on which the call took longest;
 //! then the time of lists of counts in turns with the mapper's on the same sources; then the time of
-//! stripping in turns with the verifier's on the same mapped netlists, where the bar is 2.5. Both
+//! stripping in turns with the verifier's on the same mapped netlists, where the bar is 2.5; then two
+//! ways of the fast path to price, by passes over the written records and while it counts the buffers,
+//! and its time with an empty list. The mapper's price list is empty, but in the rows that say so. Both
 //! answers are compared before a row is timed. Areas that a call writes are touched once before and
 //! not cleared between calls. A row of layered netlists goes round as many of them as have 65,536
 //! records together, so that no row repeats one input. Inputs feed one slot (b = 1), but where the
@@ -15,10 +17,11 @@ use std::hint::black_box;
 use std::time::{Duration, Instant};
 
 use reference::capacities::{Capacities, MAX_INPUT_CAPACITY};
-use reference::engine::{perform, Call, Engine, Name, FAST};
+use reference::engine::{perform, Call, Engine, Name, BY_A_PASS, FAST};
 use reference::fast;
 use reference::generator::{fanouts, reverse_buffers};
 use reference::linked::LINKED;
+use reference::prices::LIST;
 use reference::random::Random;
 use reference::record::*;
 use reference::shapes;
@@ -38,6 +41,9 @@ const SAMPLES: usize = 161;
 const SAMPLE_TIME: Duration = Duration::from_micros(400);
 /// The calls that have rows in which inputs branch, all of them accepted.
 const BRANCHING: [Name; 4] = [Name::Map, Name::Verify, Name::Strip, Name::CountNets];
+
+/// The price list of the rows that have one: every price is another.
+const PRICES: [u8; LIST] = [10, 12, 11, 14, 9, 13, 4, 2, 3, 5, 6];
 
 /// One input with what the row says of it.
 struct Subject {
@@ -67,7 +73,7 @@ impl Subject {
     ) -> Subject {
         let source = encode(records);
         let mut mapped = vec![0; WIDTH * MAX_MAPPED];
-        let answer = fast::map(&source, capacities, &mut mapped);
+        let answer = fast::map(&source, capacities, &[], &mut mapped);
         mapped.truncate(WIDTH * answer[2] as usize);
         Subject { shape, source, mapped, capacities, driver }
     }
@@ -113,6 +119,7 @@ impl Subject {
             name,
             source: self.source.clone(),
             capacities: self.capacities,
+            prices: Vec::new(),
             number: if name == Name::Count { self.driver } else { rows as u32 },
             records: indices(&drivers),
             mapped: self.mapped.clone(),
@@ -127,10 +134,11 @@ impl Subject {
 fn make(engine: &Engine, call: &mut Call) {
     let (source, mapped, rows) = (black_box(&call.source[..]), &call.mapped[..], &call.rows[..]);
     let (capacities, number) = (call.capacities, call.number);
+    let prices = black_box(&call.prices[..]);
     let areas = &mut call.areas;
     match call.name {
         Name::Map => {
-            black_box((engine.map)(source, capacities, &mut areas[0]));
+            black_box((engine.map)(source, capacities, prices, &mut areas[0]));
         }
         Name::Count => {
             black_box((engine.count)(source, capacities, number));
@@ -234,6 +242,13 @@ fn calls_of(subjects: &[Subject], name: Name) -> Vec<Call> {
     subjects.iter().map(|subject| subject.call(name)).collect()
 }
 
+/// The mapper's calls with the list of prices.
+fn priced_calls(subjects: &[Subject]) -> Vec<Call> {
+    let mut calls = calls_of(subjects, Name::Map);
+    calls.iter_mut().for_each(|call| call.prices = PRICES.to_vec());
+    calls
+}
+
 /// Compares both answers and all written areas.
 fn compare(call: &Call, shape: &str) -> Vec<u32> {
     let name = call.name;
@@ -262,16 +277,24 @@ fn average_m(subjects: &[Subject]) -> usize {
 
 /// One row of the first table: the subjects are of one shape and N. Answers our time.
 fn print_row(subjects: &[Subject], name: Name) -> f64 {
+    print_calls(subjects, name.words(), calls_of(subjects, name))
+}
+
+/// One row of the first table, of the mapper with the list of prices.
+fn print_priced(subjects: &[Subject]) {
+    print_calls(subjects, "map, 11 prices", priced_calls(subjects));
+}
+
+/// One row of the first table: these calls on these subjects.
+fn print_calls(subjects: &[Subject], label: &str, mut calls: Vec<Call>) -> f64 {
     let (shape, n) = (subjects[0].shape, subjects[0].n());
     let m = average_m(subjects);
-    let mut calls = calls_of(subjects, name);
     compare_all(&calls, shape);
     let rounds = rounds_in_a_sample(&FAST, &mut calls);
     let Measured { first, second, ratio } = measure(|side| match side {
         Side::First => time_of(&LINKED, &mut calls, rounds),
         Side::Second => time_of(&FAST, &mut calls, rounds),
     });
-    let label = name.words();
     println!("| {label} | {shape} | {n} | {m} | {first:.2} | {second:.2} | {ratio:.2} |");
     first
 }
@@ -353,6 +376,29 @@ fn print_over_verify(subjects: &[Subject], call: impl Fn(&Subject) -> Call) {
     });
     println!(
         "| {shape} | {n} | {m} | {number} | {first:.2} | {verified} | {second:.2} | {ratio:.2} |"
+    );
+}
+
+/// One row of the sixth table: the fast path's time with prices by a pass over that with prices while
+/// it counts, and the latter over that with an empty list.
+fn print_pricing(subjects: &[Subject]) {
+    let (shape, n, m) = (subjects[0].shape, subjects[0].n(), average_m(subjects));
+    let (mut priced, mut empty) = (priced_calls(subjects), calls_of(subjects, Name::Map));
+    for call in &priced {
+        assert!(perform(&BY_A_PASS, call) == perform(&FAST, call), "{shape} differs");
+    }
+    let rounds = rounds_in_a_sample(&FAST, &mut priced);
+    let ways = measure(|side| match side {
+        Side::First => time_of(&BY_A_PASS, &mut priced, rounds),
+        Side::Second => time_of(&FAST, &mut priced, rounds),
+    });
+    let lists = measure(|side| match side {
+        Side::First => time_of(&FAST, &mut priced, rounds),
+        Side::Second => time_of(&FAST, &mut empty, rounds),
+    });
+    println!(
+        "| {shape} | {n} | {m} | {:.2} | {:.2} | {:.2} | {:.2} | {:.2} |",
+        ways.first, ways.second, ways.ratio, lists.second, lists.ratio
     );
 }
 
@@ -500,6 +546,17 @@ fn main() {
     for chain in &long_chains {
         print_row(chain, Name::Levels);
     }
+    let priced_shapes = |print: fn(&[Subject])| {
+        for shape in 0..3 {
+            for shapes in &all {
+                print(&shapes[shape]);
+            }
+        }
+        for subjects in [&sizes[3], &majorities, &shared] {
+            print(subjects);
+        }
+    };
+    priced_shapes(print_priced);
     let branching: Vec<[Vec<Subject>; 3]> =
         SIZES.iter().map(|&size| branching_shapes_of(size)).collect();
     for name in BRANCHING {
@@ -573,4 +630,11 @@ fn main() {
     for [layered, ..] in &branching {
         print_over_verify(layered, strip);
     }
+
+    println!();
+    println!(
+        "| shape | N | M | by passes, us | while counting, us | ratio | empty list, us | list to empty |"
+    );
+    println!("|---|---|---|---|---|---|---|---|");
+    priced_shapes(print_pricing);
 }

@@ -36,6 +36,7 @@ fn show_call(call: &Call) {
     eprintln!("  source {}", hex(&call.source));
     let Capacities { buffer, input } = call.capacities;
     eprintln!("  capacities {buffer} and {input}, record or row count {}", call.number);
+    eprintln!("  prices {:?}", call.prices);
     eprintln!("  records {}", hex(&call.records));
     eprintln!("  mapped {}", hex(&call.mapped));
     eprintln!("  rows {}", hex(&call.rows));
@@ -75,7 +76,7 @@ impl Tally {
     }
 
     /// The cases of `reach` that were not met, in words.
-    fn missing(&self) -> Vec<&'static str> {
+    fn missing(&self) -> Vec<String> {
         let missing = ALL_REACHED.into_iter().filter(|reached| !self.reached.contains_key(reached));
         missing.map(Reached::words).collect()
     }
@@ -119,7 +120,7 @@ fn maps_again(call: &Call, outcome: &Outcome) -> bool {
     }
     let n = outcome.answer[2] as usize;
     let source = &outcome.areas[0][..WIDTH * n];
-    let again = (LINKED.map)(source, call.capacities, &mut vec![0; call.mapped.len()]);
+    let again = (LINKED.map)(source, call.capacities, &[], &mut vec![0; call.mapped.len()]);
     again[0] == 0 && n + again[3] as usize <= call.mapped.len() / WIDTH
 }
 

@@ -9,10 +9,13 @@ use std::{env, fs};
 
 use reference::calls::answer_bytes;
 use reference::capacities::{Capacities, MAX_INPUT_CAPACITY};
-use reference::cases::{any_call, damaged, other_input, sound_with, unbranched, Subject, FILL};
+use reference::cases::{
+    any_call, damaged, other_input, price_list, sound_with, unbranched, Subject, FILL,
+};
 use reference::engine::{perform, Call, Name, PLAIN};
 use reference::generator::reverse_buffers;
 use reference::mapper::mapping;
+use reference::prices::LIST;
 use reference::random::Random;
 use reference::record::*;
 use reference::shapes;
@@ -22,7 +25,8 @@ use reference::views::{block_view, record_view};
 const SEED: u64 = 20_001;
 /// Accepted cases of a family found by chance, with inputs that do not branch.
 const ACCEPTED: usize = 150;
-/// A case found by chance is at most this long, and four more where it holds b.
+/// A case found by chance is at most this long, and four more where it holds b, and four more where it
+/// has a field for prices.
 const CASE_BYTES: usize = 700;
 const TRIES: u64 = 200_000;
 /// How many subjects one try at a case with inputs that branch may look at.
@@ -54,7 +58,8 @@ struct Part {
 }
 
 /// The first part has inputs that do not branch; a call that takes b has a second, in which they do,
-/// and may have a third with more worked cases of the second kind.
+/// and may have a third with more worked cases of the second kind. The mapper has a fourth with price
+/// lists; in the others they are empty.
 struct Family {
     name: &'static str,
     parts: &'static [Part],
@@ -130,17 +135,27 @@ const FAMILIES: [Family; 12] = [
             Part {
                 numbers: &[0, 1, 2, 4, 5, 6, 7, 8, 9, 10],
                 refused: 24,
+                longest: FIRST_WITH_B.longest + 4,
                 worked: worked_mapper,
                 by_chance: |random| Some(chance_case(random, Name::Map)),
                 ..FIRST_WITH_B
             },
             Part {
                 numbers: &[0, 8, 26],
+                longest: SECOND.longest + 4,
                 worked: branching_mapper,
                 by_chance: |random| branching_case(random, Name::Map),
                 ..SECOND
             },
             Part { worked: more_mapper, ..THIRD },
+            Part {
+                numbers: &[0, 27, 28],
+                accepted: 8,
+                refused: 3,
+                longest: 350,
+                worked: priced_mapper,
+                by_chance: priced_case,
+            },
         ],
     },
     Family {
@@ -283,6 +298,7 @@ fn call_case(call: &Call) -> Case {
         Name::Map => {
             assert!(call.areas[0].iter().all(|&byte| byte == FILL));
             fields.push(answer_bytes(&[buffer, input, call.areas[0].len() as u32]));
+            fields.push(call.prices.clone());
         }
         Name::Count => fields.push(numbers),
         Name::CountNets => fields.extend([capacities, call.records.clone()]),
@@ -342,6 +358,7 @@ fn bare(name: Name, source: &[Record], capacities: Capacities) -> Call {
         name,
         source: encode(source),
         capacities,
+        prices: Vec::new(),
         number: 0,
         records: Vec::new(),
         mapped: Vec::new(),
@@ -924,6 +941,128 @@ fn more_mapper() -> Vec<Case> {
         map_fitting(&shapes::sinks_at(sinks, 1), Capacities::new(2, MAX_INPUT_CAPACITY))
     });
     calls.iter().map(call_case).collect()
+}
+
+/// A list in which every price is another.
+const RISING: [u8; LIST] = [1, 2, 3, 4, 5, 6, 7, 8, 9, 10, 11];
+const MIXED: [u8; LIST] = [255, 3, 128, 17, 64, 200, 1, 31, 97, 5, 250];
+
+/// The call with a price list.
+fn priced(call: Call, prices: &[u8]) -> Call {
+    Call { prices: prices.to_vec(), ..call }
+}
+
+/// The list with a price of 0 at each of these positions.
+fn zeros_at(positions: &[usize]) -> [u8; LIST] {
+    let mut list = RISING;
+    for &position in positions {
+        list[position] = 0;
+    }
+    list
+}
+
+/// Lists that 27 refuses, with and without a price of 0, and such that 28 refuses.
+fn refused_lists() -> Vec<Vec<u8>> {
+    let lengths = (1..=10).chain([12, 13, 14, 22, 255, 256, 267]);
+    let mut lists: Vec<Vec<u8>> = lengths.map(|len| vec![7; len]).collect();
+    lists.extend([vec![0], vec![0; 22]]);
+    lists.push([&[0], &RISING[1..10]].concat());
+    lists.push([&RISING[..], &[0]].concat());
+    lists.push([&[0], &RISING[..]].concat());
+    let positions = (0..LIST).map(|position| vec![position]);
+    let several = [vec![3, 8], vec![0, 10], vec![9, 10], (0..LIST).collect()];
+    lists.extend(positions.chain(several).map(|zeros| zeros_at(&zeros).to_vec()));
+    lists
+}
+
+/// Calls that other checks refuse, in the order of the checks: 1, 26, 2, 4, 8, 9 and 10; 1 with 26.
+fn refused_calls() -> Vec<Call> {
+    let worked = map_on(&shapes::worked(), 2, 10);
+    let mut ragged = worked.clone();
+    ragged.source.pop();
+    let mut kind = worked.clone();
+    kind.source[0] = 5;
+    vec![
+        with(worked.clone(), 5, 1),
+        with(worked.clone(), 5, 0),
+        with(worked.clone(), 3, 4096),
+        ragged,
+        kind,
+        map_on(&shapes::net(&[1, 1]), 2, 10),
+        map_on(&shapes::lines(15, 4095), 2, 10),
+        worked,
+    ]
+}
+
+/// An AND, an OR and a MAJ on inputs of their own, of which those named feed an output.
+fn gates_feeding(fed: &[bool; 3]) -> Vec<Record> {
+    let mut records = shapes::inputs(7);
+    records.push(Record::new(AND, 2, 1, &[0, 1]));
+    records.push(Record::new(OR, 1, 1, &[2, 3]));
+    records.push(Record::new(MAJ, 5, 1, &[4, 5, 6]));
+    let feeding = (7..).zip(fed).filter(|(_, fed)| **fed);
+    records.extend(feeding.map(|(gate, _)| Record::new(OUTPUT, 0, 2, &[gate])).collect::<Vec<_>>());
+    records
+}
+
+/// A gate that feeds no slot and a buffer that feeds one, at these prices.
+fn gate_and_buffer(gate: u8, buffer: u8) -> Call {
+    let mut list = [99; LIST];
+    (list[0], list[7]) = (gate, buffer);
+    priced(map_on(&shapes::priced(1, 1), 2, 60), &list)
+}
+
+/// The worked case (specification 8.2) with lists; lists that are refused, alone and with another
+/// check that fails before or after; buffers that feed 1 to s slots; gates of each kind that feed a
+/// slot or none; netlists that cost nothing; shares about exact halves.
+fn priced_mapper() -> Vec<Case> {
+    let worked = shapes::worked();
+    let mut calls = vec![
+        priced(map_on(&worked, 2, 80), &RISING),
+        priced(map_on(&worked, 2, 80), &RISING[..10]),
+        priced(map_on(&worked, 2, 80), &zeros_at(&[8])),
+    ];
+    calls.extend([[255; LIST], [1; LIST], MIXED].map(|list| priced(map_on(&worked, 2, 81), &list)));
+    calls.extend(refused_lists().iter().map(|list| priced(map_on(&worked, 2, 10), list)));
+    for call in refused_calls() {
+        calls.push(priced(call.clone(), &RISING));
+        calls.push(priced(call.clone(), &RISING[..10]));
+        calls.push(priced(call, &zeros_at(&[4])));
+    }
+    let fitting = |source: &[Record], s: usize, b: u32, list: &[u8]| {
+        priced(map_fitting(source, Capacities::new(s as u32, b)), list)
+    };
+    for s in 2..=4 {
+        for rest in 1..=s {
+            calls.push(fitting(&shapes::sinks_at(s + rest, 3), s, 1, &RISING));
+        }
+        for b in [2, 3] {
+            calls.push(fitting(&shapes::sinks_at(s * b - 1, 2), s, b as u32, &MIXED));
+        }
+        calls.push(fitting(&shapes::twins(&[1, 2, 3, 3, 3], false), s, 4095, &MIXED));
+        calls.push(fitting(&shapes::chains(5), s, 1, &MIXED));
+        calls.push(fitting(&shapes::lines(2, 4), s, 1, &[255; LIST]));
+    }
+    for fed in 0..8 {
+        let fed = [fed & 1 > 0, fed & 2 > 0, fed & 4 > 0];
+        calls.push(fitting(&gates_feeding(&fed), 2, 1, &MIXED));
+    }
+    for records in [Vec::new(), shapes::inputs(2), shapes::lines(1, 1)] {
+        calls.push(fitting(&records, 3, 1, &MIXED));
+    }
+    // 0.5, 1.5, 12.5, 13.5, 37.5, 62.5, 98.5 and 99.5 percent, and 13.49.
+    let halves =
+        [(199, 1), (197, 3), (7, 1), (173, 27), (5, 3), (3, 5), (3, 197), (1, 199), (218, 34)];
+    calls.extend(halves.map(|(gate, buffer)| gate_and_buffer(gate, buffer)));
+    calls.iter().map(call_case).collect()
+}
+
+/// A call with a list that is not empty.
+fn priced_case(random: &mut Random) -> Option<Case> {
+    let subject = branching_subject(random);
+    let call = any_call(random, &subject, Name::Map);
+    let list = price_list(random);
+    (!list.is_empty()).then(|| call_case(&priced(call, &list)))
 }
 
 /// What the mapper writes for a source with these capacities.

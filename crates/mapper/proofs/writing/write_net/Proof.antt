@@ -1,6 +1,8 @@
 -- `write_net` meets its contract: no sink, a line, or a tree.
+use mathlib.Core.Path.{_∙_}
 use Rattle.nets.proofs.ShortChains.{no-sink, few-sinks}
 use Rattle.mapper.proofs.WriteNets.{net-none, line-start, line-room, line-fits, line-levels, line-next, net-line}
+use Rattle.mapper.proofs.PriceWalk.{none-price, line-near, line-behind, line-price}
 use borrow.Author.Needs.{needs}
 use Rattle.mapper.proofs.writing.write_net.Statement.{statement}
 use Rattle.mapper.proofs.writing.write_net.Tie as tie
@@ -31,11 +33,17 @@ write-line-requires c κs =
     let few = few-sinks _ _ _ _ _ (b .before .before .chain-of .ensures) (b .chain .given .1) in
     (search (line-room, few), (search needs, search (line-fits, few), search (line-levels, few)))
 
-add-result : tie.Need-add-result
-add-result c =
+add-t25 : tie.Need-add-t25
+add-t25 c =
     let b = c .before .before .before .before .before .before .before .before .before .before in
     let few = few-sinks _ _ _ _ _ (b .before .before .chain-of .ensures) (b .chain .given .1) in
     search (line-next, few)
+
+price-line-requires : tie.Need-price-line-requires
+price-line-requires c κs =
+    let b = c .before .before .before .before .before .before .before .before .before .before in
+    let few = few-sinks _ _ _ _ _ (b .before .before .chain-of .ensures) (b .chain .given .1) in
+    (search needs, (search (line-near, few), search (line-behind, few)))
 
 enum-told-2 : tie.Need-enum-told-2
 enum-told-2 c = search needs
@@ -47,7 +55,7 @@ same-length : tie.Need-same-length
 same-length c = search needs
 
 returns : tie.Need-returns
-returns c = search (net-none, no-sink)
+returns c = (search (net-none, no-sink), search (none-price, no-sink))
 
 same-length-2 : tie.Need-same-length-2
 same-length-2 c = search needs
@@ -57,9 +65,9 @@ same-length-3 c = search needs
 
 returns-2 : tie.Need-returns-2
 returns-2 c =
-    let b = c .before .before .before .before .before .before .before .before .before .before in
+    let b = c .before .before .before .before .before .before .before .before .before .before .before in
     let few = few-sinks _ _ _ _ _ (b .before .before .chain-of .ensures) (b .chain .given .1) in
-    search (net-line, few)
+    (search (net-line, few), c .price-line .ensures ∙ line-price _ _ _ _ _ _ (c .before .before .before .before .before .before .before .before .before .before .before .before .before .before .before .before .before .before .before .pre .0 .ready .allowed .low) few)
 
 same-length-4 : tie.Need-same-length-4
 same-length-4 c = search needs
@@ -81,7 +89,8 @@ write-net-spec =
     set-line-parents-requires
     level-at-requires
     write-line-requires
-    add-result
+    add-t25
+    price-line-requires
     enum-told-2
     write-tree-requires
     same-length

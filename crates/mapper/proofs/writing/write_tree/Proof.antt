@@ -1,5 +1,5 @@
 -- `write_tree` meets its contract: what each step leaves is what the next one asks.
-use Rattle.mapper.proofs.WriteNets.{net-stale, wrote}
+use Rattle.mapper.proofs.WriteNets.{wrote}
 use borrow.Author.Needs.{needs}
 use Rattle.mapper.proofs.writing.write_tree.Statement.{statement}
 use Rattle.mapper.proofs.writing.write_tree.Tie as tie
@@ -13,8 +13,8 @@ write-buffers-requires c κs = (search needs, (search needs, (search needs, sear
 set-parents-requires : tie.Need-set-parents-requires
 set-parents-requires c κs = search needs
 
-clear-row-requires : tie.Need-clear-row-requires
-clear-row-requires c κs = search net-stale
+price-row-requires : tie.Need-price-row-requires
+price-row-requires c κs = search needs
 
 same-length : tie.Need-same-length
 same-length c = search needs
@@ -23,7 +23,12 @@ same-length-2 : tie.Need-same-length-2
 same-length-2 c = search needs
 
 returns : tie.Need-returns
-returns c = search wrote
+returns c =
+    let written = c .before .before .before .before .before .before .before .before .before .before .write-buffers .ensures in
+    let priced = c .price-row .ensures in (
+      wrote _ _ _ _ _ _ _ _ _ _ (c .before .before .before .before .before .before .before .before .before .before .before .before .before .before .before .before .before .before .before .before .before .pre .0) _ _ _ _ _ (written .0) (priced .1) (written .1 .0 .size) (c .before .before .before .before .set-parents .ensures .0) (written .1 .1),
+      priced .0,
+    )
 
 pub write-tree-spec : {M : Type 1} → statement M
 write-tree-spec =
@@ -32,7 +37,7 @@ write-tree-spec =
     count-buffers-requires
     write-buffers-requires
     set-parents-requires
-    clear-row-requires
+    price-row-requires
     same-length
     same-length-2
     returns)

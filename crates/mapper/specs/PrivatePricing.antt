@@ -1,0 +1,44 @@
+-- For private functions alone: a mapped netlist priced net by net, from the nodes of each tree.
+use Prim.Native.Nat.{ℕ, suc, _+_, _-_, _*_, _/_, _%_, _≤_, _<_}
+use mathlib.Core.Path.{_≡_}
+use mathlib.Core.Bool.{cond}
+use mathlib.Core.List.{List}
+use lib.ListN.{getD}
+use lib.Dec.{ltb, eqb}
+use Rattle.facts.specs.Sums.{bit, sum}
+use Rattle.netlist.specs.declared.Capacities.{Capacities}
+use Rattle.netlist.specs.Kinds.{topLevel, buffer}
+use Rattle.netlist.specs.Records.{Netlist}
+use Rattle.fanout.specs.Nets.{row, nodesAt}
+use Rattle.nets.specs.PrivateChains.{slotEnd, nextSink}
+use Rattle.prices.specs.Prices.{priceOf}
+use Rattle.mapper.specs.PrivateWriting.{Ready, NodeCounts}
+
+-- the buffer that feeds what is left of a distance, if anything is
+unfoldable pub restPrice : List ℕ → ℕ → ℕ
+restPrice prices r = cond (eqb r 0) 0 (priceOf prices buffer r)
+
+-- the buffers one level below n nodes: each feeds s of them, and one more the rest
+unfoldable pub levelPrice : List ℕ → ℕ → ℕ → ℕ
+levelPrice prices s n = n / s * priceOf prices buffer s + restPrice prices (n % s)
+
+-- the buffers of d's tree: those below the nodes of distance 2, 3 and so on
+unfoldable pub treePrice : List ℕ → Netlist → Capacities → ℕ → ℕ
+treePrice prices n caps d = sum (λ k. levelPrice prices (caps .buffer) (nodesAt (caps .buffer) (row n d) (suc (suc k)))) topLevel
+
+-- a line of buffers: the one below the other sink feeds two slots, each other one
+unfoldable pub linePrice : List ℕ → ℕ → ℕ → ℕ
+linePrice prices buffers other =
+    (buffers - bit (ltb 1 other)) * priceOf prices buffer 1 + bit (ltb 1 other) * priceOf prices buffer 2
+
+-- driver d: a gate feeds one slot if it has a sink, else none
+unfoldable pub driverPrice : List ℕ → Netlist → ℕ → ℕ
+driverPrice prices n d = priceOf prices (n .at d .kind) (bit (ltb (nextSink n d 0) (slotEnd n)))
+
+-- d's tree to be priced: the row holds its nodes, none of them beyond top
+pub record NodesCounted (n : Netlist) (caps : Capacities) (d : ℕ) (counts : List ℕ) (top : ℕ) : Type 0 where
+  pub ready : Ready n caps
+  pub driver : d < n .size
+  pub nodes : NodeCounts n caps d counts
+  pub near : top ≤ topLevel
+  pub beyond : (k : ℕ) → top < k → nodesAt (caps .buffer) (row n d) k ≡ 0
