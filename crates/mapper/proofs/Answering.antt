@@ -25,7 +25,7 @@ use Rattle.mapper.specs.declared.Mapping.{Mapping}
 use Rattle.mapper.specs.Mapped.{mappedSize, mapped}
 use Rattle.mapper.specs.PrivateWriting.{Ready, Counted, Sized}
 use Rattle.prices.specs.Prices.{junctions, bufferJunctions}
-use Rattle.prices.specs.Checks.{listChecks}
+use Rattle.prices.specs.Checks.{priceListChecks}
 use Rattle.prices.specs.PrivatePrices.{PriceList}
 use Rattle.mapper.specs.PrivatePricing.{treePrice, driverPrice}
 use Rattle.mapper.specs.Answer.{share, figures, refusal, tooLarge, tooShort, sourceMaps, mapChecks, mapAnswer, mapArea}
@@ -44,7 +44,7 @@ accepted n N bs part whole D percent e f h = cc
 
 -- what the mapper checks: the call, then the trees, the size and the area
 abbrev callChecks : List ℕ → Capacities → List ℕ → Checked
-callChecks bytes caps list = capacityChecks caps andThen listChecks list andThen sourceChecks bytes
+callChecks bytes caps list = capacityChecks caps andThen priceListChecks list andThen sourceChecks bytes
 
 abbrev pub lateChecks : List ℕ → Capacities → List ℕ → Checked
 lateChecks bytes caps area =
@@ -55,8 +55,8 @@ module _ (bytes : List ℕ) (caps : Capacities) (list area : List ℕ) where
   unfolding mapChecks
   split =
       sym
-      (then-assoc (capacityChecks caps) (listChecks list andThen sourceChecks bytes) (lateChecks bytes caps area)
-      ∙ ap (λ (a : Checked). capacityChecks caps andThen a) (then-assoc (listChecks list) (sourceChecks bytes) (lateChecks bytes caps area)))
+      (then-assoc (capacityChecks caps) (priceListChecks list andThen sourceChecks bytes) (lateChecks bytes caps area)
+      ∙ ap (λ (a : Checked). capacityChecks caps andThen a) (then-assoc (priceListChecks list) (sourceChecks bytes) (lateChecks bytes caps area)))
 
   -- 1, 26, 27, 28 and 2 to 7
   module _ (number place : ℕ) (a : Checked) (e : a ≡ callChecks bytes caps list) (f : a ≡ Refused number place) where
@@ -74,26 +74,26 @@ module _ (bytes : List ℕ) (caps : Capacities) (list area : List ℕ) where
   -- once they pass
   pub passed-source : (a : Checked) → a ≡ callChecks bytes caps list → a ≡ Passed → inputChecks bytes caps ≡ Passed
   passed-source a e f =
-      let c = then-passed (capacityChecks caps) (listChecks list andThen sourceChecks bytes) .0 (sym e ∙ f) in
-      then-passed (capacityChecks caps) (sourceChecks bytes) .1 (c .0, then-passed (listChecks list) (sourceChecks bytes) .0 (c .1) .1)
+      let c = then-passed (capacityChecks caps) (priceListChecks list andThen sourceChecks bytes) .0 (sym e ∙ f) in
+      then-passed (capacityChecks caps) (sourceChecks bytes) .1 (c .0, then-passed (priceListChecks list) (sourceChecks bytes) .0 (c .1) .1)
 
-  pub passed-list : (a : Checked) → a ≡ callChecks bytes caps list → a ≡ Passed → listChecks list ≡ Passed
+  pub passed-list : (a : Checked) → a ≡ callChecks bytes caps list → a ≡ Passed → priceListChecks list ≡ Passed
   passed-list a e f =
-      let c = then-passed (capacityChecks caps) (listChecks list andThen sourceChecks bytes) .0 (sym e ∙ f) in
-      then-passed (listChecks list) (sourceChecks bytes) .0 (c .1) .0
+      let c = then-passed (capacityChecks caps) (priceListChecks list andThen sourceChecks bytes) .0 (sym e ∙ f) in
+      then-passed (priceListChecks list) (sourceChecks bytes) .0 (c .1) .0
 
-  pub checked : inputChecks bytes caps ≡ Passed → listChecks list ≡ Passed → mapChecks bytes caps list area ≡ lateChecks bytes caps area
+  pub checked : inputChecks bytes caps ≡ Passed → priceListChecks list ≡ Passed → mapChecks bytes caps list area ≡ lateChecks bytes caps area
   unfolding mapChecks
   checked i l = let c = then-passed (capacityChecks caps) (sourceChecks bytes) .0 i in rw (c .0, l, c .1) refl
 
   -- all of them pass exactly if the list does, the source has a mapped netlist, and the area has room for it
   pub map-passed : (mapChecks bytes caps list area ≡ Passed)
-      ↔ ((listChecks list ≡ Passed) × (sourceMaps bytes caps ≡ Passed) × (check 10 0 (tooShort (netlist bytes) caps area) ≡ Passed))
+      ↔ ((priceListChecks list ≡ Passed) × (sourceMaps bytes caps ≡ Passed) × (check 10 0 (tooShort (netlist bytes) caps area) ≡ Passed))
   unfolding mapChecks sourceMaps
   map-passed = (
     λ e.
         let c = then-passed (capacityChecks caps) _ .0 e in
-        let l = then-passed (listChecks list) _ .0 (c .1) in
+        let l = then-passed (priceListChecks list) _ .0 (c .1) in
         let s = then-passed (sourceChecks bytes) _ .0 (l .1) in
         let t = then-passed (treeChecks (netlist bytes) caps) _ .0 (s .1) in
         let z = then-passed (check 9 0 (tooLarge (netlist bytes) caps)) _ .0 (t .1) in (

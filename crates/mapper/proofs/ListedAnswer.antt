@@ -8,7 +8,7 @@ use Rattle.netlist.specs.declared.Capacities.{Capacities}
 use Rattle.netlist.specs.Records.{netlist}
 use Rattle.netlist.specs.Checks.{inputChecks}
 use Rattle.fanout.specs.Nets.{fewestInAll}
-use Rattle.prices.specs.Checks.{listChecks}
+use Rattle.prices.specs.Checks.{priceListChecks}
 use Rattle.prices.specs.PrivatePrices.{applied}
 use Rattle.prices.proofs.Lists.{applied-passes}
 use Rattle.mapper.specs.declared.Mapping.{Mapping}
@@ -17,7 +17,7 @@ use Rattle.mapper.proofs.Answering.{checked, map-passed}
 use Rattle.mapper.proofs.NetPrices.{applied-whole, applied-part}
 use Rattle.mapper.proofs.Promises.{maps-ready}
 
-module _ (bytes : List ℕ) (caps : Capacities) (list prices area : List ℕ) (i : inputChecks bytes caps ≡ Passed) (l : listChecks list ≡ Passed)
+module _ (bytes : List ℕ) (caps : Capacities) (list prices area : List ℕ) (i : inputChecks bytes caps ≡ Passed) (l : priceListChecks list ≡ Passed)
     (e : prices ≡ applied list) where
   same-checks : mapChecks bytes caps (applied list) area ≡ mapChecks bytes caps list area
   same-checks = checked bytes caps (applied list) area i (applied-passes list l) ∙ sym (checked bytes caps list area i l)

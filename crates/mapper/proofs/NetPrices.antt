@@ -21,7 +21,7 @@ use Rattle.netlist.specs.Counts.{isBuffer}
 use Rattle.netlist.specs.Capacities.{capacityOf}
 use Rattle.netlist.proofs.Source.{no-buffer}
 use Rattle.netlist.proofs.Balance.{capacity-gate}
-use Rattle.fanout.specs.Nets.{up, row, sinks, nodesAt, buffersAt, treeSize, fewestInAll}
+use Rattle.fanout.specs.Nets.{up, row, nodesAt, buffersAt, treeSize, fewestInAll}
 use Rattle.fanout.proofs.Nets.{up-whole, up-part, fewest-sum, nodes-some, row-length, row-at}
 use Rattle.nets.specs.PrivateChains.{slotEnd, namesSlot, nextSink, slotDistance}
 use Rattle.nets.proofs.Chains.{next-names}

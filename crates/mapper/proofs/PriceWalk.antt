@@ -1,11 +1,10 @@
 -- Laws of pricing as the code does it: one distance of a tree, a tree, a line, a driver, and the sums over all of them.
-use Prim.Native.Nat.{ℕ, zero, suc, _+_, _-_, _*_, _/_, _%_, _≤_, _<_}
+use Prim.Native.Nat.{ℕ, suc, _+_, _-_, _*_, _/_, _%_, _≤_, _<_}
 use mathlib.Core.Path.{_≡_, refl, sym, _∙_, ap, ap₂, subst}
 use mathlib.Core.Bool.{Bool, true, false}
 use mathlib.Core.List.{List}
 use native.Mathlib.Omega.{arith}
-use native.Mathlib.Nat.{div-add-mod, div-le-self, zero-div, zero-mod, div-eq-of-lt, mod-eq-of-lt, mul-le-mul-left, mul-suc, mul-comm, one-mul, add-sub-of-le}
-use native.Mathlib.Numerals.{add-one}
+use native.Mathlib.Nat.{div-add-mod, div-le-self, zero-div, zero-mod, div-eq-of-lt, mod-eq-of-lt, mul-le-mul-left, mul-suc, mul-comm, add-sub-of-le}
 use native.Mathlib.Decide.{decLt, ℕ-discrete}
 use mir.Val.{Fits}
 use mir.Syntax.{w32}
@@ -23,11 +22,10 @@ use Rattle.netlist.specs.Source.{IsSource}
 use Rattle.fanout.specs.Nets.{row, sinks, nodesAt, buffersAt, treeSize}
 use Rattle.fanout.proofs.Nets.{le-up, fewest-sum, nodes-at, nodes-none, row-length}
 use Rattle.fanout.proofs.Rows.{row-none}
-use Rattle.nets.specs.PrivateChains.{slotEnd, nextSink, Chained, ShortChain}
+use Rattle.nets.specs.PrivateChains.{Chained, ShortChain}
 use Rattle.nets.proofs.Lines.{line-at, line-nodes}
 use Rattle.prices.specs.Prices.{priceOf}
 use Rattle.prices.specs.PrivatePrices.{PriceList}
-use Rattle.prices.proofs.Lists.{price-small}
 use Rattle.mapper.specs.PrivateWriting.{Ready}
 use Rattle.mapper.specs.PrivatePricing.{restPrice, levelPrice, treePrice, linePrice, driverPrice, NodesCounted}
 use Rattle.mapper.proofs.Nodes.{pos}

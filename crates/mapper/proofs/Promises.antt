@@ -1,5 +1,5 @@
 -- The promises of the mapper and of the block view.
-use Prim.Native.Nat.{ℕ, suc, _+_, _-_, _*_, _≤_, _<_}
+use Prim.Native.Nat.{ℕ, suc, _+_, _-_, _*_, _≤_}
 use mathlib.Core.Path.{_≡_, refl, sym, _∙_, ap, ap₂}
 use mathlib.Core.Logic.{_↔_, ⊎-elim}
 use mathlib.Core.Bool.{Bool, true, false, not}
@@ -42,7 +42,7 @@ use Rattle.mapper.specs.View.{noEnds, endsOf, blockEnds, between}
 use Rattle.mapper.specs.Answer.{figures, tooLarge, tooShort, sourceMaps, mapChecks, answerOf, areaOf, mapAnswer, mapArea}
 use Rattle.mapper.specs.Promises.{Treeless, TooLarge, TooShort, MapFails, MapExact, RefusedLeaves, Accepts, AcceptedMaps, AnyList, BlockWritten, BlockNone}
 use Rattle.prices.specs.Prices.{junctions, bufferJunctions}
-use Rattle.prices.specs.Checks.{listChecks}
+use Rattle.prices.specs.Checks.{priceListChecks}
 use Rattle.prices.specs.Promises.{ListFails}
 use Rattle.prices.proofs.Promises.{list-rows, list-first}
 use Rattle.mapper.proofs.Answering.{passed-ready, map-passed}
@@ -142,7 +142,7 @@ module _ (bytes : List ℕ) (caps : Capacities) where
       (less-none mappedLimit (mappedSize (netlist bytes) caps) .0 (check-passed 9 0 (tooLarge (netlist bytes) caps) .0 (b .1)))
 
   module _ (list area : List ℕ) (e : mapChecks bytes caps list area ≡ Passed) where
-    parts : (listChecks list ≡ Passed) × (sourceMaps bytes caps ≡ Passed) × (check 10 0 (tooShort (netlist bytes) caps area) ≡ Passed)
+    parts : (priceListChecks list ≡ Passed) × (sourceMaps bytes caps ≡ Passed) × (check 10 0 (tooShort (netlist bytes) caps area) ≡ Passed)
     parts = map-passed bytes caps list area .0 e
 
     ready : Ready (netlist bytes) caps

@@ -16,7 +16,7 @@ use Rattle.netlist.specs.Bytes.{bytesOf}
 use Rattle.fanout.specs.Nets.{fewestInAll}
 use Rattle.nets.specs.Checks.{treeChecks}
 use Rattle.prices.specs.Prices.{junctions, bufferJunctions}
-use Rattle.prices.specs.Checks.{listChecks}
+use Rattle.prices.specs.Checks.{priceListChecks}
 use Rattle.mapper.specs.declared.Mapping.{Mapping}
 use Rattle.mapper.specs.Mapped.{mappedSize, mapped}
 
@@ -37,7 +37,7 @@ sourceMaps bytes caps =
 unfoldable pub mapChecks : List ℕ → Capacities → List ℕ → List ℕ → Checked
 mapChecks bytes caps list area =
     capacityChecks caps
-    andThen listChecks list
+    andThen priceListChecks list
     andThen sourceChecks bytes
     andThen treeChecks (netlist bytes) caps
     andThen check 9 0 (tooLarge (netlist bytes) caps)

@@ -16,7 +16,7 @@ use Rattle.netlist.specs.Refusals.{CapacityFails, SourceFails}
 use Rattle.netlist.specs.Bytes.{recs}
 use Rattle.fanout.specs.Promises.{NoNetTree, LeastNetTree}
 use Rattle.fanout.specs.Nets.{treeSize, fewestInAll}
-use Rattle.prices.specs.Checks.{listChecks}
+use Rattle.prices.specs.Checks.{priceListChecks}
 use Rattle.prices.specs.Promises.{ListFails}
 use Rattle.mapper.specs.Mapped.{blockStart, mappedSize, mapped}
 use Rattle.mapper.specs.Answer.{refusal, sourceMaps, mapChecks, mapAnswer, mapArea}
@@ -91,7 +91,7 @@ pub record PricedAlike (source : List ℕ) (caps : Capacities) (list other area 
 abbrev pub AnyList : Type 0
 AnyList =
     (bytes : List ℕ) (caps : Capacities) (list other area : List ℕ) →
-    mapChecks bytes caps list area ≡ Passed → listChecks other ≡ Passed → PricedAlike bytes caps list other area
+    mapChecks bytes caps list area ≡ Passed → priceListChecks other ≡ Passed → PricedAlike bytes caps list other area
 
 -- b decides no more than whether there are trees: what is accepted with some b is accepted with every larger one up to 4,095, with the same numbers and the same bytes
 abbrev pub LargerInputCapacity : Type 0

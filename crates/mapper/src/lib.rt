@@ -6,7 +6,7 @@ ghost use Rattle.netlist.specs.Kinds.{slots, topLevel, sourceLimit, mappedLimit
 ghost use Rattle.netlist.specs.Records.{netlist, recordCount};
 ghost use Rattle.facts.specs.Checks.{_andThen_};
 ghost use Rattle.netlist.specs.Checks.{capacityChecks, sourceChecks, inputChecks};
-ghost use Rattle.prices.specs.Checks.{listChecks};
+ghost use Rattle.prices.specs.Checks.{priceListChecks};
 ghost use Rattle.prices.specs.PrivatePrices.{PriceList};
 ghost use Rattle.mapper.specs.Mapped.{mapped};
 ghost use Rattle.mapper.specs.Answer.{refusal, figures, mapAnswer, mapArea};
@@ -205,7 +205,7 @@ fn map_source(
 // The mapping of a source that passes 1, 26 and 2 to 7, with the prices of a list that passes 27 and 28.
 fn map_listed(source: &[u8], capacities: Capacities, list: &[u8], area: &mut [u8]) -> Mapping
     requires { ⌜ inputChecks (now source) capacities ≡ Checked.Passed ⌝ }
-    requires { ⌜ listChecks (now list) ≡ Checked.Passed ⌝ }
+    requires { ⌜ priceListChecks (now list) ≡ Checked.Passed ⌝ }
     ensures { λ r. ⌜ r ≡ mapAnswer (now (source .entry)) capacities (now (list .entry)) (now (area .entry)) ⌝ }
     ensures { λ _. ⌜ now (area .exit) ≡ mapArea (now (source .entry)) capacities (now (list .entry)) (now (area .entry)) ⌝ }
 {
@@ -216,7 +216,7 @@ fn map_listed(source: &[u8], capacities: Capacities, list: &[u8], area: &mut [u8
 
 // Checks 27, 28 and 2 to 7, in that order.
 fn check_listed(source: &[u8], list: &[u8]) -> Checked
-    ensures { λ a. ⌜ a ≡ (listChecks (now (list .entry)) andThen sourceChecks (now (source .entry))) ⌝ }
+    ensures { λ a. ⌜ a ≡ (priceListChecks (now (list .entry)) andThen sourceChecks (now (source .entry))) ⌝ }
 {
     let checked = prices::check_list(list);
     match checked {
@@ -227,7 +227,7 @@ fn check_listed(source: &[u8], list: &[u8]) -> Checked
 
 // Checks 1, 26, 27, 28 and 2 to 7, in that order.
 fn check_call(source: &[u8], capacities: Capacities, list: &[u8]) -> Checked
-    ensures { λ a. ⌜ a ≡ (capacityChecks capacities andThen listChecks (now (list .entry)) andThen sourceChecks (now (source .entry))) ⌝ }
+    ensures { λ a. ⌜ a ≡ (capacityChecks capacities andThen priceListChecks (now (list .entry)) andThen sourceChecks (now (source .entry))) ⌝ }
 {
     let checked = netlist::check_capacities(capacities);
     match checked {

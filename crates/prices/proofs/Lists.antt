@@ -21,45 +21,45 @@ use Rattle.facts.proofs.Sums.{any-none}
 use Rattle.facts.proofs.Loops.{Scanning, scan-more, scan-stop, scan-end}
 use Rattle.facts.proofs.Reflect.{then-passed, check-passed}
 use Rattle.netlist.specs.Kinds.{buffer, isGate}
-use Rattle.prices.specs.Prices.{listLength, priceCounts, priceStarts, priceCount, priceStart, plainPrices, listPrice, priceOf}
-use Rattle.prices.specs.Checks.{badLength, priceCheck, listChecks}
+use Rattle.prices.specs.Prices.{listLength, priceCounts, priceCount, priceStart, plainPrices, listPrice, priceOf}
+use Rattle.prices.specs.Checks.{badListLength, priceCheck, priceListChecks}
 use Rattle.prices.specs.PrivatePrices.{plainList, applied, PriceList}
 
 -- 27, by its tests
-pub length-none : (list : List ℕ) → length list ≡ 0 → false ≡ badLength list
+pub length-none : (list : List ℕ) → length list ≡ 0 → false ≡ badListLength list
 length-none list e = rw (eq-eqb (length list) 0 e)
 
-pub length-some : (list : List ℕ) → (length list ≡ 0 → ⊥) → not (eqb (length list) listLength) ≡ badLength list
+pub length-some : (list : List ℕ) → (length list ≡ 0 → ⊥) → not (eqb (length list) listLength) ≡ badListLength list
 length-some list h = rw (ne-eqb (length list) 0 h)
 
 -- a list that 27 passes is empty or of full length
-length-passed : (list : List ℕ) → badLength list ≡ false → (length list ≡ 0) ⊎ (length list ≡ listLength)
+length-passed : (list : List ℕ) → badListLength list ≡ false → (length list ≡ 0) ⊎ (length list ≡ listLength)
 length-passed list f =
     elim (ℕ-discrete (length list) 0) [
       | yes z ↦ inl z
       | no z ↦
           elim (ℕ-discrete (length list) listLength) [
             | yes w ↦ inr w
-            | no w ↦ absurd (true-false (badLength list) (rw (ne-eqb (length list) 0 z, ne-eqb (length list) listLength w)) f)
+            | no w ↦ absurd (true-false (badListLength list) (rw (ne-eqb (length list) 0 z, ne-eqb (length list) listLength w)) f)
           ]
     ]
 
-pub length-short : (list : List ℕ) (b : Bool) → b ≡ badLength list → b ≡ false → length list ≤ listLength
+pub length-short : (list : List ℕ) (b : Bool) → b ≡ badListLength list → b ≡ false → length list ≤ listLength
 length-short list b e f = ⊎-elim (λ z. omega arith) (λ z. omega arith) (length-passed list (sym e ∙ f))
 
 -- 27, then 28
-pub list-refused : (list : List ℕ) (b : Bool) → b ≡ badLength list → b ≡ true → Refused 27 0 ≡ listChecks list
-unfolding listChecks
+pub list-refused : (list : List ℕ) (b : Bool) → b ≡ badListLength list → b ≡ true → Refused 27 0 ≡ priceListChecks list
+unfolding priceListChecks
 list-refused list b e f = cc
 
-pub list-passed : (list : List ℕ) (b : Bool) (a : Checked) → b ≡ badLength list → b ≡ false → a ≡ scan (priceCheck list) 0 (length list) → a ≡ listChecks list
-unfolding listChecks
+pub list-passed : (list : List ℕ) (b : Bool) (a : Checked) → b ≡ badListLength list → b ≡ false → a ≡ scan (priceCheck list) 0 (length list) → a ≡ priceListChecks list
+unfolding priceListChecks
 list-passed list b a e f g = cc
 
-pub list-length : (list : List ℕ) → listChecks list ≡ Passed → (length list ≡ 0) ⊎ (length list ≡ listLength)
-unfolding listChecks
+pub list-length : (list : List ℕ) → priceListChecks list ≡ Passed → (length list ≡ 0) ⊎ (length list ≡ listLength)
+unfolding priceListChecks
 list-length list e =
-    length-passed list (check-passed 27 0 (badLength list) .0 (then-passed (check 27 0 (badLength list)) (scan (priceCheck list) 0 (length list)) .0 e .0))
+    length-passed list (check-passed 27 0 (badListLength list) .0 (then-passed (check 27 0 (badListLength list)) (scan (priceCheck list) 0 (length list)) .0 e .0))
 
 -- 28, position by position
 module _ (list : List ℕ) (n k : ℕ) (s : Scanning (priceCheck list) n k) where
@@ -98,14 +98,14 @@ plain-small x =
     ]
 
 -- the list that applies passes too
-pub applied-passes : (list : List ℕ) → listChecks list ≡ Passed → listChecks (applied list) ≡ Passed
-unfolding listChecks scan
+pub applied-passes : (list : List ℕ) → priceListChecks list ≡ Passed → priceListChecks (applied list) ≡ Passed
+unfolding priceListChecks scan
 applied-passes [] e = refl
 applied-passes (p ∷ ps) e = e
 
 -- the prices below position k are read
 pub record Reading (list prices : List ℕ) (k : ℕ) : Type 0 where
-  pub passes : listChecks list ≡ Passed
+  pub passes : priceListChecks list ≡ Passed
   pub within : k ≤ length list
   pub size : length prices ≡ listLength
   pub small : (x : ℕ) → getD prices x 0 ≤ 255
@@ -113,7 +113,7 @@ pub record Reading (list prices : List ℕ) (k : ℕ) : Type 0 where
   pub after : (x : ℕ) → k ≤ x → getD prices x 0 ≡ getD plainList x 0
 
 module _ (list : List ℕ) where
-  pub read-start : (prices : List ℕ) → listChecks list ≡ Passed → prices ≡ plainList → Reading list prices 0
+  pub read-start : (prices : List ℕ) → priceListChecks list ≡ Passed → prices ≡ plainList → Reading list prices 0
   read-start prices e f =
       rw f record { passes = e; within = omega arith; size = refl; small = plain-small; before = λ x l. absurd (omega arith); after = λ x l. refl }
 
@@ -153,7 +153,7 @@ module _ (list : List ℕ) where
     pub read-end : length list ≤ k → prices ≡ applied list
     read-end l = go list (r .passes) (r .within) l (r .before)
       where
-        go : (m : List ℕ) → listChecks m ≡ Passed → k ≤ length m → length m ≤ k → ((x : ℕ) → x < k → getD prices x 0 ≡ getD m x 0) → prices ≡ applied m
+        go : (m : List ℕ) → priceListChecks m ≡ Passed → k ≤ length m → length m ≤ k → ((x : ℕ) → x < k → getD prices x 0 ≡ getD m x 0) → prices ≡ applied m
         go [] e a b f = ext-getD 0 prices plainList (r .size) (λ x m. r .after x (omega arith))
         go (p ∷ ps) e a b f =
             ⊎-elim (λ z. absurd (omega arith))

@@ -14,11 +14,10 @@ use Rattle.facts.proofs.Sums.{sum-cong, sum-add, sum-scale}
 use Rattle.facts.proofs.Reflect.{same, unlike, both-is}
 use Rattle.facts.proofs.Refusals.{InRow, exact, rows-before, one-row, within-one, first-check, first-then, first-scan, scan-rows}
 use Rattle.netlist.specs.Kinds.{buffer, isGate}
-use Rattle.netlist.specs.Records.{Netlist}
 use Rattle.netlist.specs.Counts.{gates, bufferCount}
 use Rattle.prices.specs.Prices.{listLength, plainPrices, priceOf, junctions, bufferJunctions}
-use Rattle.prices.specs.Checks.{priceCheck, listChecks}
-use Rattle.prices.specs.Promises.{BadLength, ListFails, ListExact, EmptyList}
+use Rattle.prices.specs.Checks.{priceCheck, priceListChecks}
+use Rattle.prices.specs.Promises.{BadListLength, ListFails, ListExact, EmptyList}
 use Rattle.prices.specs.Worked.{PriceTableTrue}
 use Rattle.prices.proofs.Lists.{plain-kind}
 
@@ -33,14 +32,14 @@ zeros-row list = scan-rows (λ p. Fails 28 p (getD list p 0 ≡ 0)) (rowOf 28) 2
 pub list-rows : (list : List ℕ) (n p : ℕ) → ListFails list n p → (rowOf 26 < rowOf n) × (rowOf n ≤ rowOf 28)
 list-rows list n p =
     ⊎-elim
-    (λ f. omega (arith, one-row 27 0 (BadLength list) n p f))
+    (λ f. omega (arith, one-row 27 0 (BadListLength list) n p f))
     (λ f. omega (arith, zeros-row list n p f))
 
-pub list-first : (list : List ℕ) → First (ListFails list) (listChecks list)
-unfolding listChecks
+pub list-first : (list : List ℕ) → First (ListFails list) (priceListChecks list)
+unfolding priceListChecks
 list-first list =
     first-then
-    (rows-before (rowOf 27) (λ n p f. omega (arith, one-row 27 0 (BadLength list) n p f)) (λ n p f. omega (arith, zeros-row list n p f)))
+    (rows-before (rowOf 27) (λ n p f. omega (arith, one-row 27 0 (BadListLength list) n p f)) (λ n p f. omega (arith, zeros-row list n p f)))
     (first-check 27 0 (both-is (unlike (length list) 0) (unlike (length list) listLength)))
     (first-scan (priceCheck list) (λ p. Fails 28 p (getD list p 0 ≡ 0)) (rowOf 28) 28 28 (λ p. within-one 28 p (getD list p 0 ≡ 0)) (length list)
     (λ p l. first-check 28 p (same (getD list p 0) 0)))

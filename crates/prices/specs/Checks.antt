@@ -9,13 +9,13 @@ use Rattle.facts.specs.Checks.{check, _andThen_, scan}
 use Rattle.prices.specs.Prices.{listLength}
 
 -- 27: neither empty nor 11 bytes long
-abbrev pub badLength : List ℕ → Bool
-badLength list = not (eqb (length list) 0) && not (eqb (length list) listLength)
+abbrev pub badListLength : List ℕ → Bool
+badListLength list = not (eqb (length list) 0) && not (eqb (length list) listLength)
 
 -- 28 at position p: a price of 0
 abbrev pub priceCheck : List ℕ → ℕ → Checked
 priceCheck list p = check 28 p (eqb (getD list p 0) 0)
 
 -- 27 and 28
-unfoldable pub listChecks : List ℕ → Checked
-listChecks list = check 27 0 (badLength list) andThen scan (priceCheck list) 0 (length list)
+unfoldable pub priceListChecks : List ℕ → Checked
+priceListChecks list = check 27 0 (badListLength list) andThen scan (priceCheck list) 0 (length list)

@@ -5,7 +5,7 @@ use mathlib.Core.List.{List, [], _∷_}
 use lib.ListN.{length, getD}
 use Rattle.facts.specs.declared.Checked.the-variants.{Passed}
 use Rattle.prices.specs.Prices.{listLength}
-use Rattle.prices.specs.Checks.{listChecks}
+use Rattle.prices.specs.Checks.{priceListChecks}
 
 -- the prices of an empty list, written as a list: six for gates, five for buffers
 abbrev pub plainList : List ℕ
@@ -20,4 +20,4 @@ applied (p ∷ ps) = p ∷ ps
 pub record PriceList (prices : List ℕ) : Type 0 where
   pub size : length prices ≡ listLength
   pub small : (p : ℕ) → getD prices p 0 ≤ 255
-  pub passes : listChecks prices ≡ Passed
+  pub passes : priceListChecks prices ≡ Passed

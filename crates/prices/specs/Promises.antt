@@ -8,19 +8,19 @@ use Rattle.facts.specs.Refusals.{Conditions, Fails, _or_, Each, Exact}
 use Rattle.netlist.specs.Records.{Netlist}
 use Rattle.netlist.specs.Counts.{gates, bufferCount}
 use Rattle.prices.specs.Prices.{listLength, junctions, bufferJunctions}
-use Rattle.prices.specs.Checks.{listChecks}
+use Rattle.prices.specs.Checks.{priceListChecks}
 
 -- 27: neither empty nor 11 bytes long
-abbrev pub BadLength : List ℕ → Type 0
-BadLength list = (length list ≢ 0) × (length list ≢ listLength)
+abbrev pub BadListLength : List ℕ → Type 0
+BadListLength list = (length list ≢ 0) × (length list ≢ listLength)
 
 -- 27 and 28; the place of 28 is the position of a price of 0
 abbrev pub ListFails : List ℕ → Conditions
-ListFails list = Fails 27 0 (BadLength list) or Each (length list) (λ p. Fails 28 p (getD list p 0 ≡ 0))
+ListFails list = Fails 27 0 (BadListLength list) or Each (length list) (λ p. Fails 28 p (getD list p 0 ≡ 0))
 
 -- 27 and 28 are answered exactly where they are the first that fails, and a list is accepted exactly if neither does
 abbrev pub ListExact : Type 0
-ListExact = (list : List ℕ) → Exact (ListFails list) (listChecks list)
+ListExact = (list : List ℕ) → Exact (ListFails list) (priceListChecks list)
 
 -- with an empty list every gate of a netlist costs 6 and every buffer 2
 abbrev pub EmptyList : Type 0

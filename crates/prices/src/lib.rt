@@ -4,7 +4,7 @@ ghost use Prim.Native.Nat.{_≤_};
 ghost use lib.ListN.{length};
 ghost use Rattle.facts.specs.Checks.{scan};
 ghost use Rattle.prices.specs.Prices.{listLength, priceCount, priceStart, priceOf};
-ghost use Rattle.prices.specs.Checks.{badLength, priceCheck, listChecks};
+ghost use Rattle.prices.specs.Checks.{badListLength, priceCheck, priceListChecks};
 ghost use Rattle.prices.specs.PrivatePrices.{plainList, applied, PriceList};
 use facts::Checked;
 use netlist::AND;
@@ -19,8 +19,8 @@ pub const LIST: usize = 11;
 pub const PLAIN: [u32; LIST] = [6, 6, 6, 6, 6, 6, 2, 2, 2, 2, 2];
 
 // Check 27: neither empty nor 11 bytes long.
-fn bad_length(list: &[u8]) -> bool
-    ensures { λ b. ⌜ b ≡ badLength (now (list .entry)) ⌝ }
+fn bad_list_length(list: &[u8]) -> bool
+    ensures { λ b. ⌜ b ≡ badListLength (now (list .entry)) ⌝ }
 {
     if list.len() == 0 {
         return false;
@@ -46,9 +46,9 @@ fn check_prices(list: &[u8]) -> Checked
 
 // Checks 27 and 28.
 pub fn check_list(list: &[u8]) -> Checked
-    ensures { λ a. ⌜ a ≡ listChecks (now (list .entry)) ⌝ }
+    ensures { λ a. ⌜ a ≡ priceListChecks (now (list .entry)) ⌝ }
 {
-    if bad_length(list) {
+    if bad_list_length(list) {
         return Checked::Refused(27, 0);
     }
     check_prices(list)
@@ -56,7 +56,7 @@ pub fn check_list(list: &[u8]) -> Checked
 
 // The prices of a list into an array that holds those of the empty list.
 pub fn read_prices(list: &[u8], prices: &mut [u32; LIST])
-    requires { ⌜ listChecks (now list) ≡ Checked.Passed ⌝ }
+    requires { ⌜ priceListChecks (now list) ≡ Checked.Passed ⌝ }
     requires { ⌜ now prices ≡ plainList ⌝ }
     ensures { λ _. ⌜ now (prices .exit) ≡ applied (now (list .entry)) ⌝ }
     ensures { λ _. ⌜ PriceList (now (prices .exit)) ⌝ }

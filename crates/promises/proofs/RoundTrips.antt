@@ -19,7 +19,7 @@ use Rattle.strip.specs.Sources.{SourceOf}
 use Rattle.strip.specs.Answer.{stripArea}
 use Rattle.strip.proofs.Promises.{strip-accepts, strip-writes}
 use Rattle.mapper.specs.Mapped.{mappedSize}
-use Rattle.prices.specs.Checks.{listChecks}
+use Rattle.prices.specs.Checks.{priceListChecks}
 use Rattle.mapper.specs.Answer.{mapAnswer, answerOf}
 use Rattle.mapper.proofs.Answering.{map-passed}
 use Rattle.promises.specs.Written.{Maps, written}
@@ -35,7 +35,7 @@ strip-mapped source caps list area back bytes maps room =
     )
 
 -- where the verifier accepts another netlist, an area as long as that is enough
-maps-within : (source : List ℕ) (caps : Capacities) (other list area : List ℕ) → SourceOf caps other source → listChecks list ≡ Passed →
+maps-within : (source : List ℕ) (caps : Capacities) (other list area : List ℕ) → SourceOf caps other source → priceListChecks list ≡ Passed →
     length other ≤ length area → Maps source caps list area
 unfolding mapAnswer
 maps-within source caps other list area s l room =

@@ -13,7 +13,7 @@ use Rattle.netlist.specs.Counts.{bufferCount}
 use Rattle.verifier.specs.Fewest.{NoMore}
 use Rattle.strip.specs.declared.Stripped.the-variants.{Records}
 use Rattle.strip.specs.Answer.{stripAnswer, stripArea}
-use Rattle.prices.specs.Checks.{listChecks}
+use Rattle.prices.specs.Checks.{priceListChecks}
 use Rattle.mapper.specs.Answer.{mapAnswer}
 use Rattle.promises.specs.Written.{Maps, written}
 
@@ -38,5 +38,5 @@ pub record MapsNoWorse (source : List ℕ) (caps : Capacities) (list area other 
 abbrev pub MapStripped : Type 0
 MapStripped =
     (caps : Capacities) (mapped source : List ℕ) (size : ℕ) (list area : List ℕ) →
-    stripAnswer caps mapped source ≡ Records size → listChecks list ≡ Passed → length mapped ≤ length area →
+    stripAnswer caps mapped source ≡ Records size → priceListChecks list ≡ Passed → length mapped ≤ length area →
     MapsNoWorse (strippedSource caps mapped source size) caps list area mapped

@@ -4,8 +4,8 @@ use borrow.Author.Needs.{needs}
 use Rattle.prices.proofs.check_list.Statement.{statement}
 use Rattle.prices.proofs.check_list.Tie as tie
 
-bad-length-requires : tie.Need-bad-length-requires
-bad-length-requires c κs = search needs
+bad-list-length-requires : tie.Need-bad-list-length-requires
+bad-list-length-requires c κs = search needs
 
 returns : tie.Need-returns
 returns c = search list-refused
@@ -17,4 +17,4 @@ returns-2 : tie.Need-returns-2
 returns-2 c = search list-passed
 
 pub check-list-spec : {M : Type 1} → statement M
-check-list-spec = tie.close (tie.spec bad-length-requires returns check-prices-requires returns-2)
+check-list-spec = tie.close (tie.spec bad-list-length-requires returns check-prices-requires returns-2)
