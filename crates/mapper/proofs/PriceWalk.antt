@@ -1,44 +1,56 @@
 -- Laws of pricing as the code does it: one distance of a tree, a tree, a line, a driver, and the sums over all of them.
-use Prim.Native.Nat.{ℕ, suc, _+_, _-_, _*_, _/_, _%_, _≤_, _<_}
+use Prim.Native.Nat.{ℕ, zero, suc, _+_, _-_, _*_, _/_, _%_, _≤_, _<_}
 use mathlib.Core.Path.{_≡_, refl, sym, _∙_, ap, ap₂, subst}
-use mathlib.Core.Bool.{Bool, true, false}
+use mathlib.Core.Bool.{Bool, true, false, cond}
 use mathlib.Core.List.{List}
 use native.Mathlib.Omega.{arith}
-use native.Mathlib.Nat.{div-add-mod, div-le-self, zero-div, zero-mod, div-eq-of-lt, mod-eq-of-lt, mul-le-mul-left, mul-suc, mul-comm, add-sub-of-le}
+use native.Mathlib.Nat.{div-add-mod, div-le-self, zero-div, zero-mod, div-eq-of-lt, mod-eq-of-lt, mul-le-mul-left, mul-suc, mul-comm, add-sub-of-le, mod-lt, mul-zero}
+use native.Mathlib.Numerals.{add-one}
 use native.Mathlib.Decide.{decLt, ℕ-discrete}
 use mir.Val.{Fits}
 use mir.Syntax.{w32}
 use lib.ListN.{getD, drop}
 use lib.Seq.{getD-drop}
-use lib.Dec.{ltb, eqb}
-use borrow.Author.Tests.{lt-ltb, le-ltb, eq-eqb, ne-eqb, eqb-true}
+use lib.Dec.{ltb, leb, eqb}
+use borrow.Author.Tests.{lt-ltb, le-ltb, leb-true, eq-eqb, ne-eqb, eqb-true}
 use Rattle.facts.specs.Sums.{bit, sum, count}
-use Rattle.facts.proofs.Sums.{sum-cong, sum-add, sum-const, sum-scale, sum-none, sum-append, sum-last, sum-more, term-le, bit-le, bit-other, count-cong, count-one, count-none}
+use Rattle.facts.proofs.Sums.{sum-cong, sum-add, sum-const, sum-scale, sum-none, sum-append, sum-last, sum-more, term-le, bit-le, bit-other, count-cong, count-one, count-none, count-le}
+use Rattle.facts.proofs.Bools.{and-l, and-r}
 use Rattle.facts.proofs.Blocks.{block-before}
 use Rattle.netlist.specs.declared.Capacities.{Capacities}
-use Rattle.netlist.specs.Kinds.{topLevel, mappedLimit, buffer}
+use Rattle.netlist.specs.Kinds.{topLevel, sourceLimit, mappedLimit, and, or, buffer, isGate}
 use Rattle.netlist.specs.Records.{Netlist}
 use Rattle.netlist.specs.Source.{IsSource}
-use Rattle.fanout.specs.Nets.{row, sinks, nodesAt, buffersAt, treeSize}
-use Rattle.fanout.proofs.Nets.{le-up, fewest-sum, nodes-at, nodes-none, row-length}
+use Rattle.netlist.specs.Counts.{gates}
+use Rattle.netlist.proofs.Source.{no-buffer}
+use Rattle.fanout.specs.Nets.{up, row, sinks, nodesAt, buffersAt, treeSize}
+use Rattle.fanout.proofs.Nets.{up-whole, up-part, le-up, fewest-sum, nodes-at, nodes-none, row-length}
 use Rattle.fanout.proofs.Rows.{row-none}
-use Rattle.nets.specs.PrivateChains.{Chained, ShortChain}
+use Rattle.nets.specs.PrivateChains.{slotEnd, nextSink, Chained, ShortChain}
 use Rattle.nets.proofs.Lines.{line-at, line-nodes}
 use Rattle.prices.specs.Prices.{priceOf}
 use Rattle.prices.specs.PrivatePrices.{PriceList}
+use Rattle.prices.proofs.Lists.{no-price}
 use Rattle.mapper.specs.PrivateWriting.{Ready}
-use Rattle.mapper.specs.PrivatePricing.{restPrice, levelPrice, treePrice, linePrice, driverPrice, NodesCounted}
+use Rattle.mapper.specs.PrivatePricing.{restPrice, levelPrice, treePrice, linePrice, driverPrice, sameBuffers, bothAre, sameGates, NodesCounted}
 use Rattle.mapper.proofs.Nodes.{pos}
 use Rattle.mapper.proofs.NetPrices.{tree-small, trees-small, drivers-small}
 
 -- what is left of a distance
-pub rest-none : (prices : List ℕ) (rest : ℕ) → rest ≡ 0 → 0 ≡ restPrice prices rest
-unfolding restPrice
-rest-none prices rest e = sym (rw (eq-eqb rest 0 e) refl)
+module _ (prices : List ℕ) (rest b x : ℕ) (e : b ≡ bit (ltb 0 rest)) where
+  pub rest-small : x ≤ 255 → b * x ≤ 255
+  rest-small l = omega (arith, mul-le-mul-left {m = b} {n = 1} x (omega (arith, bit-le (ltb 0 rest))), mul-comm b x, mul-comm x 1)
 
-pub rest-some : (prices : List ℕ) (rest x : ℕ) → (rest ≡ 0 → ⊥) → x ≡ priceOf prices buffer rest → x ≡ restPrice prices rest
-unfolding restPrice
-rest-some prices rest x h e = e ∙ sym (rw (ne-eqb rest 0 h) refl)
+  pub rest-fits : x ≤ 255 → Fits w32 (b * x)
+  rest-fits l = omega (arith, rest-small l)
+
+  pub rest-is : x ≡ priceOf prices buffer rest → b * x ≡ restPrice prices rest
+  unfolding restPrice
+  rest-is f =
+      elim (ℕ-discrete rest 0) [
+        | yes z ↦ (let n : b ≡ 0 = omega (arith, ap bit (le-ltb 0 rest (omega arith))) in rw (n, eq-eqb rest 0 z) (omega arith))
+        | no z ↦ (let n : b ≡ 1 = omega (arith, ap bit (lt-ltb 0 rest (omega arith))) in rw (n, ne-eqb rest 0 z) (omega arith))
+      ]
 
 -- the buffers one level below n nodes
 module _ (s n full : ℕ) (e : full ≡ n / s) where
@@ -165,6 +177,54 @@ module _ (prices : List ℕ) (n : Netlist) (caps : Capacities) (d top : ℕ) (co
         ∙ sym (sum-stop below (t .i) topLevel (t .within) (λ i b.
         ap (levelPrice prices (caps .buffer)) (h .beyond (suc (suc i)) (omega (arith, t .at))) ∙ level-none prices (caps .buffer)))
 
+-- where all buffers that feed a slot cost the same, a tree costs that for each
+module _ (prices : List ℕ) (h : sameBuffers prices ≡ true) where
+  abbrev price : ℕ
+  price = priceOf prices buffer 1
+
+  same-at : (fed : ℕ) → 1 ≤ fed → fed ≤ 4 → priceOf prices buffer fed ≡ price
+  unfolding sameBuffers
+  same-at zero a b = absurd (omega arith)
+  same-at (suc zero) a b = refl
+  same-at (suc (suc zero)) a b = sym (eqb-true _ _ (and-l (eqb price (priceOf prices buffer 2)) _ h))
+  same-at (suc (suc (suc zero))) a b =
+      sym (eqb-true _ _ (and-l (eqb price (priceOf prices buffer 3)) _ (and-r (eqb price (priceOf prices buffer 2)) _ h)))
+  same-at (suc (suc (suc (suc zero)))) a b =
+      sym (eqb-true _ _ (and-r (eqb price (priceOf prices buffer 3)) _ (and-r (eqb price (priceOf prices buffer 2)) _ h)))
+  same-at (suc (suc (suc (suc (suc fed))))) a b = absurd (omega arith)
+
+  same-level : (s m : ℕ) → 2 ≤ s → s ≤ 4 → levelPrice prices s m ≡ price * up s m
+  unfolding levelPrice restPrice
+  same-level s m a b = rw (same-at s (omega arith) b) (go (ℕ-discrete (m % s) 0))
+    where
+      go : Dec (m % s ≡ 0) → m / s * price + cond (eqb (m % s) 0) 0 (priceOf prices buffer (m % s)) ≡ price * up s m
+      go (yes e) = rw (eq-eqb (m % s) 0 e, up-whole s m (omega arith) e) (omega (arith, mul-comm (m / s) price))
+      go (no e) =
+          rw (ne-eqb (m % s) 0 e, up-part s m (omega arith) (omega arith), same-at (m % s) (omega arith) (omega (arith, mod-lt m {m = s} (omega arith))), add-one (m / s))
+          (omega (arith, mul-suc price (m / s), mul-comm (m / s) price))
+
+  same-tree : (n : Netlist) (caps : Capacities) (d : ℕ) → Ready n caps → treePrice prices n caps d ≡ price * treeSize n caps d
+  unfolding treePrice
+  same-tree n caps d r =
+      sum-cong _ _ topLevel (λ k l. same-level (caps .buffer) (nodesAt (caps .buffer) (row n d) (suc (suc k))) (r .allowed .low) (r .allowed .high))
+      ∙ sum-scale price (λ k. buffersAt (caps .buffer) (row n d) (suc k)) topLevel
+      ∙ ap (λ (x : ℕ). price * x) (sym (fewest-sum (caps .buffer) (row n d) topLevel (pos n caps r) (omega (arith, row-length n d))))
+
+module _ (prices : List ℕ) (n : Netlist) (caps : Capacities) (d top : ℕ) (counts : List ℕ) (h : NodesCounted n caps d counts top) (size : ℕ)
+    (e : size ≡ treeSize n caps d) where
+  few : size ≤ mappedLimit
+  few = omega (arith, h .ready .fits, block-before (treeSize n caps) d (n .size) (h .driver))
+
+  pub size-fits : Fits w32 size
+  size-fits = omega (arith, few)
+
+  pub same-fits : (x : ℕ) → x ≤ 255 → Fits w32 (size * x)
+  same-fits x l = omega (arith, few, mul-le-mul-left {m = x} {n = 255} size l, mul-comm size 255)
+
+  pub same-is : (b : Bool) (x : ℕ) → b ≡ sameBuffers prices → b ≡ true → x ≡ priceOf prices buffer 1 → size * x ≡ treePrice prices n caps d
+  same-is b x f g k =
+      ap₂ _*_ e k ∙ mul-comm (treeSize n caps d) (priceOf prices buffer 1) ∙ sym (same-tree prices (sym f ∙ g) n caps d (h .ready))
+
 -- a line of buffers
 module _ (prices : List ℕ) (p : PriceList prices) (n other : ℕ) (near : n < topLevel) (behind : other ≤ n + 1) (pairs : ℕ) (e : pairs ≡ bit (ltb 1 other)) where
   pub line-pairs : pairs ≤ n
@@ -288,6 +348,55 @@ pub driver-is : (prices : List ℕ) (n : Netlist) (first next : List ℕ) (end d
 unfolding driverPrice
 driver-is prices n first next end d p kind fed x h l e f g k =
     k ∙ ap₂ (priceOf prices) g (f ∙ ap₂ (λ (a b : ℕ). bit (ltb a b)) (e ∙ h .firsts d l) (h .stop))
+
+-- where all gates cost the same, a source's records cost that for each gate
+module _ (prices : List ℕ) (p : ℕ) (h : sameGates prices p ≡ true) where
+  both-prices : (kind fed : ℕ) → bothAre prices p kind ≡ true → fed ≤ 1 → priceOf prices kind fed ≡ p
+  unfolding bothAre
+  both-prices kind zero b l = sym (eqb-true _ _ (and-l (eqb p (priceOf prices kind 0)) _ b))
+  both-prices kind (suc zero) b l = sym (eqb-true _ _ (and-r (eqb p (priceOf prices kind 0)) _ b))
+  both-prices kind (suc (suc fed)) b l = absurd (omega arith)
+
+  gate-both : (kind : ℕ) → 1 ≤ kind → kind ≤ 3 → bothAre prices p kind ≡ true
+  unfolding sameGates
+  gate-both zero a b = absurd (omega arith)
+  gate-both (suc zero) a b = and-l (bothAre prices p and) _ h
+  gate-both (suc (suc zero)) a b = and-l (bothAre prices p or) _ (and-r (bothAre prices p and) _ h)
+  gate-both (suc (suc (suc zero))) a b = and-r (bothAre prices p or) _ (and-r (bothAre prices p and) _ h)
+  gate-both (suc (suc (suc (suc kind)))) a b = absurd (omega arith)
+
+  same-driver : (n : Netlist) (d : ℕ) → IsSource n → d < n .size → driverPrice prices n d ≡ p * bit (isGate (n .at d .kind))
+  unfolding driverPrice
+  same-driver n d s l = go (isGate (n .at d .kind)) refl
+    where
+      kind : ℕ
+      kind = n .at d .kind
+
+      go : (b : Bool) → isGate kind ≡ b → priceOf prices kind (bit (ltb (nextSink n d 0) (slotEnd n))) ≡ p * bit b
+      go true g =
+          both-prices kind _ (gate-both kind (leb-true 1 kind (and-l (leb 1 kind) _ g)) (leb-true kind 3 (and-r (leb 1 kind) _ g))) (bit-le (ltb (nextSink n d 0) (slotEnd n))) ∙ omega arith
+      go false g = no-price prices kind _ g (ne-eqb kind buffer (no-buffer n s d l refl)) ∙ omega (arith, mul-zero p)
+
+pub gates-same : (prices : List ℕ) (n : Netlist) (N p g : ℕ) (b : Bool) → IsSource n → N ≡ n .size → b ≡ sameGates prices p → b ≡ true →
+    g ≡ gates n → g * p ≡ sum (driverPrice prices n) N
+unfolding gates count
+gates-same prices n N p g b s e f t k =
+    ap (λ (x : ℕ). x * p) k
+    ∙ mul-comm _ p
+    ∙ sym (sum-scale p (λ d. bit (isGate (n .at d .kind))) (n .size))
+    ∙ sym (sum-cong _ _ (n .size) (λ d l. same-driver prices p (sym f ∙ t) n d s l))
+    ∙ ap (sum (driverPrice prices n)) (sym e)
+
+module _ (n : Netlist) (s : IsSource n) (g : ℕ) (e : g ≡ gates n) where
+  few-gates : g ≤ sourceLimit
+  unfolding gates
+  few-gates = omega (arith, count-le (λ k. isGate (n .at k .kind)) (n .size), s .few)
+
+  pub gates-cast : Fits w32 g
+  gates-cast = omega (arith, few-gates)
+
+  pub gates-fits : (p : ℕ) → p ≤ 255 → Fits w32 (g * p)
+  gates-fits p l = omega (arith, few-gates, mul-le-mul-left {m = p} {n = 255} g l, mul-comm g 255)
 
 -- the drivers below d are priced
 pub record DriversPriced (prices : List ℕ) (n : Netlist) (total d : ℕ) : Type 0 where

@@ -80,6 +80,13 @@ module _ (n : Netlist) (caps : Capacities) (d at : ℕ) (first next : List ℕ) 
   next-start : at + treeSize n caps d ≡ blockStart n caps (d + 1)
   next-start = omega (arith, w .start, sum-last (treeSize n caps) d)
 
+  -- the buffers between two blocks' starts are its own
+  pub net-behind : (after : ℕ) → after ≡ blockStart n caps (d + 1) → at ≤ after
+  net-behind after e = omega (arith, next-start)
+
+  pub net-size : (after : ℕ) → after ≡ blockStart n caps (d + 1) → after - at ≡ treeSize n caps d
+  net-size after e = omega (arith, next-start)
+
   pub wrote : (after : ℕ) (next′ counts′ base′ area′ : List ℕ) → after ≡ blockStart n caps (d + 1) → counts′ ≡ replicate (suc topLevel) 0 →
       length base′ ≡ suc topLevel → ParentsWritten n d (onParent n caps) next next′ → area′ ≡ withRecords (mapped n caps) at (treeSize n caps d) area →
       Wrote n caps d at first next′ end counts′ base′ area area′ after

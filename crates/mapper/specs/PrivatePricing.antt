@@ -1,12 +1,12 @@
 -- For private functions alone: a mapped netlist priced net by net, from the nodes of each tree.
 use Prim.Native.Nat.{ℕ, suc, _+_, _-_, _*_, _/_, _%_, _≤_, _<_}
 use mathlib.Core.Path.{_≡_}
-use mathlib.Core.Bool.{cond}
+use mathlib.Core.Bool.{Bool, cond, _&&_}
 use mathlib.Core.List.{List}
 use lib.Dec.{ltb, eqb}
 use Rattle.facts.specs.Sums.{bit, sum}
 use Rattle.netlist.specs.declared.Capacities.{Capacities}
-use Rattle.netlist.specs.Kinds.{topLevel, buffer}
+use Rattle.netlist.specs.Kinds.{topLevel, and, or, majority, buffer}
 use Rattle.netlist.specs.Records.{Netlist}
 use Rattle.fanout.specs.Nets.{row, nodesAt}
 use Rattle.nets.specs.PrivateChains.{slotEnd, nextSink}
@@ -33,6 +33,19 @@ linePrice prices buffers other =
 -- driver d: a gate feeds one slot if it has a sink, else none
 unfoldable pub driverPrice : List ℕ → Netlist → ℕ → ℕ
 driverPrice prices n d = priceOf prices (n .at d .kind) (bit (ltb (nextSink n d 0) (slotEnd n)))
+
+-- whether all buffers that feed a slot cost the same, and whether all gates do
+unfoldable pub sameBuffers : List ℕ → Bool
+sameBuffers prices =
+    eqb (priceOf prices buffer 1) (priceOf prices buffer 2)
+    && (eqb (priceOf prices buffer 1) (priceOf prices buffer 3) && eqb (priceOf prices buffer 1) (priceOf prices buffer 4))
+
+-- both prices of a kind are p
+unfoldable pub bothAre : List ℕ → ℕ → ℕ → Bool
+bothAre prices p kind = eqb p (priceOf prices kind 0) && eqb p (priceOf prices kind 1)
+
+unfoldable pub sameGates : List ℕ → ℕ → Bool
+sameGates prices p = bothAre prices p and && (bothAre prices p or && bothAre prices p majority)
 
 -- d's tree to be priced: the row holds its nodes, none of them beyond top
 pub record NodesCounted (n : Netlist) (caps : Capacities) (d : ℕ) (counts : List ℕ) (top : ℕ) : Type 0 where

@@ -4,12 +4,16 @@ ghost use Prim.Native.Nat.{_+_, _*_, _<_, _≤_};
 ghost use Rattle.facts.specs.Sums.{sum};
 ghost use Rattle.netlist.specs.Kinds.{mappedLimit, topLevel, buffer};
 ghost use Rattle.netlist.specs.Records.{netlist, recordCount};
+ghost use Rattle.fanout.specs.Nets.{treeSize};
 ghost use Rattle.nets.specs.PrivateChains.{Chained};
 ghost use Rattle.prices.specs.PrivatePrices.{PriceList};
-ghost use Rattle.mapper.specs.PrivatePricing.{restPrice, levelPrice, treePrice, linePrice, driverPrice, NodesCounted};
+ghost use Rattle.mapper.specs.PrivatePricing.{restPrice, levelPrice, treePrice, linePrice, driverPrice, sameBuffers, bothAre, sameGates, NodesCounted};
 use fanout::DISTANCES;
+use netlist::AND;
 use netlist::BUFFER;
 use netlist::Capacities;
+use netlist::MAJORITY;
+use netlist::OR;
 use nets::numbers;
 use prices::LIST;
 
@@ -18,10 +22,7 @@ fn price_rest(prices: &[u32; LIST], rest: u32) -> u32
     requires { ⌜ PriceList (now prices) ⌝ }
     ensures { λ r. ⌜ (r ≡ restPrice (now (prices .entry)) rest) × (r ≤ 255) ⌝ }
 {
-    if rest == 0 {
-        return 0;
-    }
-    prices::price_of(prices, BUFFER, rest as usize)
+    numbers::one_if(0 < rest) * prices::price_of(prices, BUFFER, rest as usize)
 }
 
 // The buffers one level below n nodes: each feeds s of them, and one more the rest.
@@ -36,8 +37,20 @@ fn price_level(prices: &[u32; LIST], s: u32, n: u32) -> u32
     full * prices::price_of(prices, BUFFER, s as usize) + price_rest(prices, rest)
 }
 
-// The buffers of d's tree, whose nodes the row counts.
-pub(crate) fn price_tree(
+// Whether all buffers that feed a slot cost the same.
+fn same_buffers(prices: &[u32; LIST]) -> bool
+    requires { ⌜ PriceList (now prices) ⌝ }
+    ensures { λ b. ⌜ b ≡ sameBuffers (now (prices .entry)) ⌝ }
+{
+    let one = prices::price_of(prices, BUFFER, 1);
+    let two = one == prices::price_of(prices, BUFFER, 2);
+    let three = one == prices::price_of(prices, BUFFER, 3);
+    let four = one == prices::price_of(prices, BUFFER, 4);
+    two & (three & four)
+}
+
+// The buffers of d's tree, distance by distance: the row counts its nodes.
+fn price_distances(
     source: &[u8],
     capacities: Capacities,
     d: usize,
@@ -56,6 +69,27 @@ pub(crate) fn price_tree(
         k += 1;
     }
     total
+}
+
+// The buffers of d's tree, so many: where all cost the same, the distances are not looked at.
+pub(crate) fn price_tree(
+    source: &[u8],
+    capacities: Capacities,
+    d: usize,
+    size: usize,
+    top: usize,
+    row: &[u32; DISTANCES],
+    prices: &[u32; LIST],
+) -> u32
+    requires { ⌜ NodesCounted (netlist (now source)) capacities d (now row) top ⌝ }
+    requires { ⌜ size ≡ treeSize (netlist (now source)) capacities d ⌝ }
+    requires { ⌜ PriceList (now prices) ⌝ }
+    ensures { λ r. ⌜ r ≡ treePrice (now (prices .entry)) (netlist (now (source .entry))) capacities d ⌝ }
+{
+    if same_buffers(prices) {
+        return size as u32 * prices::price_of(prices, BUFFER, 1);
+    }
+    price_distances(source, capacities, d, top, row, prices)
 }
 
 // A line of n buffers: the one below the other sink feeds two slots, each other one.
@@ -87,8 +121,29 @@ fn price_driver(
     prices::price_of(prices, netlist::kind_at(source, d), fed)
 }
 
-// All drivers of a source: its gates.
-pub(crate) fn price_gates(
+// Whether both prices of a kind are p.
+fn both_are(prices: &[u32; LIST], p: u32, kind: u8) -> bool
+    requires { ⌜ PriceList (now prices) ⌝ }
+    ensures { λ b. ⌜ b ≡ bothAre (now (prices .entry)) p kind ⌝ }
+{
+    let none = p == prices::price_of(prices, kind, 0);
+    let one = p == prices::price_of(prices, kind, 1);
+    none & one
+}
+
+// Whether all gates cost p.
+fn same_gates(prices: &[u32; LIST], p: u32) -> bool
+    requires { ⌜ PriceList (now prices) ⌝ }
+    ensures { λ b. ⌜ b ≡ sameGates (now (prices .entry)) p ⌝ }
+{
+    let a = both_are(prices, p, AND);
+    let b = both_are(prices, p, OR);
+    let c = both_are(prices, p, MAJORITY);
+    a & (b & c)
+}
+
+// All drivers of a source one by one: its gates.
+fn price_drivers(
     source: &[u8],
     n: usize,
     end: usize,
@@ -108,4 +163,25 @@ pub(crate) fn price_gates(
         d += 1;
     }
     total
+}
+
+// All drivers of a source: where all gates cost the same, their sinks are not looked at.
+pub(crate) fn price_gates(
+    source: &[u8],
+    n: usize,
+    end: usize,
+    first: &[u16],
+    next: &[u16],
+    prices: &[u32; LIST],
+) -> u32
+    requires { ⌜ Chained (netlist (now source)) (now first) (now next) 0 end ⌝ }
+    requires { ⌜ n ≡ recordCount (now source) ⌝ }
+    requires { ⌜ PriceList (now prices) ⌝ }
+    ensures { λ r. ⌜ r ≡ sum (driverPrice (now (prices .entry)) (netlist (now (source .entry)))) n ⌝ }
+{
+    let p = prices::price_of(prices, AND, 0);
+    if same_gates(prices, p) {
+        return netlist::count_gates(source) as u32 * p;
+    }
+    price_drivers(source, n, end, first, next, prices)
 }

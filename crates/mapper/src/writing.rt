@@ -152,21 +152,23 @@ fn count_buffers(
     reach.far
 }
 
-// The price of d's tree, by its row of nodes; then the row is all zero again.
+// The price of d's tree, which has so many buffers, by its row of nodes; then the row is all zero again.
 fn price_row(
     source: &[u8],
     capacities: Capacities,
     d: usize,
+    size: usize,
     top: usize,
     row: &mut [u32; DISTANCES],
     prices: &[u32; LIST],
 ) -> u32
     requires { ⌜ NodesCounted (netlist (now source)) capacities d (now row) top ⌝ }
+    requires { ⌜ size ≡ treeSize (netlist (now source)) capacities d ⌝ }
     requires { ⌜ PriceList (now prices) ⌝ }
     ensures { λ r. ⌜ r ≡ treePrice (now (prices .entry)) (netlist (now (source .entry))) capacities d ⌝ }
     ensures { λ _. ⌜ now (row .exit) ≡ replicate (suc topLevel) 0 ⌝ }
 {
-    let price = pricing::price_tree(source, capacities, d, top, row, prices);
+    let price = pricing::price_tree(source, capacities, d, size, top, row, prices);
     clear_row(top, row);
     price
 }
@@ -195,7 +197,7 @@ fn write_tree(
     set_parents(source, capacities, end, first, next, d, base, row);
     NetBlock {
         end: after,
-        price: price_row(source, capacities, d, top, row, prices),
+        price: price_row(source, capacities, d, after - start, top, row, prices),
     }
 }
 

@@ -1,48 +1,42 @@
--- `price_gates` meets its contract: the drivers below d are priced.
-use Prim.Native.Nat.{_-_}
-use Rattle.netlist.specs.Records.{netlist}
-use Rattle.mapper.proofs.PriceWalk.{DriversPriced, drivers-start, drivers-fits, drivers-more, drivers-end}
+-- `price_gates` meets its contract: one price for all gates, or one by one.
+use Rattle.mapper.proofs.PriceWalk.{gates-same, gates-cast, gates-fits}
 use borrow.Author.Needs.{needs}
 use Rattle.mapper.proofs.pricing.price_gates.Statement.{statement}
 use Rattle.mapper.proofs.pricing.price_gates.Tie as tie
 
-abbrev Inv-loop : tie.InvT-loop
-Inv-loop source n end first next prices total₀ d₀ total d = DriversPriced prices (netlist source) total d
+price-of-requires : tie.Need-price-of-requires
+price-of-requires c κs = search needs
 
-abbrev μ-loop : tie.MeasureT-loop
-μ-loop source n end first next prices total₀ d₀ total d = n - d
+same-gates-requires : tie.Need-same-gates-requires
+same-gates-requires c κs = search needs
 
-loop-holds : tie.Need-loop-holds Inv-loop μ-loop
-loop-holds c = search drivers-start
+count-gates-requires : tie.Need-count-gates-requires
+count-gates-requires c κs = search needs
 
-price-driver-requires : tie.Need-price-driver-requires Inv-loop μ-loop
-price-driver-requires c κs = (search needs, (search needs, search needs))
+cast-result : tie.Need-cast-result
+cast-result c = search gates-cast
 
-add-total : tie.Need-add-total Inv-loop μ-loop
-add-total c = search drivers-fits
+mul-result : tie.Need-mul-result
+mul-result c = search gates-fits
 
-add-d : tie.Need-add-d Inv-loop μ-loop
-add-d c = search needs
+returns : tie.Need-returns
+returns c = search gates-same
 
-loop-less : tie.Need-loop-less Inv-loop μ-loop
-loop-less c = search needs
+price-drivers-requires : tie.Need-price-drivers-requires
+price-drivers-requires c κs = search needs
 
-loop-again : tie.Need-loop-again Inv-loop μ-loop
-loop-again c = search drivers-more
-
-returns : tie.Need-returns Inv-loop μ-loop
-returns c = search drivers-end
+returns-2 : tie.Need-returns-2
+returns-2 c = search needs
 
 pub price-gates-spec : {M : Type 1} → statement M
 price-gates-spec =
     tie.close
     (tie.spec
-    Inv-loop
-    μ-loop
-    loop-holds
-    price-driver-requires
-    add-total
-    add-d
-    loop-less
-    loop-again
-    returns)
+    price-of-requires
+    same-gates-requires
+    count-gates-requires
+    cast-result
+    mul-result
+    returns
+    price-drivers-requires
+    returns-2)

@@ -1,56 +1,38 @@
--- `price_tree` meets its contract: the distances below k are priced.
-use Prim.Native.Nat.{suc, _-_}
-use Rattle.netlist.specs.Records.{netlist}
-use Rattle.mapper.proofs.PriceWalk.{TreePricing, pricing-start, pricing-nodes, pricing-fits, pricing-more, pricing-end}
+-- `price_tree` meets its contract: one price for all buffers, or distance by distance.
+use Rattle.mapper.proofs.PriceWalk.{size-fits, same-fits, same-is}
 use borrow.Author.Needs.{needs}
 use Rattle.mapper.proofs.pricing.price_tree.Statement.{statement}
 use Rattle.mapper.proofs.pricing.price_tree.Tie as tie
 
-abbrev Inv-loop : tie.InvT-loop
-Inv-loop source capacities d top row prices total₀ k₀ total k = TreePricing prices (netlist source) capacities d total k
+same-buffers-requires : tie.Need-same-buffers-requires
+same-buffers-requires c κs = search needs
 
-abbrev μ-loop : tie.MeasureT-loop
-μ-loop source capacities d top row prices total₀ k₀ total k = suc top - k
+cast-result : tie.Need-cast-result
+cast-result c = search size-fits
 
-loop-holds : tie.Need-loop-holds Inv-loop μ-loop
-loop-holds c = search pricing-start
+price-of-requires : tie.Need-price-of-requires
+price-of-requires c κs = search needs
 
-mul-price-level : tie.Need-mul-price-level Inv-loop μ-loop
-mul-price-level c = search needs
+mul-result : tie.Need-mul-result
+mul-result c = search same-fits
 
-element-copy-out-price-level : tie.Need-element-copy-out-price-level Inv-loop μ-loop
-element-copy-out-price-level c = search needs
+returns : tie.Need-returns
+returns c = search same-is
 
-price-level-requires : tie.Need-price-level-requires Inv-loop μ-loop
-price-level-requires c κs = (search needs, (search needs, search pricing-nodes))
+price-distances-requires : tie.Need-price-distances-requires
+price-distances-requires c κs = search needs
 
-add-total : tie.Need-add-total Inv-loop μ-loop
-add-total c = search pricing-fits
-
-add-k : tie.Need-add-k Inv-loop μ-loop
-add-k c = search needs
-
-loop-less : tie.Need-loop-less Inv-loop μ-loop
-loop-less c = search needs
-
-loop-again : tie.Need-loop-again Inv-loop μ-loop
-loop-again c = search pricing-more
-
-returns : tie.Need-returns Inv-loop μ-loop
-returns c = search pricing-end
+returns-2 : tie.Need-returns-2
+returns-2 c = search needs
 
 pub price-tree-spec : {M : Type 1} → statement M
 price-tree-spec =
     tie.close
     (tie.spec
-    Inv-loop
-    μ-loop
-    loop-holds
-    mul-price-level
-    element-copy-out-price-level
-    price-level-requires
-    add-total
-    add-k
-    loop-less
-    loop-again
-    returns)
+    same-buffers-requires
+    cast-result
+    price-of-requires
+    mul-result
+    returns
+    price-distances-requires
+    returns-2)

@@ -1,5 +1,5 @@
 -- `write_tree` meets its contract: what each step leaves is what the next one asks.
-use Rattle.mapper.proofs.WriteNets.{wrote}
+use Rattle.mapper.proofs.WriteNets.{net-behind, net-size, wrote}
 use borrow.Author.Needs.{needs}
 use Rattle.mapper.proofs.writing.write_tree.Statement.{statement}
 use Rattle.mapper.proofs.writing.write_tree.Tie as tie
@@ -13,8 +13,21 @@ write-buffers-requires c κs = (search needs, (search needs, (search needs, sear
 set-parents-requires : tie.Need-set-parents-requires
 set-parents-requires c κs = search needs
 
+sub-price-row : tie.Need-sub-price-row
+sub-price-row c = net-behind _ _ _ _ _ _ _ _ _ _ (c .before .before .before .before .before .before .before .before .before .before .before .before .before .before .before .before .before .before .before .pre .0) _ (c .before .before .before .before .before .before .before .before .write-buffers .ensures .0)
+
 price-row-requires : tie.Need-price-row-requires
-price-row-requires c κs = search needs
+price-row-requires c κs =
+    let counted = c .before .before .before .before .before .before .before .before .before .before .before .before .before .count-buffers .ensures in (
+      record {
+        ready = counted .ready;
+        driver = counted .driver;
+        nodes = c .before .before .before .set-parents .ensures .1;
+        near = counted .near;
+        beyond = counted .beyond;
+      },
+      (net-size _ _ _ _ _ _ _ _ _ _ (c .before .before .before .before .before .before .before .before .before .before .before .before .before .before .before .before .before .before .before .before .pre .0) _ (c .before .before .before .before .before .before .before .before .before .write-buffers .ensures .0), c .before .before .before .before .before .before .before .before .before .before .before .before .before .before .before .before .before .before .before .before .pre .1),
+    )
 
 same-length : tie.Need-same-length
 same-length c = search needs
@@ -37,6 +50,7 @@ write-tree-spec =
     count-buffers-requires
     write-buffers-requires
     set-parents-requires
+    sub-price-row
     price-row-requires
     same-length
     same-length-2
