@@ -146,8 +146,8 @@ extern "C" {
 #endif
 
 /* Writes the mapped netlist of a source with the fewest buffers, and prices it in Josephson
- * junctions. Fewest buffers, not the least price: prices change the last two numbers of the
- * answer and nothing else.
+ * junctions. Fewest buffers, not the least price: prices that 27 and 28 pass change the last two
+ * numbers of the answer and nothing else.
  *
  * In:       source; capacity; input_capacity; prices, empty or 11 bytes from 1 to 255:
  *

@@ -4366,6 +4366,111 @@ static void test_prices_shapes(void)
     end();
 }
 
+/* A price list in two groups: the prices of a set of positions, one bit each, are `in`, all others
+ * `out`. */
+static void two_prices(uint8_t *prices, unsigned set, uint8_t in, uint8_t out)
+{
+    size_t k;
+    for (k = 0; k < PRICES; k++)
+        prices[k] = set >> k & 1 ? in : out;
+}
+
+/* A source in which every price but that of position 6 decides: `copies` times an AND, an OR and a
+ * MAJ that feed one slot, the same that feed none, and an input for each number of sinks from 1 to
+ * 8, all at distance 3. */
+static struct bytes make_all_positions(unsigned copies)
+{
+    unsigned c, n, j, kind, first;
+    clear();
+    for (c = 0; c < copies; c++) {
+        first = (unsigned)(netlist_len / RECORD);
+        for (n = 0; n <= 8; n++)
+            add_input();
+        for (kind = AND; kind <= MAJ; kind++)
+            for (j = 0; j < 2; j++)
+                add(kind, 0, 1, first, first, kind == MAJ ? first : UNUSED);
+        for (kind = 0; kind < 3; kind++)
+            add_one(OUTPUT, 3, first + 9 + 2 * kind);
+        for (n = 1; n <= 8; n++)
+            for (j = 0; j < n; j++)
+                add_one(OUTPUT, 3, first + n);
+    }
+    return keep_source();
+}
+
+/* Each way to part the 11 prices into two; on longer sources each single position. */
+static void test_prices_parted(void)
+{
+    static const unsigned copies[] = { 1, 18, 19, 70 }; /* 54, 972, 1,026 and 3,780 records */
+    uint8_t prices[PRICES];
+    struct bytes source;
+    unsigned set;
+    size_t k;
+    uint32_t s;
+    begin("aqfp_map, price lists of two prices");
+    input_capacity = 14;
+    for (k = 0; k < sizeof copies / sizeof copies[0]; k++) {
+        source = make_all_positions(copies[k]);
+        for (s = 2; s <= 4; s++) {
+            for (set = 0; set < 1u << PRICES; set = k == 0 ? set + 1 : set ? 2 * set : 1) {
+                two_prices(prices, set, 255, 1);
+                do_map_priced(source, s, part(prices, PRICES), fill(RECORD * 20000));
+                check(answered(0, 0) && is_priced(answer, part(prices, PRICES)), "1 and 255");
+                two_prices(prices, set, 6, 7);
+                do_map_priced(source, s, part(prices, PRICES), fill(RECORD * 20000));
+                check(answered(0, 0) && is_priced(answer, part(prices, PRICES)), "7 and 6");
+            }
+        }
+    }
+    end();
+}
+
+/* Nets of one and two sinks at all distances from 1 to 6, in both orders, on an input and on each
+ * kind of gate: a line, of which the buffer below the nearer sink feeds two slots. The sinks are
+ * ORs, whose other slot is on an input of its own. */
+static void test_prices_lines(void)
+{
+    static const uint8_t prices[PRICES] = { 3, 5, 7, 11, 13, 17, 199, 19, 101, 211, 223 };
+    unsigned kind, one, two, most, n, pairs, level, driver;
+    uint32_t s, part_of, whole;
+    begin("aqfp_map, prices of one and two sinks");
+    for (kind = INPUT; kind <= MAJ; kind++)
+        for (one = 1; one <= 6; one++)
+            for (two = 0; two <= 6; two++)
+                for (s = 2; s <= 4; s++)
+                    for (input_capacity = 1; input_capacity <= 3; input_capacity++) {
+                        level = kind == INPUT ? 0 : 1;
+                        driver = kind == INPUT ? 0 : 3;
+                        clear();
+                        add_input();
+                        add_input();
+                        add_input();
+                        if (kind != INPUT)
+                            add(kind, 0, 1, 0, 1, kind == MAJ ? 2 : UNUSED);
+                        for (n = 0; n < (two > 0 ? 2u : 1u); n++) {
+                            add_input();
+                            add(OR, 0, level + (n == 0 ? one : two), driver,
+                                (unsigned)(netlist_len / RECORD) - 1, UNUSED);
+                        }
+                        most = one > two ? one : two;
+                        pairs = two > 0 && (one < two ? one : two) > 1;
+                        part_of = (most - 1 - pairs) * prices[7] + pairs * prices[8]
+                                  + (level + one - 1) * prices[7]
+                                  + (two > 0 ? level + two - 1 : 0) * prices[7];
+                        whole = part_of + (two > 0 ? 2u : 1u) * prices[2]
+                                + (kind == INPUT ? 0 : prices[2 * (kind - 1) + 1]);
+                        do_map_priced(made(), s, part(prices, PRICES), fill(RECORD * 40));
+                        if (two > 0 && (one == 1 || two == 1)
+                            && (kind != INPUT || input_capacity == 1))
+                            check(answered(8, driver), "a driver that may feed one slot has two");
+                        else
+                            check(answered(0, 0) && answer[5] == whole
+                                  && answer[6] == percent(part_of, whole),
+                                  "a line, and the buffer that feeds two slots");
+                    }
+    end();
+}
+
 /* 60,000 records. */
 static void test_prices_most(void)
 {
@@ -4464,6 +4569,10 @@ static void test_prices_lengths(void)
             }
     }
     memset(bytes, 1, sizeof bytes);
+    for (k = 1; k <= 4200; k++) {
+        do_map_priced(worked, 2, part(bytes, k), fill(80));
+        check(k == PRICES ? answered(0, 0) : answered(27, 0), "each length");
+    }
     do_map_priced(worked, 2, part(bytes, PRICES), fill(80));
     check(is_answer(8, 3, 3, 4, 75), "a list of 11 bytes");
     do_map_priced(worked, 2, part(bytes, 0), fill(80));
@@ -4681,8 +4790,8 @@ static void test_all(void)
         test_input_capacities, test_worked_any, test_branches_written, test_branches_fed,
         test_branches_most, test_branches_wide, test_branches_sizes, test_branches_random,
         test_branches_levels, test_prices_worked, test_prices_written, test_prices_shares,
-        test_prices_shapes, test_prices_most, test_prices_lengths, test_prices_zeros,
-        test_prices_order, test_prices_areas
+        test_prices_shapes, test_prices_parted, test_prices_lines, test_prices_most,
+        test_prices_lengths, test_prices_zeros, test_prices_order, test_prices_areas
     };
     size_t k;
     for (k = 0; k < sizeof tests / sizeof tests[0]; k++) {

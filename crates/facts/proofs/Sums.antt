@@ -76,6 +76,12 @@ sum-last f n = rw (add-one n) refl
 pub sum-none : (f : ℕ → ℕ) (n : ℕ) → ((i : ℕ) → i < n → f i ≡ 0) → sum f n ≡ 0
 sum-none f n h = sum-cong f (λ i. 0) n h ∙ sum-zero n
 
+-- terms from m on that are all 0
+pub sum-stop : (f : ℕ → ℕ) (m n : ℕ) → m ≤ n → ((i : ℕ) → m ≤ i → f i ≡ 0) → sum f n ≡ sum f m
+sum-stop f m n l h =
+    subst (λ (k : ℕ). sum f k ≡ sum f m) (add-sub-of-le l)
+    (omega (arith, sum-append f m (n - m), sum-none (λ i. f (m + i)) (n - m) (λ i b. h (m + i) (omega arith))))
+
 -- a sum of which all terms but one are 0
 pub sum-single : (f : ℕ → ℕ) (a n : ℕ) → a < n → ((i : ℕ) → i < n → (i ≡ a → ⊥) → f i ≡ 0) → sum f n ≡ f a
 unfolding sum

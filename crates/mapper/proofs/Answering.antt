@@ -26,7 +26,7 @@ use Rattle.mapper.specs.Mapped.{mappedSize, mapped}
 use Rattle.mapper.specs.PrivateWriting.{Ready, Counted, Sized}
 use Rattle.prices.specs.Prices.{junctions, bufferJunctions}
 use Rattle.prices.specs.Checks.{priceListChecks}
-use Rattle.prices.specs.PrivatePrices.{PriceList}
+use Rattle.prices.specs.PrivatePrices.{AppliedPrices}
 use Rattle.mapper.specs.PrivatePricing.{treePrice, driverPrice}
 use Rattle.mapper.specs.Answer.{share, figures, refusal, tooLarge, tooShort, sourceMaps, mapChecks, mapAnswer, mapArea}
 use Rattle.nets.specs.Checks.{treeCheck, treeChecks, noTree}
@@ -111,7 +111,7 @@ module _ (bytes : List ℕ) (caps : Capacities) (list area : List ℕ) where
   )
 
   -- 8
-  module _ (i : inputChecks bytes caps ≡ Passed) (l : PriceList list) (number place total : ℕ) (z : Sizing)
+  module _ (i : inputChecks bytes caps ≡ Passed) (l : AppliedPrices list) (number place total : ℕ) (z : Sizing)
       (e : z ≡ sizingOf (treeChecks (netlist bytes) caps) total) (f : z ≡ Stops number place) where
     tree-refused : mapChecks bytes caps list area ≡ Refused number place
     tree-refused = checked i (l .passes) ∙ rw (refusing (netlist bytes) caps number place total z e f) refl
@@ -167,7 +167,7 @@ module _ (bytes : List ℕ) (caps : Capacities) (N : ℕ) (first next : List ℕ
   pub counted-ready : N + total ≤ mappedLimit → Ready (netlist bytes) caps
   counted-ready l = passed-ready bytes caps (h .input) (h .trees) (omega (arith, h .records, h .buffers))
 
-  module _ (list area : List ℕ) (p : PriceList list) where
+  module _ (list area : List ℕ) (p : AppliedPrices list) where
     sized : mapChecks bytes caps list area
         ≡ (check 9 0 (tooLarge (netlist bytes) caps) andThen check 10 0 (tooShort (netlist bytes) caps area))
     sized = checked bytes caps list area (h .input) (p .passes) ∙ rw (h .trees) refl

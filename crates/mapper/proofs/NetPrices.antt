@@ -28,7 +28,7 @@ use Rattle.nets.proofs.Chains.{next-names}
 use Rattle.nets.proofs.OneChain.{named-above, sinks-unnamed}
 use Rattle.nets.proofs.TreeCounts.{measured-none}
 use Rattle.prices.specs.Prices.{priceCount, priceOf, priceAt, junctions, bufferJunctions}
-use Rattle.prices.specs.PrivatePrices.{applied, PriceList}
+use Rattle.prices.specs.PrivatePrices.{applied, AppliedPrices}
 use Rattle.prices.proofs.Lists.{gate-count, applied-price, no-price, price-small}
 use Rattle.mapper.specs.Mapped.{buffersOf, mappedSize, place, bufferRecord, mappedAt, mapped}
 use Rattle.mapper.specs.PrivateWriting.{Ready}
@@ -162,7 +162,7 @@ module _ (prices : List ℕ) (n : Netlist) (caps : Capacities) (r : Ready n caps
       ∙ ap₂ _+_ (sum-cong _ _ (n .size) (λ d l. driver-price d l)) buffers-price
 
 -- every price is at most 255: so are the prices of so many records at most 255 times as much
-module _ (prices : List ℕ) (h : PriceList prices) where
+module _ (prices : List ℕ) (h : AppliedPrices prices) where
   level-small : (s m : ℕ) → 0 < s → levelPrice prices s m ≤ 255 * up s m
   level-small s m p =
       subst₂ (λ (x y : ℕ). x ≤ y) (level-sum prices s m p) (sum-const 255 (up s m))

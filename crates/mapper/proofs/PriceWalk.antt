@@ -1,10 +1,10 @@
 -- Laws of pricing as the code does it: one distance of a tree, a tree, a line, a driver, and the sums over all of them.
 use Prim.Native.Nat.{ℕ, zero, suc, _+_, _-_, _*_, _/_, _%_, _≤_, _<_}
-use mathlib.Core.Path.{_≡_, refl, sym, _∙_, ap, ap₂, subst}
+use mathlib.Core.Path.{_≡_, refl, sym, _∙_, ap, ap₂}
 use mathlib.Core.Bool.{Bool, true, false, cond}
 use mathlib.Core.List.{List}
 use native.Mathlib.Omega.{arith}
-use native.Mathlib.Nat.{div-add-mod, div-le-self, zero-div, zero-mod, div-eq-of-lt, mod-eq-of-lt, mul-le-mul-left, mul-suc, mul-comm, add-sub-of-le, mod-lt, mul-zero}
+use native.Mathlib.Nat.{div-add-mod, div-le-self, zero-div, zero-mod, div-eq-of-lt, mod-eq-of-lt, mul-le-mul-left, mul-suc, mul-comm, mod-lt, mul-zero}
 use native.Mathlib.Numerals.{add-one}
 use native.Mathlib.Decide.{decLt, ℕ-discrete}
 use mir.Val.{Fits}
@@ -14,7 +14,7 @@ use lib.Seq.{getD-drop}
 use lib.Dec.{ltb, leb, eqb}
 use borrow.Author.Tests.{lt-ltb, le-ltb, leb-true, eq-eqb, ne-eqb, eqb-true}
 use Rattle.facts.specs.Sums.{bit, sum, count}
-use Rattle.facts.proofs.Sums.{sum-cong, sum-add, sum-const, sum-scale, sum-none, sum-append, sum-last, sum-more, term-le, bit-le, bit-other, count-cong, count-one, count-none, count-le}
+use Rattle.facts.proofs.Sums.{sum-cong, sum-add, sum-const, sum-scale, sum-none, sum-last, sum-stop, sum-more, term-le, bit-le, bit-other, count-cong, count-one, count-none, count-le}
 use Rattle.facts.proofs.Bools.{and-l, and-r}
 use Rattle.facts.proofs.Blocks.{block-before}
 use Rattle.netlist.specs.declared.Capacities.{Capacities}
@@ -29,17 +29,21 @@ use Rattle.fanout.proofs.Rows.{row-none}
 use Rattle.nets.specs.PrivateChains.{slotEnd, nextSink, Chained, ShortChain}
 use Rattle.nets.proofs.Lines.{line-at, line-nodes}
 use Rattle.prices.specs.Prices.{priceOf}
-use Rattle.prices.specs.PrivatePrices.{PriceList}
+use Rattle.prices.specs.PrivatePrices.{AppliedPrices}
 use Rattle.prices.proofs.Lists.{no-price}
 use Rattle.mapper.specs.PrivateWriting.{Ready}
-use Rattle.mapper.specs.PrivatePricing.{restPrice, levelPrice, treePrice, linePrice, driverPrice, sameBuffers, bothAre, sameGates, NodesCounted}
+use Rattle.mapper.specs.PrivatePricing.{restPrice, levelPrice, distancePrice, treePrice, linePrice, driverPrice, sameBuffers, bothAre, sameGates, NodesCounted}
 use Rattle.mapper.proofs.Nodes.{pos}
 use Rattle.mapper.proofs.NetPrices.{tree-small, trees-small, drivers-small}
+
+-- a price or nothing
+bit-price : (b x : ℕ) → b ≤ 1 → x ≤ 255 → b * x ≤ 255
+bit-price b x l m = omega (arith, mul-le-mul-left {m = b} {n = 1} x l, mul-comm b x, mul-comm x 1)
 
 -- what is left of a distance
 module _ (prices : List ℕ) (rest b x : ℕ) (e : b ≡ bit (ltb 0 rest)) where
   pub rest-small : x ≤ 255 → b * x ≤ 255
-  rest-small l = omega (arith, mul-le-mul-left {m = b} {n = 1} x (omega (arith, bit-le (ltb 0 rest))), mul-comm b x, mul-comm x 1)
+  rest-small l = bit-price b x (omega (arith, bit-le (ltb 0 rest))) l
 
   pub rest-fits : x ≤ 255 → Fits w32 (b * x)
   rest-fits l = omega (arith, rest-small l)
@@ -96,12 +100,6 @@ level-two prices s l = go (ℕ-discrete s 2)
     go (yes e) = rw e (omega arith)
     go (no e) = rw (div-eq-of-lt {n = 2} {m = s} (omega arith), mod-eq-of-lt {n = 2} {m = s} (omega arith)) (omega arith)
 
--- terms from m on that are all 0
-sum-stop : (f : ℕ → ℕ) (m n : ℕ) → m ≤ n → ((i : ℕ) → m ≤ i → f i ≡ 0) → sum f n ≡ sum f m
-sum-stop f m n l h =
-    subst (λ (k : ℕ). sum f k ≡ sum f m) (add-sub-of-le l)
-    (omega (arith, sum-append f m (n - m), sum-none (λ i. f (m + i)) (n - m) (λ i b. h (m + i) (omega arith))))
-
 -- a net without sinks has no buffers to price
 pub none-price : (prices : List ℕ) (n : Netlist) (caps : Capacities) (d : ℕ) → Ready n caps → ((k : ℕ) → sinks n d k ≡ 0) → 0 ≡ treePrice prices n caps d
 unfolding treePrice
@@ -114,20 +112,18 @@ none-price prices n caps d r z =
     (λ x. getD-drop (suc (suc k)) (row n d) x 0 ∙ row-none n d _ (z (suc (suc k) + x))))
     ∙ level-none prices (caps .buffer)))
 
+-- a tree's buffers are records of the mapped netlist
+tree-few : (n : Netlist) (caps : Capacities) (d : ℕ) → Ready n caps → d < n .size → treeSize n caps d ≤ mappedLimit
+tree-few n caps d r l = omega (arith, r .fits, block-before (treeSize n caps) d (n .size) l)
+
 -- the distances below k are priced
 pub record TreePricing (prices : List ℕ) (n : Netlist) (caps : Capacities) (d total k : ℕ) : Type 0 where
   pub i : ℕ
   pub at : k ≡ suc (suc i)
   pub within : i ≤ topLevel
-  pub so-far : total ≡ sum (λ i. levelPrice prices (caps .buffer) (nodesAt (caps .buffer) (row n d) (suc (suc i)))) i
+  pub so-far : total ≡ sum (distancePrice prices n caps d) i
 
-module _ (prices : List ℕ) (n : Netlist) (caps : Capacities) (d top : ℕ) (counts : List ℕ) (h : NodesCounted n caps d counts top) (p : PriceList prices) where
-  abbrev below : ℕ → ℕ
-  below i = levelPrice prices (caps .buffer) (nodesAt (caps .buffer) (row n d) (suc (suc i)))
-
-  small : treeSize n caps d ≤ mappedLimit
-  small = omega (arith, h .ready .fits, block-before (treeSize n caps) d (n .size) (h .driver))
-
+module _ (prices : List ℕ) (n : Netlist) (caps : Capacities) (d top : ℕ) (counts : List ℕ) (h : NodesCounted n caps d counts top) (p : AppliedPrices prices) where
   pub pricing-start : TreePricing prices n caps d 0 2
   unfolding sum
   pricing-start = record { i = 0; at = refl; within = omega arith; so-far = refl }
@@ -149,11 +145,11 @@ module _ (prices : List ℕ) (n : Netlist) (caps : Capacities) (d top : ℕ) (co
             mul-comm b 4,
             term-le (λ i. buffersAt (caps .buffer) (row n d) (suc i)) (t .i) topLevel (omega (arith, t .at, h .near)),
             fewest-sum (caps .buffer) (row n d) topLevel (pos n caps (h .ready)) (omega (arith, row-length n d)),
-            small,
+            tree-few n caps d (h .ready) (h .driver),
           )
 
-      next : (x : ℕ) → x ≡ levelPrice prices (caps .buffer) (getD counts k 0) → total + x ≡ sum below (t .i + 1)
-      next x e = ap₂ _+_ (t .so-far) (e ∙ ap (levelPrice prices (caps .buffer)) counted) ∙ sum-last below (t .i)
+      next : (x : ℕ) → x ≡ levelPrice prices (caps .buffer) (getD counts k 0) → total + x ≡ sum (distancePrice prices n caps d) (t .i + 1)
+      next x e = ap₂ _+_ (t .so-far) (e ∙ ap (levelPrice prices (caps .buffer)) counted) ∙ sum-last (distancePrice prices n caps d) (t .i)
 
       pub pricing-fits : (x : ℕ) → x ≡ levelPrice prices (caps .buffer) (getD counts k 0) → Fits w32 (total + x)
       unfolding treePrice
@@ -161,9 +157,9 @@ module _ (prices : List ℕ) (n : Netlist) (caps : Capacities) (d top : ℕ) (co
           omega (
             arith,
             next x e,
-            sum-more below (t .i + 1) topLevel (omega (arith, t .at, h .near)),
+            sum-more (distancePrice prices n caps d) (t .i + 1) topLevel (omega (arith, t .at, h .near)),
             tree-small prices p n caps d (pos n caps (h .ready)),
-            small,
+            tree-few n caps d (h .ready) (h .driver),
           )
 
       pub pricing-more : (x : ℕ) → x ≡ levelPrice prices (caps .buffer) (getD counts k 0) → TreePricing prices n caps d (total + x) (k + 1)
@@ -174,7 +170,7 @@ module _ (prices : List ℕ) (n : Netlist) (caps : Capacities) (d top : ℕ) (co
     unfolding treePrice
     pricing-end l =
         t .so-far
-        ∙ sym (sum-stop below (t .i) topLevel (t .within) (λ i b.
+        ∙ sym (sum-stop (distancePrice prices n caps d) (t .i) topLevel (t .within) (λ i b.
         ap (levelPrice prices (caps .buffer)) (h .beyond (suc (suc i)) (omega (arith, t .at))) ∙ level-none prices (caps .buffer)))
 
 -- where all buffers that feed a slot cost the same, a tree costs that for each
@@ -213,7 +209,7 @@ module _ (prices : List ℕ) (h : sameBuffers prices ≡ true) where
 module _ (prices : List ℕ) (n : Netlist) (caps : Capacities) (d top : ℕ) (counts : List ℕ) (h : NodesCounted n caps d counts top) (size : ℕ)
     (e : size ≡ treeSize n caps d) where
   few : size ≤ mappedLimit
-  few = omega (arith, h .ready .fits, block-before (treeSize n caps) d (n .size) (h .driver))
+  few = omega (arith, tree-few n caps d (h .ready) (h .driver))
 
   pub size-fits : Fits w32 size
   size-fits = omega (arith, few)
@@ -226,7 +222,7 @@ module _ (prices : List ℕ) (n : Netlist) (caps : Capacities) (d top : ℕ) (co
       ap₂ _*_ e k ∙ mul-comm (treeSize n caps d) (priceOf prices buffer 1) ∙ sym (same-tree prices (sym f ∙ g) n caps d (h .ready))
 
 -- a line of buffers
-module _ (prices : List ℕ) (p : PriceList prices) (n other : ℕ) (near : n < topLevel) (behind : other ≤ n + 1) (pairs : ℕ) (e : pairs ≡ bit (ltb 1 other)) where
+module _ (prices : List ℕ) (p : AppliedPrices prices) (n other : ℕ) (near : n < topLevel) (behind : other ≤ n + 1) (pairs : ℕ) (e : pairs ≡ bit (ltb 1 other)) where
   pub line-pairs : pairs ≤ n
   line-pairs =
       elim (decLt 1 other) [
@@ -238,8 +234,7 @@ module _ (prices : List ℕ) (p : PriceList prices) (n other : ℕ) (near : n < 
   single x a = omega (arith, mul-le-mul-left {m = x} {n = 255} (n - pairs) a, mul-comm (n - pairs) 255)
 
   double : (y : ℕ) → y ≤ 255 → pairs * y ≤ 255
-  double y b =
-      omega (arith, mul-le-mul-left {m = pairs} {n = 1} y (omega (arith, bit-le (ltb 1 other))), mul-comm pairs y, mul-comm y 1)
+  double y b = bit-price pairs y (omega (arith, bit-le (ltb 1 other))) b
 
   pub line-single : (x : ℕ) → x ≤ 255 → Fits w32 ((n - pairs) * x)
   line-single x a = omega (arith, single x a)
@@ -265,9 +260,6 @@ module _ (prices : List ℕ) (n : Netlist) (caps : Capacities) (d top other : �
   abbrev here : ℕ → ℕ
   here i = bit (eqb other (suc (suc i)))
 
-  abbrev carried : ℕ → ℕ
-  carried i = levelPrice prices (caps .buffer) (nodesAt (caps .buffer) (row n d) (suc (suc i)))
-
   -- beyond the farther sink stands nothing
   none-beyond : (k : ℕ) → top < k → nodesAt (caps .buffer) (row n d) k ≡ 0
   none-beyond k l =
@@ -277,33 +269,33 @@ module _ (prices : List ℕ) (n : Netlist) (caps : Capacities) (d top other : �
         line-at n caps d top other two h k (omega (arith, h .above)),
         ap bit (le-ltb k top (omega arith)),
         row-none n d k
-            (omega (arith, h .at k (omega (arith, h .above)), bit-other top k (λ e. omega arith), bit-other other k (λ e. omega (arith, h .nearer)))),
+            (omega (arith, h .at k (omega (arith, h .above)), bit-other top k (λ e. omega arith), bit-other other k (λ e. omega (arith, h .noFarther)))),
       )
 
   pub line-near : top - 1 < topLevel
   line-near = omega (arith, h .above, h .near)
 
   pub line-behind : other ≤ top - 1 + 1
-  line-behind = omega (arith, h .above, h .nearer)
+  line-behind = omega (arith, h .above, h .noFarther)
 
   -- each buffer is paid for one slot, the one below the other sink for two
-  each : (i : ℕ) → i < top - 1 → carried i + one * here i ≡ one + pair * here i
+  each : (i : ℕ) → i < top - 1 → distancePrice prices n caps d i + one * here i ≡ one + pair * here i
   each i l = go (eqb other (suc (suc i))) refl
     where
       nodes : nodesAt (caps .buffer) (row n d) (suc (suc i)) ≡ 1 + bit (eqb other (suc (suc i)))
       nodes = line-nodes n caps d top other two h (suc (suc i)) (omega arith) (omega arith)
 
-      go : (b : Bool) → eqb other (suc (suc i)) ≡ b → carried i + one * bit b ≡ one + pair * bit b
+      go : (b : Bool) → eqb other (suc (suc i)) ≡ b → distancePrice prices n caps d i + one * bit b ≡ one + pair * bit b
       go true e = omega (arith, ap (levelPrice prices (caps .buffer)) (nodes ∙ ap (λ (b : Bool). 1 + bit b) e), level-two prices (caps .buffer) two)
       go false e = omega (arith, ap (levelPrice prices (caps .buffer)) (nodes ∙ ap (λ (b : Bool). 1 + bit b) e), level-one prices (caps .buffer) two)
 
   -- so all of them, with as many times two slots as the other sink stands among them
-  all : sum carried (top - 1) + one * sum here (top - 1) ≡ one * (top - 1) + pair * sum here (top - 1)
+  all : sum (distancePrice prices n caps d) (top - 1) + one * sum here (top - 1) ≡ one * (top - 1) + pair * sum here (top - 1)
   all =
       omega (
         arith,
         sum-cong _ _ (top - 1) each,
-        sum-add carried (λ i. one * here i) (top - 1),
+        sum-add (distancePrice prices n caps d) (λ i. one * here i) (top - 1),
         sum-add (λ i. one) (λ i. pair * here i) (top - 1),
         sum-scale one here (top - 1),
         sum-scale pair here (top - 1),
@@ -312,9 +304,9 @@ module _ (prices : List ℕ) (n : Netlist) (caps : Capacities) (d top other : �
 
   pub line-price : linePrice prices (top - 1) other ≡ treePrice prices n caps d
   unfolding linePrice treePrice count
-  line-price = go (decLt 1 other) ∙ sym (sum-stop carried (top - 1) topLevel (omega (arith, h .near)) past)
+  line-price = go (decLt 1 other) ∙ sym (sum-stop (distancePrice prices n caps d) (top - 1) topLevel (omega (arith, h .near)) past)
     where
-      past : (i : ℕ) → top - 1 ≤ i → carried i ≡ 0
+      past : (i : ℕ) → top - 1 ≤ i → distancePrice prices n caps d i ≡ 0
       past i l = ap (levelPrice prices (caps .buffer)) (none-beyond (suc (suc i)) (omega (arith, h .above))) ∙ level-none prices (caps .buffer)
 
       same : 1 < other → (i : ℕ) → eqb other (suc (suc i)) ≡ eqb (other - 2) i
@@ -324,11 +316,11 @@ module _ (prices : List ℕ) (n : Netlist) (caps : Capacities) (d top other : �
             | no e ↦ ne-eqb other (suc (suc i)) (λ f. e (omega arith)) ∙ sym (ne-eqb (other - 2) i e)
           ]
 
-      go : Dec (1 < other) → (top - 1 - bit (ltb 1 other)) * one + bit (ltb 1 other) * pair ≡ sum carried (top - 1)
+      go : Dec (1 < other) → (top - 1 - bit (ltb 1 other)) * one + bit (ltb 1 other) * pair ≡ sum (distancePrice prices n caps d) (top - 1)
       go (yes l) =
           let met : sum here (top - 1) ≡ 1 =
-          count-cong _ _ (top - 1) (λ i b. same l i) ∙ count-one (other - 2) (top - 1) (omega (arith, h .nearer)) in
-          let more : suc (top - 1 - 1) ≡ top - 1 = omega (arith, h .nearer) in
+          count-cong _ _ (top - 1) (λ i b. same l i) ∙ count-one (other - 2) (top - 1) (omega (arith, h .noFarther)) in
+          let more : suc (top - 1 - 1) ≡ top - 1 = omega (arith, h .noFarther) in
           rw (lt-ltb 1 other l)
           (omega (
             arith,
@@ -409,7 +401,7 @@ module _ (prices : List ℕ) (n : Netlist) where
   drivers-start = record { within = omega arith; so-far = refl }
 
   module _ (N total d : ℕ) (size : N ≡ n .size) (t : DriversPriced prices n total d) where
-    pub drivers-fits : (x : ℕ) → PriceList prices → IsSource n → d < N → x ≤ 255 → Fits w32 (total + x)
+    pub drivers-fits : (x : ℕ) → AppliedPrices prices → IsSource n → d < N → x ≤ 255 → Fits w32 (total + x)
     drivers-fits x p s l b = omega (arith, t .so-far, drivers-small prices p n d, s .few)
 
     pub drivers-more : (x : ℕ) → d < N → x ≡ driverPrice prices n d → DriversPriced prices n (total + x) (d + 1)
@@ -424,7 +416,7 @@ unfolding sum
 nets-price-start prices n caps = refl
 
 -- one more
-module _ (prices : List ℕ) (p : PriceList prices) (n : Netlist) (caps : Capacities) (r : Ready n caps) (total d : ℕ)
+module _ (prices : List ℕ) (p : AppliedPrices prices) (n : Netlist) (caps : Capacities) (r : Ready n caps) (total d : ℕ)
     (t : total ≡ sum (treePrice prices n caps) d) (l : d < n .size) (x : ℕ) (e : x ≡ treePrice prices n caps d) where
   pub nets-price : total + x ≡ sum (treePrice prices n caps) (d + 1)
   nets-price = ap₂ _+_ t e ∙ sum-last (treePrice prices n caps) d

@@ -40,10 +40,10 @@ use Rattle.mapper.specs.Mapped.{blockStart, mappedSize, mapped}
 use Rattle.mapper.specs.PrivateWriting.{Ready}
 use Rattle.mapper.specs.View.{noEnds, endsOf, blockEnds, between}
 use Rattle.mapper.specs.Answer.{figures, tooLarge, tooShort, sourceMaps, mapChecks, answerOf, areaOf, mapAnswer, mapArea}
-use Rattle.mapper.specs.Promises.{Treeless, TooLarge, TooShort, MapFails, MapExact, RefusedLeaves, Accepts, AcceptedMaps, AnyList, BlockWritten, BlockNone}
+use Rattle.mapper.specs.Promises.{Treeless, TooLarge, TooShort, MapFails, MapExact, RefusedLeaves, Accepts, AcceptedMaps, AnyPriceList, BlockWritten, BlockNone}
 use Rattle.prices.specs.Prices.{junctions, bufferJunctions}
 use Rattle.prices.specs.Checks.{priceListChecks}
-use Rattle.prices.specs.Promises.{ListFails}
+use Rattle.prices.specs.Promises.{PriceListFails}
 use Rattle.prices.proofs.Promises.{list-rows, list-first}
 use Rattle.mapper.proofs.Answering.{passed-ready, map-passed}
 use Rattle.nets.specs.Checks.{noTree, treeCheck, treeChecks}
@@ -95,7 +95,7 @@ module _ (bytes : List ℕ) (caps : Capacities) (list area : List ℕ) where
   source-late : After (rowOf 28) (SourceFails bytes or Trees or Sizes)
   source-late k p = ⊎-elim (λ f. source-rows bytes k p f .0) (λ f. omega (arith, late-rows k p f))
 
-  list-late : After (rowOf 26) (ListFails list or SourceFails bytes or Trees or Sizes)
+  list-late : After (rowOf 26) (PriceListFails list or SourceFails bytes or Trees or Sizes)
   list-late k p = ⊎-elim (λ f. list-rows list k p f .0) (λ f. omega (arith, source-late k p f))
 
   trees-first : inputChecks bytes caps ≡ Passed →
@@ -151,7 +151,7 @@ module _ (bytes : List ℕ) (caps : Capacities) where
     room : width * mappedSize (netlist bytes) caps ≤ length area
     room = less-none (length area) (width * mappedSize (netlist bytes) caps) .0 (check-passed 10 0 (tooShort (netlist bytes) caps area) .0 (parts .2))
 
-    pub answered : mapAnswer bytes caps list area
+    answered : mapAnswer bytes caps list area
         ≡ figures (netlist bytes) (fewestInAll (netlist bytes) caps) (bufferJunctions list (mapped (netlist bytes) caps))
         (junctions list (mapped (netlist bytes) caps))
     unfolding mapAnswer
@@ -197,17 +197,32 @@ module _ (bytes : List ℕ) (caps : Capacities) where
 pub accepted-maps : AcceptedMaps
 accepted-maps bytes caps list area e = accepts bytes caps list area e
 
-pub any-list : AnyList
-any-list bytes caps list other area e f =
-    let checks = map-passed bytes caps other area .1 (f, parts bytes caps list area e .1, parts bytes caps list area e .2) in
-    let a = answered bytes caps list area e in
-    let b = answered bytes caps other area checks in
+-- two lists that pass leave the same checks
+good-checks : (source : List ℕ) (caps : Capacities) (list other area : List ℕ) → priceListChecks list ≡ Passed → priceListChecks other ≡ Passed →
+    mapChecks source caps other area ≡ mapChecks source caps list area
+unfolding mapChecks
+good-checks source caps list other area e f = rw (e, f) refl
+
+-- what two answers that the same checks leave have in common
+answers-alike : (source : List ℕ) (caps : Capacities) (list other : List ℕ) (a : Checked) →
+    let x : Mapping = answerOf a (netlist source) caps list in
+    let y : Mapping = answerOf a (netlist source) caps other in
+    (y .number ≡ x .number) × (y .place ≡ x .place) × (y .size ≡ x .size) × (y .buffers ≡ x .buffers) × (y .depth ≡ x .depth)
+answers-alike source caps list other Passed = (refl, refl, refl, refl, refl)
+answers-alike source caps list other (Refused number place) = (refl, refl, refl, refl, refl)
+
+pub any-price-list : AnyPriceList
+unfolding mapAnswer mapArea
+any-price-list source caps list other area e f =
+    let same = good-checks source caps list other area e f in
+    let alike = answers-alike source caps list other (mapChecks source caps list area) in
     record {
-      checks = checks;
-      size = ap (λ (m : Mapping). m .size) b ∙ sym (ap (λ (m : Mapping). m .size) a);
-      buffers = ap (λ (m : Mapping). m .buffers) b ∙ sym (ap (λ (m : Mapping). m .buffers) a);
-      depth = ap (λ (m : Mapping). m .depth) b ∙ sym (ap (λ (m : Mapping). m .depth) a);
-      bytes = area-written bytes caps other area checks ∙ sym (area-written bytes caps list area e);
+      number = rw same (alike .0);
+      place = rw same (alike .1);
+      size = rw same (alike .2);
+      buffers = rw same (alike .3);
+      depth = rw same (alike .4);
+      bytes = rw same refl;
     }
 
 -- c records from record i on, of a netlist's bytes and what follows them

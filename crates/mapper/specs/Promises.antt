@@ -17,7 +17,7 @@ use Rattle.netlist.specs.Bytes.{recs}
 use Rattle.fanout.specs.Promises.{NoNetTree, LeastNetTree}
 use Rattle.fanout.specs.Nets.{treeSize, fewestInAll}
 use Rattle.prices.specs.Checks.{priceListChecks}
-use Rattle.prices.specs.Promises.{ListFails}
+use Rattle.prices.specs.Promises.{PriceListFails}
 use Rattle.mapper.specs.Mapped.{blockStart, mappedSize, mapped}
 use Rattle.mapper.specs.Answer.{refusal, sourceMaps, mapChecks, mapAnswer, mapArea}
 use Rattle.mapper.specs.View.{blockView}
@@ -38,7 +38,7 @@ TooShort n caps area = length area < width * mappedSize n caps
 abbrev pub MapFails : List ℕ → Capacities → List ℕ → List ℕ → Conditions
 MapFails bytes caps list area =
     CapacityFails caps
-    or ListFails list
+    or PriceListFails list
     or SourceFails bytes
     or Each (recordCount bytes) (λ d. Fails 8 d (Treeless (netlist bytes) caps d))
     or Fails 9 0 (TooLarge (netlist bytes) caps)
@@ -80,18 +80,19 @@ abbrev pub AcceptedMaps : Type 0
 AcceptedMaps =
     (bytes : List ℕ) (caps : Capacities) (list area : List ℕ) → mapChecks bytes caps list area ≡ Passed → Accepts bytes caps list area
 
--- the list decides JJs and share and nothing else: what is accepted with one list is accepted with every list that 27 and 28 pass
+-- the list decides JJs and share and nothing else: two lists that 27 and 28 pass, accepted or refused
 pub record PricedAlike (source : List ℕ) (caps : Capacities) (list other area : List ℕ) : Type 0 where
-  pub checks : mapChecks source caps other area ≡ Passed
+  pub number : mapAnswer source caps other area .number ≡ mapAnswer source caps list area .number
+  pub place : mapAnswer source caps other area .place ≡ mapAnswer source caps list area .place
   pub size : mapAnswer source caps other area .size ≡ mapAnswer source caps list area .size
   pub buffers : mapAnswer source caps other area .buffers ≡ mapAnswer source caps list area .buffers
   pub depth : mapAnswer source caps other area .depth ≡ mapAnswer source caps list area .depth
   pub bytes : mapArea source caps other area ≡ mapArea source caps list area
 
-abbrev pub AnyList : Type 0
-AnyList =
-    (bytes : List ℕ) (caps : Capacities) (list other area : List ℕ) →
-    mapChecks bytes caps list area ≡ Passed → priceListChecks other ≡ Passed → PricedAlike bytes caps list other area
+abbrev pub AnyPriceList : Type 0
+AnyPriceList =
+    (source : List ℕ) (caps : Capacities) (list other area : List ℕ) →
+    priceListChecks list ≡ Passed → priceListChecks other ≡ Passed → PricedAlike source caps list other area
 
 -- b decides no more than whether there are trees: what is accepted with some b is accepted with every larger one up to 4,095, with the same numbers and the same bytes
 abbrev pub LargerInputCapacity : Type 0

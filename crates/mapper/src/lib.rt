@@ -7,7 +7,7 @@ ghost use Rattle.netlist.specs.Records.{netlist, recordCount};
 ghost use Rattle.facts.specs.Checks.{_andThen_};
 ghost use Rattle.netlist.specs.Checks.{capacityChecks, sourceChecks, inputChecks};
 ghost use Rattle.prices.specs.Checks.{priceListChecks};
-ghost use Rattle.prices.specs.PrivatePrices.{PriceList};
+ghost use Rattle.prices.specs.PrivatePrices.{AppliedPrices};
 ghost use Rattle.mapper.specs.Mapped.{mapped};
 ghost use Rattle.mapper.specs.Answer.{refusal, figures, mapAnswer, mapArea};
 ghost use Rattle.mapper.specs.View.{blockView};
@@ -25,7 +25,7 @@ use nets::sinks::RECORDS;
 use nets::sinks::SINKS;
 use nets::trees;
 use nets::trees::Sizing;
-use prices::LIST;
+use prices::LIST_LENGTH;
 
 mod block;
 mod pricing;
@@ -98,12 +98,12 @@ fn map_trees(
     next: &mut [u16],
     total: usize,
     row: &mut [u32; DISTANCES],
-    prices: &[u32; LIST],
+    prices: &[u32; LIST_LENGTH],
     area: &mut [u8],
 ) -> Mapping
     requires { ⌜ Counted (now source) capacities n (now first) (now next) end total ⌝ }
     requires { ⌜ now row ≡ replicate (suc topLevel) 0 ⌝ }
-    requires { ⌜ PriceList (now prices) ⌝ }
+    requires { ⌜ AppliedPrices (now prices) ⌝ }
     ensures { λ r. ⌜ r ≡ mapAnswer (now (source .entry)) capacities (now (prices .entry)) (now (area .entry)) ⌝ }
     ensures { λ _. ⌜ now (area .exit) ≡ mapArea (now (source .entry)) capacities (now (prices .entry)) (now (area .entry)) ⌝ }
 {
@@ -114,9 +114,25 @@ fn map_trees(
     if area.len() < WIDTH * size {
         return refuse(10, 0);
     }
-    let gates = pricing::price_gates(source, n, end, first, next, prices);
-    let part = writing::write_mapped(source, capacities, n, end, first, next, row, prices, area);
-    accept(source, n, total as u32, part, gates + part)
+    let gates_price = pricing::price_gates(source, n, end, first, next, prices);
+    let buffers_price = writing::write_mapped(
+        source,
+        capacities,
+        n,
+        end,
+        first,
+        next,
+        row,
+        prices,
+        area,
+    );
+    accept(
+        source,
+        n,
+        total as u32,
+        buffers_price,
+        gates_price + buffers_price,
+    )
 }
 
 // Checks 8 to 10 of a source that passes 1, 26 and 2 to 7, and the mapping, in arrays long enough for its chains.
@@ -127,10 +143,10 @@ fn map_with(
     first: &mut [u16],
     next: &mut [u16],
     totals: &mut [u32],
-    prices: &[u32; LIST],
+    prices: &[u32; LIST_LENGTH],
     area: &mut [u8],
 ) -> Mapping
-    requires { ⌜ (inputChecks (now source) capacities ≡ Checked.Passed) × PriceList (now prices) ⌝ }
+    requires { ⌜ (inputChecks (now source) capacities ≡ Checked.Passed) × AppliedPrices (now prices) ⌝ }
     requires { ⌜ n ≡ recordCount (now source) ⌝ }
     requires { ⌜ (n ≤ length (now first)) × (slots * n ≤ length (now next)) ⌝ }
     requires { ⌜ n ≤ length (now totals) ⌝ }
@@ -163,11 +179,11 @@ fn map_with(
 fn map_source(
     source: &[u8],
     capacities: Capacities,
-    prices: &[u32; LIST],
+    prices: &[u32; LIST_LENGTH],
     area: &mut [u8],
 ) -> Mapping
     requires { ⌜ inputChecks (now source) capacities ≡ Checked.Passed ⌝ }
-    requires { ⌜ PriceList (now prices) ⌝ }
+    requires { ⌜ AppliedPrices (now prices) ⌝ }
     ensures { λ r. ⌜ r ≡ mapAnswer (now (source .entry)) capacities (now (prices .entry)) (now (area .entry)) ⌝ }
     ensures { λ _. ⌜ now (area .exit) ≡ mapArea (now (source .entry)) capacities (now (prices .entry)) (now (area .entry)) ⌝ }
 {
@@ -215,7 +231,7 @@ fn map_listed(source: &[u8], capacities: Capacities, list: &[u8], area: &mut [u8
 }
 
 // Checks 27, 28 and 2 to 7, in that order.
-fn check_listed(source: &[u8], list: &[u8]) -> Checked
+fn check_list_and_source(source: &[u8], list: &[u8]) -> Checked
     ensures { λ a. ⌜ a ≡ (priceListChecks (now (list .entry)) andThen sourceChecks (now (source .entry))) ⌝ }
 {
     let checked = prices::check_list(list);
@@ -231,7 +247,7 @@ fn check_call(source: &[u8], capacities: Capacities, list: &[u8]) -> Checked
 {
     let checked = netlist::check_capacities(capacities);
     match checked {
-        Checked::Passed => check_listed(source, list),
+        Checked::Passed => check_list_and_source(source, list),
         Checked::Refused(number, place) => Checked::Refused(number, place),
     }
 }

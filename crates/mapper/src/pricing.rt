@@ -6,7 +6,7 @@ ghost use Rattle.netlist.specs.Kinds.{mappedLimit, topLevel, buffer};
 ghost use Rattle.netlist.specs.Records.{netlist, recordCount};
 ghost use Rattle.fanout.specs.Nets.{treeSize};
 ghost use Rattle.nets.specs.PrivateChains.{Chained};
-ghost use Rattle.prices.specs.PrivatePrices.{PriceList};
+ghost use Rattle.prices.specs.PrivatePrices.{AppliedPrices};
 ghost use Rattle.mapper.specs.PrivatePricing.{restPrice, levelPrice, treePrice, linePrice, driverPrice, sameBuffers, bothAre, sameGates, NodesCounted};
 use fanout::DISTANCES;
 use netlist::AND;
@@ -15,19 +15,19 @@ use netlist::Capacities;
 use netlist::MAJORITY;
 use netlist::OR;
 use nets::numbers;
-use prices::LIST;
+use prices::LIST_LENGTH;
 
-// The buffer that feeds what is left of a distance, if anything is.
-fn price_rest(prices: &[u32; LIST], rest: u32) -> u32
-    requires { ⌜ PriceList (now prices) ⌝ }
+// The price of the buffer that feeds the nodes left over, 0 if none are.
+fn price_rest(prices: &[u32; LIST_LENGTH], rest: u32) -> u32
+    requires { ⌜ AppliedPrices (now prices) ⌝ }
     ensures { λ r. ⌜ (r ≡ restPrice (now (prices .entry)) rest) × (r ≤ 255) ⌝ }
 {
     numbers::one_if(0 < rest) * prices::price_of(prices, BUFFER, rest as usize)
 }
 
-// The buffers one level below n nodes: each feeds s of them, and one more the rest.
-fn price_level(prices: &[u32; LIST], s: u32, n: u32) -> u32
-    requires { ⌜ PriceList (now prices) ⌝ }
+// The price of the buffers one level below n nodes: n / s that feed s each, and one that feeds the rest, if any.
+fn price_level(prices: &[u32; LIST_LENGTH], s: u32, n: u32) -> u32
+    requires { ⌜ AppliedPrices (now prices) ⌝ }
     requires { ⌜ (2 ≤ s) × (s ≤ 4) ⌝ }
     requires { ⌜ n ≤ 4 * mappedLimit ⌝ }
     ensures { λ r. ⌜ r ≡ levelPrice (now (prices .entry)) s n ⌝ }
@@ -37,9 +37,9 @@ fn price_level(prices: &[u32; LIST], s: u32, n: u32) -> u32
     full * prices::price_of(prices, BUFFER, s as usize) + price_rest(prices, rest)
 }
 
-// Whether all buffers that feed a slot cost the same.
-fn same_buffers(prices: &[u32; LIST]) -> bool
-    requires { ⌜ PriceList (now prices) ⌝ }
+// Whether a buffer costs the same at one, two, three and four slots.
+fn same_buffers(prices: &[u32; LIST_LENGTH]) -> bool
+    requires { ⌜ AppliedPrices (now prices) ⌝ }
     ensures { λ b. ⌜ b ≡ sameBuffers (now (prices .entry)) ⌝ }
 {
     let one = prices::price_of(prices, BUFFER, 1);
@@ -49,17 +49,17 @@ fn same_buffers(prices: &[u32; LIST]) -> bool
     two & (three & four)
 }
 
-// The buffers of d's tree, distance by distance: the row counts its nodes.
+// The price of d's tree, distance by distance: the row counts its nodes.
 fn price_distances(
     source: &[u8],
     capacities: Capacities,
     d: usize,
     top: usize,
     row: &[u32; DISTANCES],
-    prices: &[u32; LIST],
+    prices: &[u32; LIST_LENGTH],
 ) -> u32
     requires { ⌜ NodesCounted (netlist (now source)) capacities d (now row) top ⌝ }
-    requires { ⌜ PriceList (now prices) ⌝ }
+    requires { ⌜ AppliedPrices (now prices) ⌝ }
     ensures { λ r. ⌜ r ≡ treePrice (now (prices .entry)) (netlist (now (source .entry))) capacities d ⌝ }
 {
     let mut total: u32 = 0;
@@ -71,7 +71,7 @@ fn price_distances(
     total
 }
 
-// The buffers of d's tree, so many: where all cost the same, the distances are not looked at.
+// The price of d's tree, which has so many buffers: where all cost the same, the distances are not looked at.
 pub(crate) fn price_tree(
     source: &[u8],
     capacities: Capacities,
@@ -79,11 +79,11 @@ pub(crate) fn price_tree(
     size: usize,
     top: usize,
     row: &[u32; DISTANCES],
-    prices: &[u32; LIST],
+    prices: &[u32; LIST_LENGTH],
 ) -> u32
     requires { ⌜ NodesCounted (netlist (now source)) capacities d (now row) top ⌝ }
     requires { ⌜ size ≡ treeSize (netlist (now source)) capacities d ⌝ }
-    requires { ⌜ PriceList (now prices) ⌝ }
+    requires { ⌜ AppliedPrices (now prices) ⌝ }
     ensures { λ r. ⌜ r ≡ treePrice (now (prices .entry)) (netlist (now (source .entry))) capacities d ⌝ }
 {
     if same_buffers(prices) {
@@ -92,9 +92,9 @@ pub(crate) fn price_tree(
     price_distances(source, capacities, d, top, row, prices)
 }
 
-// A line of n buffers: the one below the other sink feeds two slots, each other one.
-pub(crate) fn price_line(prices: &[u32; LIST], n: usize, other: usize) -> u32
-    requires { ⌜ PriceList (now prices) ⌝ }
+// The price of a line of n buffers: the one below the other sink, if that stands beyond distance 1, feeds two slots, each other one.
+pub(crate) fn price_line(prices: &[u32; LIST_LENGTH], n: usize, other: usize) -> u32
+    requires { ⌜ AppliedPrices (now prices) ⌝ }
     requires { ⌜ (n < topLevel) × (other ≤ n + 1) ⌝ }
     ensures { λ r. ⌜ r ≡ linePrice (now (prices .entry)) n other ⌝ }
 {
@@ -103,18 +103,18 @@ pub(crate) fn price_line(prices: &[u32; LIST], n: usize, other: usize) -> u32
     singles * prices::price_of(prices, BUFFER, 1) + pairs * prices::price_of(prices, BUFFER, 2)
 }
 
-// Driver d: a gate feeds one slot if it has a sink, else none; an input costs nothing.
+// The price of record d of a source: a gate feeds one slot if it has a sink, else none; inputs and outputs cost nothing.
 fn price_driver(
     source: &[u8],
     end: usize,
     first: &[u16],
     next: &[u16],
     d: usize,
-    prices: &[u32; LIST],
+    prices: &[u32; LIST_LENGTH],
 ) -> u32
     requires { ⌜ Chained (netlist (now source)) (now first) (now next) 0 end ⌝ }
     requires { ⌜ d < recordCount (now source) ⌝ }
-    requires { ⌜ PriceList (now prices) ⌝ }
+    requires { ⌜ AppliedPrices (now prices) ⌝ }
     ensures { λ r. ⌜ (r ≡ driverPrice (now (prices .entry)) (netlist (now (source .entry))) d) × (r ≤ 255) ⌝ }
 {
     let fed = facts::one_if(numbers::index(first[d]) < end);
@@ -122,8 +122,8 @@ fn price_driver(
 }
 
 // Whether both prices of a kind are p.
-fn both_are(prices: &[u32; LIST], p: u32, kind: u8) -> bool
-    requires { ⌜ PriceList (now prices) ⌝ }
+fn both_are(prices: &[u32; LIST_LENGTH], p: u32, kind: u8) -> bool
+    requires { ⌜ AppliedPrices (now prices) ⌝ }
     ensures { λ b. ⌜ b ≡ bothAre (now (prices .entry)) p kind ⌝ }
 {
     let none = p == prices::price_of(prices, kind, 0);
@@ -132,8 +132,8 @@ fn both_are(prices: &[u32; LIST], p: u32, kind: u8) -> bool
 }
 
 // Whether all gates cost p.
-fn same_gates(prices: &[u32; LIST], p: u32) -> bool
-    requires { ⌜ PriceList (now prices) ⌝ }
+fn same_gates(prices: &[u32; LIST_LENGTH], p: u32) -> bool
+    requires { ⌜ AppliedPrices (now prices) ⌝ }
     ensures { λ b. ⌜ b ≡ sameGates (now (prices .entry)) p ⌝ }
 {
     let a = both_are(prices, p, AND);
@@ -142,18 +142,18 @@ fn same_gates(prices: &[u32; LIST], p: u32) -> bool
     a & (b & c)
 }
 
-// All drivers of a source one by one: its gates.
+// The price of all records of a source, one by one.
 fn price_drivers(
     source: &[u8],
     n: usize,
     end: usize,
     first: &[u16],
     next: &[u16],
-    prices: &[u32; LIST],
+    prices: &[u32; LIST_LENGTH],
 ) -> u32
     requires { ⌜ Chained (netlist (now source)) (now first) (now next) 0 end ⌝ }
     requires { ⌜ n ≡ recordCount (now source) ⌝ }
-    requires { ⌜ PriceList (now prices) ⌝ }
+    requires { ⌜ AppliedPrices (now prices) ⌝ }
     ensures { λ r. ⌜ r ≡ sum (driverPrice (now (prices .entry)) (netlist (now (source .entry)))) n ⌝ }
 {
     let mut total: u32 = 0;
@@ -165,18 +165,18 @@ fn price_drivers(
     total
 }
 
-// All drivers of a source: where all gates cost the same, their sinks are not looked at.
+// The price of a source's gates: where all cost the same, their sinks are not looked at.
 pub(crate) fn price_gates(
     source: &[u8],
     n: usize,
     end: usize,
     first: &[u16],
     next: &[u16],
-    prices: &[u32; LIST],
+    prices: &[u32; LIST_LENGTH],
 ) -> u32
     requires { ⌜ Chained (netlist (now source)) (now first) (now next) 0 end ⌝ }
     requires { ⌜ n ≡ recordCount (now source) ⌝ }
-    requires { ⌜ PriceList (now prices) ⌝ }
+    requires { ⌜ AppliedPrices (now prices) ⌝ }
     ensures { λ r. ⌜ r ≡ sum (driverPrice (now (prices .entry)) (netlist (now (source .entry)))) n ⌝ }
 {
     let p = prices::price_of(prices, AND, 0);

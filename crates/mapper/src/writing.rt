@@ -12,7 +12,7 @@ ghost use Rattle.fanout.specs.Nets.{treeSize};
 ghost use Rattle.mapper.specs.Mapped.{blockStart, mappedSize, mapped};
 ghost use Rattle.mapper.specs.PrivateWriting.{Ready, Stale, behind, levelRecord, lineParent, lineRecord, CountedNet, FirstParents, ParentsSet, ParentsWritten, onParent, onLine, ParentsDue, NodeCounts, Writable, Wrote};
 ghost use Rattle.nets.specs.PrivateChains.{Chained};
-ghost use Rattle.prices.specs.PrivatePrices.{PriceList};
+ghost use Rattle.prices.specs.PrivatePrices.{AppliedPrices};
 ghost use Rattle.mapper.specs.PrivatePricing.{treePrice, NodesCounted};
 use crate::pricing;
 use crate::records;
@@ -22,11 +22,11 @@ use netlist::record_writer;
 use nets::numbers;
 use nets::sinks;
 use nets::sinks::Chain;
-use prices::LIST;
+use prices::LIST_LENGTH;
 
 // The buffers of one net as they are written: the record behind the last, and their price.
 struct NetBlock {
-    end: usize,
+    after: usize,
     price: u32,
 }
 
@@ -160,11 +160,11 @@ fn price_row(
     size: usize,
     top: usize,
     row: &mut [u32; DISTANCES],
-    prices: &[u32; LIST],
+    prices: &[u32; LIST_LENGTH],
 ) -> u32
     requires { ⌜ NodesCounted (netlist (now source)) capacities d (now row) top ⌝ }
     requires { ⌜ size ≡ treeSize (netlist (now source)) capacities d ⌝ }
-    requires { ⌜ PriceList (now prices) ⌝ }
+    requires { ⌜ AppliedPrices (now prices) ⌝ }
     ensures { λ r. ⌜ r ≡ treePrice (now (prices .entry)) (netlist (now (source .entry))) capacities d ⌝ }
     ensures { λ _. ⌜ now (row .exit) ≡ replicate (suc topLevel) 0 ⌝ }
 {
@@ -184,19 +184,19 @@ fn write_tree(
     start: usize,
     row: &mut [u32; DISTANCES],
     base: &mut [u16; DISTANCES],
-    prices: &[u32; LIST],
+    prices: &[u32; LIST_LENGTH],
     area: &mut [u8],
 ) -> NetBlock
     requires { ⌜ Writable (netlist (now source)) capacities d start (now first) (now next) end (now row) (now base) (now area) ⌝ }
-    requires { ⌜ PriceList (now prices) ⌝ }
-    ensures { λ r. ⌜ Wrote (netlist (now (source .entry))) capacities d start (now (first .entry)) (now (next .exit)) end (now (row .exit)) (now (base .exit)) (now (area .entry)) (now (area .exit)) (r .end) ⌝ }
+    requires { ⌜ AppliedPrices (now prices) ⌝ }
+    ensures { λ r. ⌜ Wrote (netlist (now (source .entry))) capacities d start (now (first .entry)) (now (next .exit)) end (now (row .exit)) (now (base .exit)) (now (area .entry)) (now (area .exit)) (r .after) ⌝ }
     ensures { λ r. ⌜ r .price ≡ treePrice (now (prices .entry)) (netlist (now (source .entry))) capacities d ⌝ }
 {
     let top = count_buffers(source, capacities, end, first, next, d, row);
     let after = write_buffers(source, capacities, d, start, top, row, base, area);
     set_parents(source, capacities, end, first, next, d, base, row);
     NetBlock {
-        end: after,
+        after,
         price: price_row(source, capacities, d, after - start, top, row, prices),
     }
 }
@@ -264,18 +264,18 @@ fn write_net(
     start: usize,
     row: &mut [u32; DISTANCES],
     base: &mut [u16; DISTANCES],
-    prices: &[u32; LIST],
+    prices: &[u32; LIST_LENGTH],
     area: &mut [u8],
 ) -> NetBlock
     requires { ⌜ Writable (netlist (now source)) capacities d start (now first) (now next) end (now row) (now base) (now area) ⌝ }
-    requires { ⌜ PriceList (now prices) ⌝ }
-    ensures { λ r. ⌜ Wrote (netlist (now (source .entry))) capacities d start (now (first .entry)) (now (next .exit)) end (now (row .exit)) (now (base .exit)) (now (area .entry)) (now (area .exit)) (r .end) ⌝ }
+    requires { ⌜ AppliedPrices (now prices) ⌝ }
+    ensures { λ r. ⌜ Wrote (netlist (now (source .entry))) capacities d start (now (first .entry)) (now (next .exit)) end (now (row .exit)) (now (base .exit)) (now (area .entry)) (now (area .exit)) (r .after) ⌝ }
     ensures { λ r. ⌜ r .price ≡ treePrice (now (prices .entry)) (netlist (now (source .entry))) capacities d ⌝ }
 {
     let chain = sinks::chain_of(source, end, first, next, d);
     match chain {
         Chain::Empty => NetBlock {
-            end: start,
+            after: start,
             price: 0,
         },
         Chain::Short(top, other) => {
@@ -283,7 +283,7 @@ fn write_net(
             set_line_parents(source, end, first, next, d, start);
             write_line(area, d, start, netlist::level_at(source, d), n);
             NetBlock {
-                end: start + n,
+                after: start + n,
                 price: pricing::price_line(prices, n, other),
             }
         }
@@ -312,10 +312,10 @@ fn write_nets(
     first: &[u16],
     next: &mut [u16],
     row: &mut [u32; DISTANCES],
-    prices: &[u32; LIST],
+    prices: &[u32; LIST_LENGTH],
     area: &mut [u8],
 ) -> u32
-    requires { ⌜ Ready (netlist (now source)) capacities × PriceList (now prices) ⌝ }
+    requires { ⌜ Ready (netlist (now source)) capacities × AppliedPrices (now prices) ⌝ }
     requires { ⌜ n ≡ recordCount (now source) ⌝ }
     requires { ⌜ ParentsSet (netlist (now source)) capacities (now first) (now next) 0 end ⌝ }
     requires { ⌜ now row ≡ replicate (suc topLevel) 0 ⌝ }
@@ -342,7 +342,7 @@ fn write_nets(
             prices,
             area,
         );
-        at = block.end;
+        at = block.after;
         total += block.price;
         d += 1;
     }
@@ -358,10 +358,10 @@ pub(crate) fn write_mapped(
     first: &[u16],
     next: &mut [u16],
     row: &mut [u32; DISTANCES],
-    prices: &[u32; LIST],
+    prices: &[u32; LIST_LENGTH],
     area: &mut [u8],
 ) -> u32
-    requires { ⌜ Ready (netlist (now source)) capacities × PriceList (now prices) ⌝ }
+    requires { ⌜ Ready (netlist (now source)) capacities × AppliedPrices (now prices) ⌝ }
     requires { ⌜ Chained (netlist (now source)) (now first) (now next) 0 end ⌝ }
     requires { ⌜ n ≡ recordCount (now source) ⌝ }
     requires { ⌜ now row ≡ replicate (suc topLevel) 0 ⌝ }

@@ -29,7 +29,7 @@ module _ (n : Netlist) (caps : Capacities) (d top other : ℕ) (two : 2 ≤ caps
       omega (arith, row-at n d (suc k) (omega (arith, h .near)), h .at (suc k) (omega arith), bit-other top (suc k) (λ e. omega arith), bit-le (eqb other (suc k))))
       (λ k l.
       row-none n d k
-      (omega (arith, h .at k (omega arith), bit-other top k (λ e. omega arith), bit-other other k (λ e. omega (arith, h .nearer)))))
+      (omega (arith, h .at k (omega arith), bit-other top k (λ e. omega arith), bit-other other k (λ e. omega (arith, h .noFarther)))))
 
   -- buffers nearer than distance suc k
   line-sum : (k : ℕ) → sum (λ x. buffersAt (caps .buffer) (row n d) (suc x)) k ≡ count (λ x. ltb (suc x) top) k

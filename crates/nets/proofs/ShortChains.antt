@@ -21,13 +21,13 @@ use Rattle.nets.proofs.OneChain.{OnChain, chain-start, chain-none, chai
 -- one sink, at distance a
 one-sink : (n : Netlist) (d a : ℕ) → 1 ≤ a → a ≤ topLevel → ((k : ℕ) → sinks n d k ≡ bit (eqb a k)) → ShortChain n d a 0
 one-sink n d a l m h =
-    record { above = l; near = m; nearer = omega arith; at = λ k b. omega (arith, h k, bit-other 0 k (λ e. omega arith)) }
+    record { above = l; near = m; noFarther = omega arith; at = λ k b. omega (arith, h k, bit-other 0 k (λ e. omega arith)) }
 
 -- two sinks, at distances a and b
 two-sinks : (n : Netlist) (d a b top other : ℕ) → 1 ≤ a → a ≤ topLevel → b ≤ topLevel → top ≡ max a b → other ≡ min a b →
     ((k : ℕ) → sinks n d k ≡ bit (eqb a k) + bit (eqb b k)) → ShortChain n d top other
 two-sinks n d a b top other l m m′ e f h =
-    record { above = omega arith; near = omega arith; nearer = omega arith; at = λ k c. h k ∙ either k (decLt a b) }
+    record { above = omega arith; near = omega arith; noFarther = omega arith; at = λ k c. h k ∙ either k (decLt a b) }
   where
     either : (k : ℕ) → Dec (a < b) → bit (eqb a k) + bit (eqb b k) ≡ bit (eqb top k) + bit (eqb other k)
     either k (yes c) = let x : top ≡ b = omega arith in let y : other ≡ a = omega arith in rw (x, y) (omega arith)

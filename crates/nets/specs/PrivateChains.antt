@@ -83,7 +83,7 @@ pub record Chained (n : Netlist) (first next : List ℕ) (d end : ℕ) : Type 0 
 pub record ShortChain (n : Netlist) (d top other : ℕ) : Type 0 where
   pub above : 1 ≤ top
   pub near : top ≤ topLevel
-  pub nearer : other ≤ top
+  pub noFarther : other ≤ top
   pub at : (k : ℕ) → 1 ≤ k → sinks n d k ≡ bit (eqb top k) + bit (eqb other k)
 
 -- what is known of d's sinks; of many, nothing is claimed

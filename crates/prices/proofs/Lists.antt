@@ -23,7 +23,7 @@ use Rattle.facts.proofs.Reflect.{then-passed, check-passed}
 use Rattle.netlist.specs.Kinds.{buffer, isGate}
 use Rattle.prices.specs.Prices.{listLength, priceCounts, priceCount, priceStart, plainPrices, listPrice, priceOf}
 use Rattle.prices.specs.Checks.{badListLength, priceCheck, priceListChecks}
-use Rattle.prices.specs.PrivatePrices.{plainList, applied, PriceList}
+use Rattle.prices.specs.PrivatePrices.{plainList, applied, AppliedPrices}
 
 -- 27, by its tests
 pub length-none : (list : List ℕ) → length list ≡ 0 → false ≡ badListLength list
@@ -160,7 +160,7 @@ module _ (list : List ℕ) where
             (λ z. ext-getD 0 prices (p ∷ ps) (r .size ∙ sym z) (λ x m. f x (omega (arith, r .size))))
             (list-length (p ∷ ps) e)
 
-    pub read-prices : length list ≤ k → PriceList prices
+    pub read-prices : length list ≤ k → AppliedPrices prices
     read-prices l = record { size = r .size; small = r .small; passes = rw (read-end l) (applied-passes list (r .passes)) }
 
 -- how many prices a kind has and where they begin, by the kinds that the arms name
@@ -218,7 +218,7 @@ unfolding priceOf
 price-listed [] kind fed e = absurd (omega arith)
 price-listed (p ∷ ps) kind fed e = refl
 
-module _ (list : List ℕ) (h : PriceList list) (kind fed : ℕ) where
+module _ (list : List ℕ) (h : AppliedPrices list) (kind fed : ℕ) where
   pub price-none : (c : ℕ) → c ≡ priceCount kind → c ≤ fed → 0 ≡ priceOf list kind fed
   price-none c e l = sym (price-listed list kind fed (h .size) ∙ rw (le-ltb fed (priceCount kind) (omega arith)))
 

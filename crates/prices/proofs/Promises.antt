@@ -1,23 +1,26 @@
 -- The promises of price lists.
 use Prim.Native.Nat.{ℕ, _+_, _*_, _≤_, _<_}
 use native.Mathlib.Omega.{arith}
-use mathlib.Core.Path.{_≡_, refl, _∙_, ap, ap₂}
+use native.Mathlib.Decide.{decLt}
+use mathlib.Core.Path.{_≡_, refl, _∙_, ap, ap₂, subst}
 use mathlib.Core.Logic.{⊎-elim}
 use mathlib.Core.Bool.{Bool, true, false, cond}
-use mathlib.Core.List.{List}
-use lib.ListN.{length, getD}
-use lib.Dec.{eqb}
+use mathlib.Core.List.{List, [], _∷_}
+use lib.ListN.{length, getD, List·getD-eq-default}
+use lib.Dec.{ltb, eqb}
 use borrow.Author.Tests.{eqb-true}
 use Rattle.facts.specs.Sums.{bit, sum, count}
 use Rattle.facts.specs.Refusals.{rowOf, Conditions, Fails, Each, First}
-use Rattle.facts.proofs.Sums.{sum-cong, sum-add, sum-scale}
+use Rattle.facts.specs.Bytes.{AreBytes}
+use Rattle.facts.proofs.Sums.{sum-cong, sum-mono, sum-const, sum-add, sum-scale, bit-le}
 use Rattle.facts.proofs.Reflect.{same, unlike, both-is}
 use Rattle.facts.proofs.Refusals.{InRow, exact, rows-before, one-row, within-one, first-check, first-then, first-scan, scan-rows}
 use Rattle.netlist.specs.Kinds.{buffer, isGate}
-use Rattle.netlist.specs.Counts.{gates, bufferCount}
-use Rattle.prices.specs.Prices.{listLength, plainPrices, priceOf, junctions, bufferJunctions}
+use Rattle.netlist.specs.Records.{feeds}
+use Rattle.netlist.specs.Counts.{isBuffer, gates, bufferCount}
+use Rattle.prices.specs.Prices.{listLength, priceCount, priceStart, plainPrices, priceOf, priceAt, junctions, bufferJunctions}
 use Rattle.prices.specs.Checks.{priceCheck, priceListChecks}
-use Rattle.prices.specs.Promises.{BadListLength, ListFails, ListExact, EmptyList}
+use Rattle.prices.specs.Promises.{BadListLength, PriceListFails, PriceListExact, EmptyPriceList, PricesFit}
 use Rattle.prices.specs.Worked.{PriceTableTrue}
 use Rattle.prices.proofs.Lists.{plain-kind}
 
@@ -29,13 +32,13 @@ zeros-row : (list : List ℕ) → InRow (rowOf 28) (Zeros list)
 zeros-row list = scan-rows (λ p. Fails 28 p (getD list p 0 ≡ 0)) (rowOf 28) 28 28 (length list) (λ p. within-one 28 p (getD list p 0 ≡ 0))
 
 -- 27 and 28 stand in the two rows behind 26's
-pub list-rows : (list : List ℕ) (n p : ℕ) → ListFails list n p → (rowOf 26 < rowOf n) × (rowOf n ≤ rowOf 28)
+pub list-rows : (list : List ℕ) (n p : ℕ) → PriceListFails list n p → (rowOf 26 < rowOf n) × (rowOf n ≤ rowOf 28)
 list-rows list n p =
     ⊎-elim
     (λ f. omega (arith, one-row 27 0 (BadListLength list) n p f))
     (λ f. omega (arith, zeros-row list n p f))
 
-pub list-first : (list : List ℕ) → First (ListFails list) (priceListChecks list)
+pub list-first : (list : List ℕ) → First (PriceListFails list) (priceListChecks list)
 unfolding priceListChecks
 list-first list =
     first-then
@@ -44,8 +47,8 @@ list-first list =
     (first-scan (priceCheck list) (λ p. Fails 28 p (getD list p 0 ≡ 0)) (rowOf 28) 28 28 (λ p. within-one 28 p (getD list p 0 ≡ 0)) (length list)
     (λ p l. first-check 28 p (same (getD list p 0) 0)))
 
-pub list-exact : ListExact
-list-exact list = exact (list-first list)
+pub price-list-exact : PriceListExact
+price-list-exact list = exact (list-first list)
 
 plain-buffer : (kind : ℕ) → cond (eqb kind buffer) (getD plainPrices kind 0) 0 ≡ 2 * bit (eqb kind buffer)
 plain-buffer kind = go (eqb kind buffer) refl
@@ -54,9 +57,9 @@ plain-buffer kind = go (eqb kind buffer) refl
     go true e = ap (λ (k : ℕ). getD plainPrices k 0) (eqb-true kind buffer e)
     go false e = refl
 
-pub empty-list : EmptyList
+pub empty-price-list : EmptyPriceList
 unfolding junctions bufferJunctions priceOf gates bufferCount count
-empty-list m = (
+empty-price-list m = (
   sum-cong _ _ (m .size) (λ x l. plain-kind (m .at x .kind))
       ∙ sum-add (λ x. 6 * bit (isGate (m .at x .kind))) (λ x. 2 * bit (eqb (m .at x .kind) buffer)) (m .size)
       ∙ ap₂ _+_ (sum-scale 6 (λ x. bit (isGate (m .at x .kind))) (m .size)) buffers,
@@ -65,6 +68,33 @@ empty-list m = (
   where
     buffers : sum (λ x. 2 * bit (eqb (m .at x .kind) buffer)) (m .size) ≡ 2 * sum (λ x. bit (eqb (m .at x .kind) buffer)) (m .size)
     buffers = sum-scale 2 (λ x. bit (eqb (m .at x .kind) buffer)) (m .size)
+
+-- no price is above 255
+price-most : (list : List ℕ) (kind fed : ℕ) → AreBytes list → priceOf list kind fed ≤ 255
+unfolding priceOf
+price-most [] kind fed h = omega (arith, plain-kind kind, bit-le (isGate kind), bit-le (eqb kind buffer))
+price-most (p ∷ ps) kind fed h = go (ltb fed (priceCount kind))
+  where
+    go : (b : Bool) → cond b (getD (p ∷ ps) (priceStart kind + fed) 0) 0 ≤ 255
+    go false = omega arith
+    go true =
+        elim (decLt (priceStart kind + fed) (length (p ∷ ps))) [
+          | yes l ↦ omega (arith, h .each (priceStart kind + fed) l)
+          | no l ↦ omega (arith, List·getD-eq-default (p ∷ ps) 0 {n = priceStart kind + fed} (omega arith))
+        ]
+
+pub prices-fit : PricesFit
+unfolding junctions bufferJunctions bufferCount count
+prices-fit list h m = (
+  subst (λ (x : ℕ). sum (priceAt list m) (m .size) ≤ x) (sum-const 255 (m .size))
+      (sum-mono (priceAt list m) (λ x. 255) (m .size) (λ x l. price-most list (m .at x .kind) _ h)),
+  subst (λ (c : ℕ). sum (λ x. cond (isBuffer m x) (priceAt list m x) 0) (m .size) ≤ c) (sum-scale 255 (λ x. bit (isBuffer m x)) (m .size))
+      (sum-mono _ _ (m .size) (λ x l. one (isBuffer m x) x)),
+)
+  where
+    one : (b : Bool) (x : ℕ) → cond b (priceAt list m x) 0 ≤ 255 * bit b
+    one true x = omega (arith, price-most list (m .at x .kind) (feeds m x) h)
+    one false x = omega arith
 
 pub price-table : PriceTableTrue
 unfolding priceOf

@@ -30,7 +30,7 @@ priceStart kind = getD priceStarts kind 0
 abbrev pub plainPrices : List ℕ
 plainPrices = 0 ∷ 6 ∷ 6 ∷ 6 ∷ 0 ∷ 2 ∷ []
 
--- a list's price of a kind that feeds so many slots; what has no position costs nothing
+-- a list's price of a kind that feeds so many slots; 0 for a number of slots without a position, which no record of a legal netlist feeds
 abbrev pub listPrice : List ℕ → ℕ → ℕ → ℕ
 listPrice list kind fed = cond (ltb fed (priceCount kind)) (getD list (priceStart kind + fed) 0) 0
 

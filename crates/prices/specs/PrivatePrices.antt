@@ -17,7 +17,7 @@ applied [] = plainList
 applied (p ∷ ps) = p ∷ ps
 
 -- eleven prices that 27 and 28 pass, each of one byte
-pub record PriceList (prices : List ℕ) : Type 0 where
+pub record AppliedPrices (prices : List ℕ) : Type 0 where
   pub size : length prices ≡ listLength
   pub small : (p : ℕ) → getD prices p 0 ≤ 255
   pub passes : priceListChecks prices ≡ Passed

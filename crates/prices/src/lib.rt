@@ -5,7 +5,7 @@ ghost use lib.ListN.{length};
 ghost use Rattle.facts.specs.Checks.{scan};
 ghost use Rattle.prices.specs.Prices.{listLength, priceCount, priceStart, priceOf};
 ghost use Rattle.prices.specs.Checks.{badListLength, priceCheck, priceListChecks};
-ghost use Rattle.prices.specs.PrivatePrices.{plainList, applied, PriceList};
+ghost use Rattle.prices.specs.PrivatePrices.{plainList, applied, AppliedPrices};
 use facts::Checked;
 use netlist::AND;
 use netlist::BUFFER;
@@ -13,10 +13,10 @@ use netlist::MAJORITY;
 use netlist::OR;
 
 // Bytes of a list that is not empty.
-pub const LIST: usize = 11;
+pub const LIST_LENGTH: usize = 11;
 
 // What applies where the list is empty: 6 for every gate, 2 for every buffer.
-pub const PLAIN: [u32; LIST] = [6, 6, 6, 6, 6, 6, 2, 2, 2, 2, 2];
+pub const PLAIN: [u32; LIST_LENGTH] = [6, 6, 6, 6, 6, 6, 2, 2, 2, 2, 2];
 
 // Check 27: neither empty nor 11 bytes long.
 fn bad_list_length(list: &[u8]) -> bool
@@ -25,7 +25,7 @@ fn bad_list_length(list: &[u8]) -> bool
     if list.len() == 0 {
         return false;
     }
-    list.len() != LIST
+    list.len() != LIST_LENGTH
 }
 
 // Check 28: the first price of 0.
@@ -55,11 +55,11 @@ pub fn check_list(list: &[u8]) -> Checked
 }
 
 // The prices of a list into an array that holds those of the empty list.
-pub fn read_prices(list: &[u8], prices: &mut [u32; LIST])
+pub fn read_prices(list: &[u8], prices: &mut [u32; LIST_LENGTH])
     requires { ⌜ priceListChecks (now list) ≡ Checked.Passed ⌝ }
     requires { ⌜ now prices ≡ plainList ⌝ }
     ensures { λ _. ⌜ now (prices .exit) ≡ applied (now (list .entry)) ⌝ }
-    ensures { λ _. ⌜ PriceList (now (prices .exit)) ⌝ }
+    ensures { λ _. ⌜ AppliedPrices (now (prices .exit)) ⌝ }
 {
     let mut k: usize = 0;
     while k < list.len() {
@@ -92,8 +92,8 @@ fn price_start(kind: u8) -> usize
 }
 
 // The price of a kind that feeds so many slots.
-pub fn price_of(prices: &[u32; LIST], kind: u8, fed: usize) -> u32
-    requires { ⌜ PriceList (now prices) ⌝ }
+pub fn price_of(prices: &[u32; LIST_LENGTH], kind: u8, fed: usize) -> u32
+    requires { ⌜ AppliedPrices (now prices) ⌝ }
     ensures { λ r. ⌜ (r ≡ priceOf (now (prices .entry)) kind fed) × (r ≤ 255) ⌝ }
 {
     if price_count(kind) <= fed {

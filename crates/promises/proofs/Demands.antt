@@ -10,8 +10,8 @@ use Rattle.levels.proofs.Heights.{height-exact}
 use Rattle.levels.proofs.Lowest.{levels-least}
 use Rattle.levels.proofs.Promises.{levels-exact, high-exactly, levels-keep, levels-written}
 use Rattle.nets.proofs.Promises.{counts-exact, counts-keep, counts-listed}
-use Rattle.prices.proofs.Promises.{list-exact, empty-list}
-use Rattle.mapper.proofs.Promises.{map-exact, refused-leaves, any-list, block-none}
+use Rattle.prices.proofs.Promises.{price-list-exact, empty-price-list, prices-fit}
+use Rattle.mapper.proofs.Promises.{map-exact, refused-leaves, any-price-list, block-none}
 use Rattle.strip.proofs.Promises.{one-source, strip-exact, strip-accepts, strip-writes, strip-keeps}
 use Rattle.simulator.specs.Evaluate.{evaluateArea}
 use Rattle.simulator.specs.Step.{stepArea}
@@ -48,9 +48,10 @@ demand-1 =
       countsKeep = counts-keep;
       map = map-exact;
       mapKeeps = refused-leaves;
-      list = list-exact;
-      emptyList = empty-list;
-      anyList = any-list;
+      priceList = price-list-exact;
+      emptyPriceList = empty-price-list;
+      pricesFit = prices-fit;
+      anyPriceList = any-price-list;
       verify = verifier.refused-exactly;
       evaluate = evaluate-exact;
       step = step-exact;

@@ -21,7 +21,6 @@ use Rattle.strip.proofs.Promises.{strip-accepts, strip-writes}
 use Rattle.mapper.specs.Mapped.{mappedSize}
 use Rattle.prices.specs.Checks.{priceListChecks}
 use Rattle.mapper.specs.Answer.{mapAnswer, answerOf}
-use Rattle.mapper.proofs.Answering.{map-passed}
 use Rattle.promises.specs.Written.{Maps, written}
 use Rattle.promises.specs.RoundTrips.{StripMapped, strippedSource, MapsNoWorse, MapStripped}
 use Rattle.promises.proofs.Written.{written-accepted, written-least, maps-where-accepted}
@@ -41,11 +40,8 @@ unfolding mapAnswer
 maps-within source caps other list area s l room =
     let few = none-accepted-fewer source caps other (s .buffers) (s .accepted) in
     ap (λ (a : Checked). answerOf a (netlist source) caps list .number)
-    (map-passed source caps list area .1 (
-      l,
-      maps-where-accepted source caps other (s .buffers) (s .accepted),
-      check-passed 10 0 _ .1 (le-ltb (length area) (width * mappedSize (netlist source) caps) (omega (arith, few .fits))),
-    ))
+    (maps-where-accepted source caps other list area (s .buffers) (s .accepted) l
+    ∙ check-passed 10 0 _ .1 (le-ltb (length area) (width * mappedSize (netlist source) caps) (omega (arith, few .fits))))
 
 pub map-stripped : MapStripped
 map-stripped caps mapped source size list area e good room =

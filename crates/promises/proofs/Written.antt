@@ -10,7 +10,7 @@ use lib.ListN.{length, drop}
 use lib.Seq.{take-at, drop-at}
 use borrow.Author.Tests.{le-ltb}
 use Rattle.facts.specs.declared.Checked.the-variants.{Passed}
-use Rattle.nets.specs.Checks.{noTree, treeCheck, treeChecks}
+use Rattle.nets.specs.Checks.{noTree, treeCheck}
 use Rattle.facts.specs.Refusals.{rowOf}
 use Rattle.facts.proofs.Refusals.{Numbered, row-positive, zero-passed}
 use Rattle.facts.proofs.Reflect.{check-passed, then-passed, scan-passed}
@@ -29,7 +29,7 @@ use Rattle.mapper.specs.Mapped.{mappedSize, mapped}
 use Rattle.mapper.specs.PrivateWriting.{Ready}
 use Rattle.mapper.specs.Answer.{tooLarge, sourceMaps, mapChecks, answerOf, mapAnswer, mapArea}
 use Rattle.mapper.specs.Promises.{MapFails}
-use Rattle.mapper.proofs.Answering.{map-passed}
+use Rattle.mapper.proofs.Answering.{checked, map-passed}
 use Rattle.mapper.proofs.Promises.{maps-ready, map-exact}
 use Rattle.mapper.proofs.Written.{mapped-read}
 use Rattle.verifier.specs.Checks.{verifyChecks}
@@ -146,16 +146,15 @@ buffers-one-number source caps list area maps =
     }
 
 pub maps-where-accepted : MapsWhereAccepted
-unfolding sourceMaps verifyChecks
-maps-where-accepted source caps other buffers e =
+unfolding verifyChecks
+maps-where-accepted source caps other list area buffers e f =
     let a = accepted-exactly source caps other buffers .0 e .0 in
     let few = none-accepted-fewer source caps other buffers e in
     let p : 0 < caps .buffer = omega (arith, a .allowed .low) in
     let n = netlist source in
-    then-passed (inputChecks source caps) _ .1 (
-      then-passed (inputChecks source caps) _ .0 (checks-passed source caps other .1 a) .0,
-      then-passed (treeChecks n caps) _ .1 (
-        scan-passed (treeCheck n caps) (n .size) .1 (λ d l. check-passed 8 d (noTree n caps d) .1 (ap not (few .trees d l))),
-        check-passed 9 0 (tooLarge n caps) .1 (le-ltb mappedLimit (mappedSize n caps) (omega (arith, few .fits))),
-      ),
+    checked source caps list area (then-passed (inputChecks source caps) _ .0 (checks-passed source caps other .1 a) .0) f
+    ∙ rw (
+      scan-passed (treeCheck n caps) (n .size) .1 (λ d l. check-passed 8 d (noTree n caps d) .1 (ap not (few .trees d l))),
+      check-passed 9 0 (tooLarge n caps) .1 (le-ltb mappedLimit (mappedSize n caps) (omega (arith, few .fits))),
     )
+    refl

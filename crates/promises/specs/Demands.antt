@@ -11,8 +11,8 @@ use Rattle.verifier.specs.Balance.{AcceptedBalanced}
 use Rattle.verifier.specs.Fewest.{OnNetExactly}
 use Rattle.levels.specs.Promises.{HeightExact, LevelsLeast, LevelsExact, HighExactly, LevelsKeep, LevelsWritten}
 use Rattle.nets.specs.Promises.{CountsExact, CountsKeep, CountsListed}
-use Rattle.prices.specs.Promises.{ListExact, EmptyList}
-use Rattle.mapper.specs.Promises.{MapExact, RefusedLeaves, AnyList, BlockNone}
+use Rattle.prices.specs.Promises.{PriceListExact, EmptyPriceList, PricesFit}
+use Rattle.mapper.specs.Promises.{MapExact, RefusedLeaves, AnyPriceList, BlockNone}
 use Rattle.strip.specs.Promises.{OneSource, StripExact, StripAccepts, StripWrites, StripKeeps}
 use Rattle.simulator.specs.Evaluate.{evaluateAnswer, evaluateArea}
 use Rattle.simulator.specs.Step.{stepAnswer, stepArea}
@@ -40,7 +40,7 @@ pub record RefusedKeeps : Type 0 where
 
 -- demand 1: each call answers a number exactly where its condition is the first that holds, accepts exactly if none does, with the
 -- numbers that specification 4 says, the share rounded as 2.6 says, and a refused call leaves every lent area; a price list
--- decides JJs and share of a mapping alone, and an empty one is 6 a gate and 2 a buffer
+-- decides JJs and share of a mapping alone, an empty one is 6 a gate and 2 a buffer, and no record costs more than 255
 pub record Demand1 : Type 0 where
   pub source : SourceExact
   pub input : InputExact
@@ -50,9 +50,10 @@ pub record Demand1 : Type 0 where
   pub countsKeep : CountsKeep
   pub map : MapExact
   pub mapKeeps : RefusedLeaves
-  pub list : ListExact
-  pub emptyList : EmptyList
-  pub anyList : AnyList
+  pub priceList : PriceListExact
+  pub emptyPriceList : EmptyPriceList
+  pub pricesFit : PricesFit
+  pub anyPriceList : AnyPriceList
   pub verify : verifier.RefusedExactly
   pub evaluate : EvaluateExact
   pub step : StepExact

@@ -4,13 +4,15 @@ use mathlib.Core.Path.{_≡_}
 use mathlib.Core.List.{List}
 use lib.ListN.{take, drop}
 use Rattle.facts.specs.declared.Checked.the-variants.{Passed}
+use Rattle.facts.specs.Checks.{check}
 use Rattle.netlist.specs.declared.Capacities.{Capacities}
 use Rattle.netlist.specs.Kinds.{width}
 use Rattle.netlist.specs.Records.{netlist, recordCount}
 use Rattle.netlist.specs.Balance.{PathBalanced, ProperlyBranched}
 use Rattle.netlist.specs.Counts.{bufferCount}
 use Rattle.fanout.specs.Nets.{fewestInAll}
-use Rattle.mapper.specs.Answer.{sourceMaps, mapAnswer, mapArea}
+use Rattle.prices.specs.Checks.{priceListChecks}
+use Rattle.mapper.specs.Answer.{tooShort, mapChecks, mapAnswer, mapArea}
 use Rattle.verifier.specs.declared.Verified.the-variants.{Buffers}
 use Rattle.verifier.specs.Checks.{verifyAnswer}
 use Rattle.verifier.specs.Accepted.{Accepted}
@@ -63,8 +65,9 @@ pub record OneNumber (source : List ℕ) (caps : Capacities) (list area : List �
 abbrev pub BuffersOneNumber : Type 0
 BuffersOneNumber = (source : List ℕ) (caps : Capacities) (list area : List ℕ) → Maps source caps list area → OneNumber source caps list area
 
--- where the verifier accepts any mapped netlist, the mapper refuses by nothing but 27, 28 and 10
+-- where the verifier accepts any mapped netlist, the mapper, with a price list that 27 and 28 pass, refuses by nothing but 10
 abbrev pub MapsWhereAccepted : Type 0
 MapsWhereAccepted =
-    (source : List ℕ) (caps : Capacities) (other : List ℕ) (buffers : ℕ) →
-    verifyAnswer source caps other ≡ Buffers buffers → sourceMaps source caps ≡ Passed
+    (source : List ℕ) (caps : Capacities) (other list area : List ℕ) (buffers : ℕ) →
+    verifyAnswer source caps other ≡ Buffers buffers → priceListChecks list ≡ Passed →
+    mapChecks source caps list area ≡ check 10 0 (tooShort (netlist source) caps area)

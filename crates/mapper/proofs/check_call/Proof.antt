@@ -10,8 +10,8 @@ check-capacities-requires c κs = search needs
 enum-told : tie.Need-enum-told
 enum-told c = search needs
 
-check-listed-requires : tie.Need-check-listed-requires
-check-listed-requires c κs = search needs
+check-list-and-source-requires : tie.Need-check-list-and-source-requires
+check-list-and-source-requires c κs = search needs
 
 enum-known-checked : tie.Need-enum-known-checked
 enum-known-checked c = search needs
@@ -28,7 +28,7 @@ check-call-spec =
     (tie.spec
     check-capacities-requires
     enum-told
-    check-listed-requires
+    check-list-and-source-requires
     enum-known-checked
     returns
     returns-2)

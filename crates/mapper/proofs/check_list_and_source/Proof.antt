@@ -1,8 +1,8 @@
--- `check_listed` meets its contract: the list, then the source.
+-- `check_list_and_source` meets its contract: the list, then the source.
 use Rattle.facts.proofs.Reflect.{then-stop, then-go}
 use borrow.Author.Needs.{needs}
-use Rattle.mapper.proofs.check_listed.Statement.{statement}
-use Rattle.mapper.proofs.check_listed.Tie as tie
+use Rattle.mapper.proofs.check_list_and_source.Statement.{statement}
+use Rattle.mapper.proofs.check_list_and_source.Tie as tie
 
 check-list-requires : tie.Need-check-list-requires
 check-list-requires c κs = search needs
@@ -22,8 +22,8 @@ returns c = search then-go
 returns-2 : tie.Need-returns-2
 returns-2 c = search then-stop
 
-pub check-listed-spec : {M : Type 1} → statement M
-check-listed-spec =
+pub check-list-and-source-spec : {M : Type 1} → statement M
+check-list-and-source-spec =
     tie.close
     (tie.spec
     check-list-requires
