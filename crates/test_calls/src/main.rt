@@ -420,7 +420,7 @@ fn read_file(name: &[u8], bytes: &mut [u8]) -> usize
 
 // Reads the file of a family and prints how many cases it has and how many differ.
 fn test_family(name: &[u8], family: u8, fields: usize) {
-    let mut bytes = [0u8; 200000];
+    let mut bytes = [0u8; 300000];
     let n = read_file(name, &mut bytes);
     let file = &bytes[0..n];
     io::write_all(STDOUT_FILENO, name);

@@ -150,7 +150,7 @@ pub fn list_stream(seed: u64, index: u64) -> Random {
     Random::of(seed ^ 0x5052_4943_4553, index)
 }
 
-/// So many prices from 1 to 255: any, all the largest, or all different.
+/// So many prices from 1 to 255: all 255, all different, alike but at one position, of two, or any.
 fn good_prices(random: &mut Random, len: usize) -> Vec<u8> {
     let any = |random: &mut Random| random.between(1, 255) as u8;
     match random.below(8) {
@@ -160,6 +160,17 @@ fn good_prices(random: &mut Random, len: usize) -> Vec<u8> {
             random.shuffle(&mut prices);
             prices.truncate(len);
             prices
+        }
+        4 => {
+            let alike = any(random);
+            let mut prices = vec![alike; len];
+            let others: Vec<u8> = (1..=255).filter(|&price| price != alike).collect();
+            prices[random.below(len)] = random.pick(&others);
+            prices
+        }
+        5 => {
+            let two = [any(random), any(random)];
+            (0..len).map(|_| random.pick(&two)).collect()
         }
         _ => (0..len).map(|_| any(random)).collect(),
     }
@@ -600,7 +611,8 @@ fn chains_call(random: &mut Random) -> Call {
 }
 
 /// All calls made on netlist `index` of a seed: most are small, one in 250 is at a limit. The mapper
-/// is called twice, with a price list each.
+/// is called twice, with a price list each; it is not called on one in 1,000, whose mapped netlists are
+/// about the limits of size.
 pub fn calls_by_seed(seed: u64, index: u64) -> Vec<Call> {
     let mut random = Random::of(seed, index);
     let mut lists = list_stream(seed, index);

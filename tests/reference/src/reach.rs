@@ -39,6 +39,8 @@ pub enum Reached {
     PricedBuffer(u8),
     /// The same, and a gate of a kind feeds so many slots.
     PricedGate(u8, u8),
+    /// The mapper accepts with a list whose prices are alike but at a position.
+    AlikeBut(u8),
     /// 27.
     WrongLength,
     /// 27 although a price is 0.
@@ -55,7 +57,7 @@ pub enum Reached {
     Before(u8, u8),
 }
 
-pub const ALL_REACHED: [Reached; 40] = [
+pub const ALL_REACHED: [Reached; 51] = [
     Reached::Branching,
     Reached::Crowded,
     Reached::Full,
@@ -76,6 +78,17 @@ pub const ALL_REACHED: [Reached; 40] = [
     Reached::PricedGate(OR, 1),
     Reached::PricedGate(MAJ, 0),
     Reached::PricedGate(MAJ, 1),
+    Reached::AlikeBut(0),
+    Reached::AlikeBut(1),
+    Reached::AlikeBut(2),
+    Reached::AlikeBut(3),
+    Reached::AlikeBut(4),
+    Reached::AlikeBut(5),
+    Reached::AlikeBut(6),
+    Reached::AlikeBut(7),
+    Reached::AlikeBut(8),
+    Reached::AlikeBut(9),
+    Reached::AlikeBut(10),
     Reached::WrongLength,
     Reached::WrongLengthAndZero,
     Reached::WrongLengthAndSource,
@@ -116,6 +129,7 @@ impl Reached {
             Reached::PricedGate(kind, slots) => {
                 return format!("priced gates of kind {kind} that feed {slots}");
             }
+            Reached::AlikeBut(position) => return format!("lists alike but at {position}"),
             Reached::WrongLength => "27",
             Reached::WrongLengthAndZero => "27 with a price of 0",
             Reached::WrongLengthAndSource => "27 with a bad source",
@@ -129,7 +143,21 @@ impl Reached {
 
     /// Whether it is about price lists.
     pub fn of_lists(self) -> bool {
-        self >= Reached::EmptyList
+        matches!(
+            self,
+            Reached::EmptyList
+                | Reached::FullList
+                | Reached::PricedBuffer(_)
+                | Reached::PricedGate(..)
+                | Reached::AlikeBut(_)
+                | Reached::WrongLength
+                | Reached::WrongLengthAndZero
+                | Reached::WrongLengthAndSource
+                | Reached::ZeroAt(_)
+                | Reached::Zeros
+                | Reached::ZeroAndSource
+                | Reached::Before(..)
+        )
     }
 }
 
@@ -158,6 +186,14 @@ fn accepted(mapped: &[u8], capacities: Capacities) -> Vec<Reached> {
     shown
 }
 
+/// The position at which a list of prices that are alike has another.
+fn alike_but(list: &[u8]) -> Option<Reached> {
+    let number = |price: u8| list.iter().filter(|&&other| other == price).count();
+    let position = list.iter().position(|&price| number(price) == 1)?;
+    let alike = list.iter().any(|&price| number(price) == list.len() - 1);
+    alike.then_some(Reached::AlikeBut(position as u8))
+}
+
 /// An accepted call of the mapper: what its list shows on the mapped netlist.
 fn priced(list: &[u8], mapped: &[u8]) -> Vec<Reached> {
     if list.is_empty() {
@@ -170,7 +206,7 @@ fn priced(list: &[u8], mapped: &[u8]) -> Vec<Reached> {
         _ => None,
     };
     let shown: BTreeSet<Reached> = records.iter().zip(fanouts(&records)).filter_map(one).collect();
-    [Reached::FullList].into_iter().chain(shown).collect()
+    [Reached::FullList].into_iter().chain(shown).chain(alike_but(list)).collect()
 }
 
 /// A call of the mapper that 1, 26, 27 or 28 refuses: what its list shows.

@@ -82,6 +82,31 @@ pub fn priced(gates: usize, buffers: usize) -> Vec<Record> {
     records
 }
 
+/// A source whose mapped netlist, with s = 4 and b = 2, has records of every price but that of buffers
+/// which feed nothing.
+pub fn each_price() -> Vec<Record> {
+    let mut source = inputs(7);
+    source.push(Record::new(AND, 0, 1, &[0, 1]));
+    source.push(Record::new(OR, 0, 1, &[2, 3]));
+    source.push(Record::new(MAJ, 0, 1, &[4, 5, 6]));
+    // Each gate is named by an output and costs at its second position. It has a buffer that feeds one
+    // slot.
+    source.extend([7, 8, 9].map(|gate| Record::new(OUTPUT, 0, 3, &[gate])));
+    let first = source.len() as u16;
+    // An input for 4 + 3 slots, one for 4 + 2: with s = 4 the buffers feed 4, 3, 4, 2, and the two of
+    // each input hang on one that feeds 2.
+    source.extend(inputs(2));
+    for (input, sinks) in [(first, 7), (first + 1, 6)] {
+        source.extend(vec![Record::new(OUTPUT, 0, 3, &[input]); sinks]);
+    }
+    // Gates that feed nothing. On input 0: the AND at distance 1, and their seven slots at distance 3,
+    // on 4 and 3 at distance 2, on 2 at distance 1.
+    source.push(Record::new(AND, 0, 3, &[0; 2]));
+    source.push(Record::new(OR, 0, 3, &[0; 2]));
+    source.push(Record::new(MAJ, 0, 3, &[0; 3]));
+    source
+}
+
 /// `size` inputs.
 pub fn inputs(size: usize) -> Vec<Record> {
     vec![Record::new(INPUT, 0, 0, &[]); size]

@@ -79,7 +79,10 @@ fn fast_is_plain_at_the_limits() {
             }
         }
     }
-    let all = ALL_REACHED.into_iter().filter(|reached| !reached.of_lists());
+    let accepted = |reached: Reached| {
+        matches!(reached, Reached::EmptyList | Reached::FullList | Reached::PricedBuffer(_))
+    };
+    let all = ALL_REACHED.into_iter().filter(|&reached| !reached.of_lists() || accepted(reached));
     let missing: Vec<Reached> = all.filter(|reached| !shown.contains_key(reached)).collect();
     assert!(missing.is_empty(), "missing: {missing:?}, met: {shown:?}");
 }

@@ -120,25 +120,8 @@ fn by_hand() {
 /// Each of the prices that the mapper's netlists can have, alone: the list is 1 but at one position.
 #[test]
 fn each_position() {
-    let mut source = shapes::inputs(7);
-    source.push(Record::new(AND, 0, 1, &[0, 1]));
-    source.push(Record::new(OR, 0, 1, &[2, 3]));
-    source.push(Record::new(MAJ, 0, 1, &[4, 5, 6]));
-    // Each gate is named by an output and costs at its second position.
-    source.extend([7, 8, 9].map(|gate| Record::new(OUTPUT, 0, 3, &[gate])));
-    let first = source.len() as u16;
-    // An input for 4 + 3 slots, one for 4 + 2: with s = 4 the buffers feed 4, 3, 4, 2, and the two of
-    // each input hang on one that feeds 2.
-    source.extend(shapes::inputs(2));
-    for (input, sinks) in [(first, 7), (first + 1, 6)] {
-        source.extend(vec![Record::new(OUTPUT, 0, 3, &[input]); sinks]);
-    }
-    // Gates that feed nothing.
-    source.push(Record::new(AND, 0, 3, &[0; 2]));
-    source.push(Record::new(OR, 0, 3, &[0; 2]));
-    source.push(Record::new(MAJ, 0, 3, &[0; 3]));
-    // On input 0: the AND at distance 1, and seven slots at distance 3, on 4 and 3 at distance 2, on
-    // 2 at distance 1. Each of the first three gates has a buffer that feeds one slot.
+    let source = encode(&shapes::each_price());
+    // How many records have the price of each position.
     let number = [1, 1, 1, 1, 1, 1, 0, 3, 4, 2, 3];
     let buffers: u32 = number[6..].iter().sum();
     let all: u32 = number.iter().sum();
@@ -146,8 +129,7 @@ fn each_position() {
         for (position, &records) in number.iter().enumerate() {
             let mut list = [1; 11];
             list[position] = 255;
-            let answer =
-                (engine.map)(&encode(&source), Capacities::new(4, 2), &list, &mut vec![0; 2000]);
+            let answer = (engine.map)(&source, Capacities::new(4, 2), &list, &mut vec![0; 2000]);
             assert_eq!([answer[0], answer[3]], [0, buffers], "{position}");
             assert_eq!(answer[5], all + 254 * records, "{position}");
         }

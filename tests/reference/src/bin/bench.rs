@@ -3,15 +3,15 @@
 //! Six tables: for each call, shape and size the median time of both and the median of the samples'
 //! ratios; then how our time grows from N = 512 to N = 4,096, the two sizes in turns as well, since
 //! the machine's own speed drifts; then the time of the mapper and of least levels on sources that
-//! they refuse, in turns with the accepted one, of those with b = 1, on which the call took longest;
-//! then the time of lists of counts in turns with the mapper's on the same sources; then the time of
-//! stripping in turns with the verifier's on the same mapped netlists, where the bar is 2.5; then two
-//! ways of the fast path to price, by passes over the written records and while it counts the buffers,
-//! and its time with an empty list. The mapper's price list is empty, but in the rows that say so. Both
-//! answers are compared before a row is timed. Areas that a call writes are touched once before and
-//! not cleared between calls. A row of layered netlists goes round as many of them as have 65,536
-//! records together, so that no row repeats one input. Inputs feed one slot (b = 1), but where the
-//! shape names another b.
+//! they refuse, in turns with the accepted one, of those with b = 1 and an empty price list, on which
+//! the call took longest; then the time of lists of counts in turns with the mapper's on the same
+//! sources; then the time of stripping in turns with the verifier's on the same mapped netlists, where
+//! the bar is 2.5; then two ways of the fast path to price, by passes over the written records and
+//! while it counts the buffers, and its time with an empty list. The mapper's price list is empty, but
+//! in the rows that say so. Both answers are compared before a row is timed. Areas that a call writes
+//! are touched once before and not cleared between calls. A row of layered netlists goes round as many
+//! of them as have 65,536 records together, so that no row repeats one input. Inputs feed one slot
+//! (b = 1), but where the shape names another b.
 
 use std::hint::black_box;
 use std::time::{Duration, Instant};
@@ -44,6 +44,8 @@ const BRANCHING: [Name; 4] = [Name::Map, Name::Verify, Name::Strip, Name::CountN
 
 /// The price list of the rows that have one: every price is another.
 const PRICES: [u8; LIST] = [10, 12, 11, 14, 9, 13, 4, 2, 3, 5, 6];
+/// What those rows of the mapper are called.
+const PRICED_LABEL: &str = "map, 11 prices";
 
 /// One input with what the row says of it.
 struct Subject {
@@ -282,7 +284,7 @@ fn print_row(subjects: &[Subject], name: Name) -> f64 {
 
 /// One row of the first table, of the mapper with the list of prices.
 fn print_priced(subjects: &[Subject]) {
-    print_calls(subjects, "map, 11 prices", priced_calls(subjects));
+    print_calls(subjects, PRICED_LABEL, priced_calls(subjects));
 }
 
 /// One row of the first table: these calls on these subjects.
@@ -301,14 +303,25 @@ fn print_calls(subjects: &[Subject], label: &str, mut calls: Vec<Call>) -> f64 {
 
 /// One row of the second table: our time on the larger subjects over that on the smaller.
 fn print_growth(small: &[Subject], large: &[Subject], name: Name) {
-    let (mut many, mut few) = (calls_of(large, name), calls_of(small, name));
+    let calls = [small, large].map(|subjects| calls_of(subjects, name));
+    print_growth_of(calls, name.words(), small[0].shape);
+}
+
+/// One row of the second table, of the mapper with the list of prices.
+fn print_priced_growth(small: &[Subject], large: &[Subject]) {
+    let calls = [small, large].map(priced_calls);
+    print_growth_of(calls, PRICED_LABEL, small[0].shape);
+}
+
+/// One row of the second table: the calls on the smaller subjects and on the larger.
+fn print_growth_of([mut few, mut many]: [Vec<Call>; 2], label: &str, shape: &str) {
     let rounds = rounds_in_a_sample(&LINKED, &mut many);
     let more = rounds_in_a_sample(&LINKED, &mut few);
     let Measured { first, second, ratio } = measure(|side| match side {
         Side::First => time_of(&LINKED, &mut many, rounds),
         Side::Second => time_of(&LINKED, &mut few, more),
     });
-    println!("| {} | {} | {second:.2} | {first:.2} | {ratio:.2} |", name.words(), small[0].shape);
+    println!("| {label} | {shape} | {second:.2} | {first:.2} | {ratio:.2} |");
 }
 
 /// Prints a row of the first table and keeps the subjects if it is the slowest so far.
@@ -579,6 +592,7 @@ fn main() {
         }
     }
     print_growth(&small[2], &large[2], Name::Evaluate);
+    print_priced_growth(&small[2], &large[2]);
     for name in BRANCHING {
         for (small, large) in branching[0].iter().zip(&branching[SIZES.len() - 1]) {
             print_growth(small, large, name);
@@ -633,7 +647,8 @@ fn main() {
 
     println!();
     println!(
-        "| shape | N | M | by passes, us | while counting, us | ratio | empty list, us | list to empty |"
+        "| shape | N | M | 11 prices by passes, us | 11 prices while counting, us | ratio \
+         | empty list, us | list to empty |"
     );
     println!("|---|---|---|---|---|---|---|---|");
     priced_shapes(print_pricing);

@@ -14,10 +14,11 @@ use std::panic::catch_unwind;
 use std::process::ExitCode;
 
 use reference::capacities::Capacities;
-use reference::cases::calls_by_seed;
+use reference::cases::{calls_by_seed, FILL};
 use reference::engine::{perform, Call, Name, Outcome, NAMES, PLAIN};
 use reference::levels;
 use reference::linked::LINKED;
+use reference::prices::LIST;
 use reference::reach::{reached, Reached, ALL_REACHED};
 use reference::record::WIDTH;
 
@@ -113,15 +114,23 @@ fn copy_passes(call: &Call, outcome: &Outcome) -> bool {
 }
 
 /// Whether the source of an accepted call for stripping is mapped again with no more buffers, in an
-/// area as long as the mapped netlist.
+/// area as long as the mapped netlist, and in the same way with prices of 255.
 fn maps_again(call: &Call, outcome: &Outcome) -> bool {
     if call.name != Name::Strip || outcome.answer[0] != 0 {
         return true;
     }
     let n = outcome.answer[2] as usize;
     let source = &outcome.areas[0][..WIDTH * n];
-    let again = (LINKED.map)(source, call.capacities, &[], &mut vec![0; call.mapped.len()]);
-    again[0] == 0 && n + again[3] as usize <= call.mapped.len() / WIDTH
+    let map = |list: &[u8]| {
+        let mut area = vec![FILL; call.mapped.len()];
+        let answer = (LINKED.map)(source, call.capacities, list, &mut area);
+        (answer, area)
+    };
+    let ((again, area), (priced, same_area)) = (map(&[]), map(&[255; LIST]));
+    again[0] == 0
+        && n + again[3] as usize <= call.mapped.len() / WIDTH
+        && again[..5] == priced[..5]
+        && area == same_area
 }
 
 /// The calls on one netlist; false at the first difference.

@@ -961,6 +961,19 @@ fn zeros_at(positions: &[usize]) -> [u8; LIST] {
     list
 }
 
+/// For each position the list of 1s with 255 there, and the list of 255s with 1 there.
+fn alike_but_one() -> Vec<[u8; LIST]> {
+    let mut lists = Vec::new();
+    for position in 0..LIST {
+        for (alike, other) in [(1, 255), (255, 1)] {
+            let mut list = [alike; LIST];
+            list[position] = other;
+            lists.push(list);
+        }
+    }
+    lists
+}
+
 /// Lists that 27 refuses, with and without a price of 0, and such that 28 refuses.
 fn refused_lists() -> Vec<Vec<u8>> {
     let lengths = (1..=10).chain([12, 13, 14, 22, 255, 256, 267]);
@@ -1014,7 +1027,7 @@ fn gate_and_buffer(gate: u8, buffer: u8) -> Call {
 
 /// The worked case (specification 8.2) with lists; lists that are refused, alone and with another
 /// check that fails before or after; buffers that feed 1 to s slots; gates of each kind that feed a
-/// slot or none; netlists that cost nothing; shares about exact halves.
+/// slot or none; netlists that cost nothing; lists alike but at one position; shares about exact halves.
 fn priced_mapper() -> Vec<Case> {
     let worked = shapes::worked();
     let mut calls = vec![
@@ -1049,6 +1062,12 @@ fn priced_mapper() -> Vec<Case> {
     }
     for records in [Vec::new(), shapes::inputs(2), shapes::lines(1, 1)] {
         calls.push(fitting(&records, 3, 1, &MIXED));
+    }
+    // With s = 2 input 0 feeds a gate and two buffers.
+    for (s, b) in [(4, 2), (3, 2), (2, 3)] {
+        for list in alike_but_one() {
+            calls.push(fitting(&shapes::each_price(), s, b, &list));
+        }
     }
     // 0.5, 1.5, 12.5, 13.5, 37.5, 62.5, 98.5 and 99.5 percent, and 13.49.
     let halves =
