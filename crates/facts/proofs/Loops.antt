@@ -8,7 +8,7 @@ use mathlib.Core.Path.{_≡_, refl, sym, ap, ap₂, subst, _∙_}
 use mathlib.Core.Bool.{Bool, true, false, cond}
 use Rattle.facts.specs.declared.Checked.{Checked}
 use Rattle.facts.specs.declared.Checked.the-variants.{Passed, Refused}
-use Rattle.facts.specs.Checks.{_andThen_, scan}
+use Rattle.facts.specs.Checks.{check, _andThen_, scan}
 use Rattle.facts.specs.Sums.{any, seek, largest}
 use Rattle.facts.proofs.Bools.{true-false}
 use Rattle.facts.proofs.Sums.{any-some}
@@ -161,6 +161,18 @@ module _ (f : ℕ → Checked) (n : ℕ) where
   scan-end k i h =
       let e : n - k ≡ 0 = omega arith in
       sym (sym (i .rest) ∙ ap (scan f k) e)
+
+-- one check at each place
+module _ (number : ℕ) (bad : ℕ → Bool) (n k : ℕ) (s : Scanning (λ p. check number p (bad p)) n k) where
+  pub check-more : k < n → bad k ≡ false → Scanning (λ p. check number p (bad p)) n (k + 1)
+  check-more h e = scan-more (λ p. check number p (bad p)) n k Passed s h (rw e) refl
+
+  pub check-stop : (m : ℕ) → k < n → bad k ≡ true → n ≡ m → Refused number k ≡ scan (λ p. check number p (bad p)) 0 m
+  check-stop m h e q =
+      scan-stop (λ p. check number p (bad p)) n k number k (Refused number k) s h (rw e) refl ∙ ap (scan (λ p. check number p (bad p)) 0) q
+
+  pub check-end : (m : ℕ) → n ≤ k → n ≡ m → Passed ≡ scan (λ p. check number p (bad p)) 0 m
+  check-end m h q = scan-end (λ p. check number p (bad p)) n k s h ∙ ap (scan (λ p. check number p (bad p)) 0) q
 
 -- checks that agree on every place
 pub scan-cong : (f g : ℕ → Checked) (n : ℕ) → ((k : ℕ) → k < n → f k ≡ g k) → scan f 0 n ≡ scan g 0 n

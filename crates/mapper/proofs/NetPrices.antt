@@ -29,7 +29,7 @@ use Rattle.nets.proofs.OneChain.{named-above, sinks-unnamed}
 use Rattle.nets.proofs.TreeCounts.{measured-none}
 use Rattle.prices.specs.Prices.{priceCount, priceOf, priceAt, junctions, bufferJunctions}
 use Rattle.prices.specs.PrivatePrices.{applied, AppliedPrices}
-use Rattle.prices.proofs.Lists.{gate-count, applied-price, no-price, price-small}
+use Rattle.prices.proofs.Lists.{gate-count, applied-price, no-price, price-most}
 use Rattle.mapper.specs.Mapped.{buffersOf, mappedSize, place, bufferRecord, mappedAt, mapped}
 use Rattle.mapper.specs.PrivateWriting.{Ready}
 use Rattle.mapper.specs.PrivatePricing.{restPrice, levelPrice, treePrice, driverPrice}
@@ -166,7 +166,7 @@ module _ (prices : List ℕ) (h : AppliedPrices prices) where
   level-small : (s m : ℕ) → 0 < s → levelPrice prices s m ≤ 255 * up s m
   level-small s m p =
       subst₂ (λ (x y : ℕ). x ≤ y) (level-sum prices s m p) (sum-const 255 (up s m))
-      (sum-mono _ (λ j. 255) (up s m) (λ j l. price-small prices h buffer _))
+      (sum-mono _ (λ j. 255) (up s m) (λ j l. price-most prices (h .small) buffer _))
 
   pub tree-small : (n : Netlist) (caps : Capacities) (d : ℕ) → 0 < caps .buffer → treePrice prices n caps d ≤ 255 * treeSize n caps d
   unfolding treePrice
@@ -183,7 +183,7 @@ module _ (prices : List ℕ) (h : AppliedPrices prices) where
   pub drivers-small : (n : Netlist) (N : ℕ) → sum (driverPrice prices n) N ≤ 255 * N
   unfolding driverPrice
   drivers-small n N =
-      subst (λ (x : ℕ). sum (driverPrice prices n) N ≤ x) (sum-const 255 N) (sum-mono _ (λ d. 255) N (λ d l. price-small prices h (n .at d .kind) _))
+      subst (λ (x : ℕ). sum (driverPrice prices n) N ≤ x) (sum-const 255 N) (sum-mono _ (λ d. 255) N (λ d l. price-most prices (h .small) (n .at d .kind) _))
 
 -- the list that applies gives the same prices to each record
 module _ (list : List ℕ) (n : Netlist) (caps : Capacities) (r : Ready n caps) where

@@ -2,7 +2,7 @@
 ghost use mathlib.Core.Path.{_≡_};
 ghost use Prim.Native.Nat.{_+_, _*_, _<_, _≤_};
 ghost use Rattle.facts.specs.Sums.{sum};
-ghost use Rattle.netlist.specs.Kinds.{mappedLimit, topLevel, buffer};
+ghost use Rattle.netlist.specs.Kinds.{mappedLimit, topLevel};
 ghost use Rattle.netlist.specs.Records.{netlist, recordCount};
 ghost use Rattle.fanout.specs.Nets.{treeSize};
 ghost use Rattle.nets.specs.PrivateChains.{Chained};

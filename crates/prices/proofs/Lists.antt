@@ -17,8 +17,8 @@ use Rattle.facts.specs.declared.Checked.the-variants.{Passed, Refused}
 use Rattle.facts.specs.Checks.{check, scan}
 use Rattle.facts.specs.Sums.{bit, any}
 use Rattle.facts.proofs.Bools.{true-false}
-use Rattle.facts.proofs.Sums.{any-none}
-use Rattle.facts.proofs.Loops.{Scanning, scan-more, scan-stop, scan-end}
+use Rattle.facts.proofs.Sums.{any-none, bit-le}
+use Rattle.facts.proofs.Loops.{Scanning, check-more, check-stop, check-end}
 use Rattle.facts.proofs.Reflect.{then-passed, check-passed}
 use Rattle.netlist.specs.Kinds.{buffer, isGate}
 use Rattle.prices.specs.Prices.{listLength, priceCounts, priceCount, priceStart, plainPrices, listPrice, priceOf}
@@ -63,15 +63,17 @@ list-length list e =
 
 -- 28, position by position
 module _ (list : List ℕ) (n k : ℕ) (s : Scanning (priceCheck list) n k) where
+  abbrev zero-at : ℕ → Bool
+  zero-at p = eqb (getD list p 0) 0
+
   pub prices-more : k < n → (getD list k 0 ≡ 0 → ⊥) → Scanning (priceCheck list) n (k + 1)
-  prices-more h e = scan-more (priceCheck list) n k Passed s h (rw (ne-eqb (getD list k 0) 0 e)) refl
+  prices-more h e = check-more 28 zero-at n k s h (ne-eqb (getD list k 0) 0 e)
 
   pub prices-stop : k < n → getD list k 0 ≡ 0 → n ≡ length list → Refused 28 k ≡ scan (priceCheck list) 0 (length list)
-  prices-stop h e q =
-      scan-stop (priceCheck list) n k 28 k (Refused 28 k) s h (rw (eq-eqb (getD list k 0) 0 e)) refl ∙ ap (scan (priceCheck list) 0) q
+  prices-stop h e q = check-stop 28 zero-at n k s (length list) h (eq-eqb (getD list k 0) 0 e) q
 
   pub prices-end : n ≤ k → n ≡ length list → Passed ≡ scan (priceCheck list) 0 (length list)
-  prices-end h q = scan-end (priceCheck list) n k s h ∙ ap (scan (priceCheck list) 0) q
+  prices-end h q = check-end 28 zero-at n k s (length list) h q
 
 -- a kind's price in an empty list: 6 for a gate, 2 for a buffer
 pub plain-kind : (kind : ℕ) → getD plainPrices kind 0 ≡ 6 * bit (isGate kind) + 2 * bit (eqb kind buffer)
@@ -237,13 +239,15 @@ module _ (list : List ℕ) (h : AppliedPrices list) (kind fed : ℕ) where
   pub price-some : (c s : ℕ) → c ≡ priceCount kind → fed < c → s ≡ priceStart kind → getD list (s + fed) 0 ≡ priceOf list kind fed
   price-some c s e l f = sym (price-listed list kind fed (h .size) ∙ rw (lt-ltb fed (priceCount kind) (omega arith), f))
 
-  -- every price is a byte
-  pub price-small : priceOf list kind fed ≤ 255
-  price-small = rw (price-listed list kind fed (h .size)) (go (ltb fed (priceCount kind)))
-    where
-      go : (b : Bool) → cond b (getD list (priceStart kind + fed) 0) 0 ≤ 255
-      go true = h .small (priceStart kind + fed)
-      go false = omega arith
+-- where no entry of a list is above 255, no price is
+pub price-most : (list : List ℕ) → ((p : ℕ) → getD list p 0 ≤ 255) → (kind fed : ℕ) → priceOf list kind fed ≤ 255
+unfolding priceOf
+price-most [] h kind fed = omega (arith, plain-kind kind, bit-le (isGate kind), bit-le (eqb kind buffer))
+price-most (p ∷ ps) h kind fed = go (ltb fed (priceCount kind))
+  where
+    go : (b : Bool) → cond b (getD (p ∷ ps) (priceStart kind + fed) 0) 0 ≤ 255
+    go true = h (priceStart kind + fed)
+    go false = omega arith
 
 -- in the list that applies a kind has the price of the list, at each number of slots that has a position
 pub applied-price : (list : List ℕ) (kind fed : ℕ) → fed < priceCount kind → priceOf (applied list) kind fed ≡ priceOf list kind fed

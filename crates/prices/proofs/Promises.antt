@@ -5,24 +5,24 @@ use native.Mathlib.Decide.{decLt}
 use mathlib.Core.Path.{_≡_, refl, _∙_, ap, ap₂, subst}
 use mathlib.Core.Logic.{⊎-elim}
 use mathlib.Core.Bool.{Bool, true, false, cond}
-use mathlib.Core.List.{List, [], _∷_}
+use mathlib.Core.List.{List}
 use lib.ListN.{length, getD, List·getD-eq-default}
-use lib.Dec.{ltb, eqb}
+use lib.Dec.{eqb}
 use borrow.Author.Tests.{eqb-true}
 use Rattle.facts.specs.Sums.{bit, sum, count}
 use Rattle.facts.specs.Refusals.{rowOf, Conditions, Fails, Each, First}
 use Rattle.facts.specs.Bytes.{AreBytes}
-use Rattle.facts.proofs.Sums.{sum-cong, sum-mono, sum-const, sum-add, sum-scale, bit-le}
+use Rattle.facts.proofs.Sums.{sum-cong, sum-mono, sum-const, sum-add, sum-scale}
 use Rattle.facts.proofs.Reflect.{same, unlike, both-is}
 use Rattle.facts.proofs.Refusals.{InRow, exact, rows-before, one-row, within-one, first-check, first-then, first-scan, scan-rows}
 use Rattle.netlist.specs.Kinds.{buffer, isGate}
 use Rattle.netlist.specs.Records.{feeds}
 use Rattle.netlist.specs.Counts.{isBuffer, gates, bufferCount}
-use Rattle.prices.specs.Prices.{listLength, priceCount, priceStart, plainPrices, priceOf, priceAt, junctions, bufferJunctions}
+use Rattle.prices.specs.Prices.{listLength, plainPrices, priceOf, priceAt, junctions, bufferJunctions}
 use Rattle.prices.specs.Checks.{priceCheck, priceListChecks}
 use Rattle.prices.specs.Promises.{BadListLength, PriceListFails, PriceListExact, EmptyPriceList, PricesFit}
 use Rattle.prices.specs.Worked.{PriceTableTrue}
-use Rattle.prices.proofs.Lists.{plain-kind}
+use Rattle.prices.proofs.Lists.{plain-kind, price-most}
 
 -- the prices of a list that fail
 abbrev Zeros : List ℕ → Conditions
@@ -69,31 +69,25 @@ empty-price-list m = (
     buffers : sum (λ x. 2 * bit (eqb (m .at x .kind) buffer)) (m .size) ≡ 2 * sum (λ x. bit (eqb (m .at x .kind) buffer)) (m .size)
     buffers = sum-scale 2 (λ x. bit (eqb (m .at x .kind) buffer)) (m .size)
 
--- no price is above 255
-price-most : (list : List ℕ) (kind fed : ℕ) → AreBytes list → priceOf list kind fed ≤ 255
-unfolding priceOf
-price-most [] kind fed h = omega (arith, plain-kind kind, bit-le (isGate kind), bit-le (eqb kind buffer))
-price-most (p ∷ ps) kind fed h = go (ltb fed (priceCount kind))
-  where
-    go : (b : Bool) → cond b (getD (p ∷ ps) (priceStart kind + fed) 0) 0 ≤ 255
-    go false = omega arith
-    go true =
-        elim (decLt (priceStart kind + fed) (length (p ∷ ps))) [
-          | yes l ↦ omega (arith, h .each (priceStart kind + fed) l)
-          | no l ↦ omega (arith, List·getD-eq-default (p ∷ ps) 0 {n = priceStart kind + fed} (omega arith))
-        ]
+-- no entry of a list of bytes is above 255
+entry-most : (list : List ℕ) → AreBytes list → (p : ℕ) → getD list p 0 ≤ 255
+entry-most list h p =
+    elim (decLt p (length list)) [
+      | yes l ↦ omega (arith, h .each p l)
+      | no l ↦ omega (arith, List·getD-eq-default list 0 {n = p} (omega arith))
+    ]
 
 pub prices-fit : PricesFit
 unfolding junctions bufferJunctions bufferCount count
 prices-fit list h m = (
   subst (λ (x : ℕ). sum (priceAt list m) (m .size) ≤ x) (sum-const 255 (m .size))
-      (sum-mono (priceAt list m) (λ x. 255) (m .size) (λ x l. price-most list (m .at x .kind) _ h)),
+      (sum-mono (priceAt list m) (λ x. 255) (m .size) (λ x l. price-most list (entry-most list h) (m .at x .kind) _)),
   subst (λ (c : ℕ). sum (λ x. cond (isBuffer m x) (priceAt list m x) 0) (m .size) ≤ c) (sum-scale 255 (λ x. bit (isBuffer m x)) (m .size))
       (sum-mono _ _ (m .size) (λ x l. one (isBuffer m x) x)),
 )
   where
     one : (b : Bool) (x : ℕ) → cond b (priceAt list m x) 0 ≤ 255 * bit b
-    one true x = omega (arith, price-most list (m .at x .kind) (feeds m x) h)
+    one true x = omega (arith, price-most list (entry-most list h) (m .at x .kind) (feeds m x))
     one false x = omega arith
 
 pub price-table : PriceTableTrue

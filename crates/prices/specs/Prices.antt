@@ -20,6 +20,7 @@ priceCounts = 0 ∷ 2 ∷ 2 ∷ 2 ∷ 0 ∷ 5 ∷ []
 abbrev pub priceStarts : List ℕ
 priceStarts = 0 ∷ 0 ∷ 2 ∷ 4 ∷ 0 ∷ 6 ∷ []
 
+-- both of one kind, none past the tables
 abbrev pub priceCount : ℕ → ℕ
 priceCount kind = getD priceCounts kind 0
 
@@ -30,7 +31,7 @@ priceStart kind = getD priceStarts kind 0
 abbrev pub plainPrices : List ℕ
 plainPrices = 0 ∷ 6 ∷ 6 ∷ 6 ∷ 0 ∷ 2 ∷ []
 
--- a list's price of a kind that feeds so many slots; 0 for a number of slots without a position, which no record of a legal netlist feeds
+-- a list's price of a kind that feeds so many slots; 0 for a number of slots without a position, which no gate and no buffer of a legal netlist feeds
 abbrev pub listPrice : List ℕ → ℕ → ℕ → ℕ
 listPrice list kind fed = cond (ltb fed (priceCount kind)) (getD list (priceStart kind + fed) 0) 0
 

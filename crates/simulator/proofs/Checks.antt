@@ -6,12 +6,12 @@ use mathlib.Core.List.{List}
 use native.Mathlib.Nat.{mul-le-mul, le-trans}
 use native.Mathlib.Omega.{arith}
 use lib.ListN.{length, getD}
-use lib.Dec.{eqb}
+use lib.Dec.{ltb, eqb}
 use borrow.Author.Tests.{lt-ltb, le-ltb, eq-eqb, ne-eqb}
 use Rattle.facts.specs.declared.Checked.{Checked}
 use Rattle.facts.specs.declared.Checked.the-variants.{Passed, Refused}
-use Rattle.facts.specs.Checks.{scan, unlessRefused}
-use Rattle.facts.proofs.Loops.{Scanning, scan-more, scan-stop, scan-end}
+use Rattle.facts.specs.Checks.{unlessRefused}
+use Rattle.facts.proofs.Loops.{Scanning, check-more, check-stop, check-end}
 use Rattle.facts.proofs.Reflect.{reflect, or-none, unlike-none}
 use Rattle.facts.proofs.Sums.{count-le}
 use Rattle.netlist.specs.declared.Capacities.{Capacities}
@@ -41,18 +41,19 @@ module _ (a x : Checked) (e : a ≡ x) (new old : List ℕ) where
   area-keeps number place h = rw (← e, h)
 
 module _ (row : List ℕ) (n k : ℕ) (s : Scanning (bitCheck row) n k) where
+  abbrev above-one : ℕ → Bool
+  above-one p = ltb 1 (getD row p 0)
+
   pub bits-more : k < n → getD row k 0 ≤ 1 → Scanning (bitCheck row) n (k + 1)
-  bits-more h e = scan-more (bitCheck row) n k Passed s h (rw (le-ltb 1 (getD row k 0) e)) refl
+  bits-more h e = check-more 19 above-one n k s h (le-ltb 1 (getD row k 0) e)
 
   pub bits-stop : k < n → 1 < getD row k 0 → n ≡ length row → Refused 19 k ≡ bitChecks row
   unfolding bitChecks
-  bits-stop h e q =
-      scan-stop (bitCheck row) n k 19 k (Refused 19 k) s h (rw (lt-ltb 1 (getD row k 0) e)) refl
-      ∙ ap (scan (bitCheck row) 0) q
+  bits-stop h e q = check-stop 19 above-one n k s (length row) h (lt-ltb 1 (getD row k 0) e) q
 
   pub bits-end : n ≤ k → n ≡ length row → Passed ≡ bitChecks row
   unfolding bitChecks
-  bits-end h q = scan-end (bitCheck row) n k s h ∙ ap (scan (bitCheck row) 0) q
+  bits-end h q = check-end 19 above-one n k s (length row) h q
 
 module _ (source row area : List ℕ) (x : ℕ) (e : x ≡ inputs (netlist source)) where
   pub areas-row : (length row ≡ x → ⊥) → true ≡ badAreas (netlist source) row area
