@@ -75,8 +75,19 @@ def own_names():
     return found
 
 
+def borrowed():
+    """Names that some file imports from a library: a lemma of ours may have the same."""
+    ours = "|".join(os.listdir(os.path.join(ROOT, "crates")))
+    found = set()
+    for path in files(".antt", ".rt"):
+        for m in re.finditer(r"^(?:ghost )?use ([^{;\n]*)\.\{([^}]*)\}", read(path), re.M):
+            if not re.match(r"Rattle\.(" + ours + r")\b", m.group(1)):
+                found.update(name.strip().split(" as ")[0] for name in m.group(2).split(","))
+    return found
+
+
 def renaming():
-    own = own_names()
+    own = own_names() - borrowed()
     by_new = collections.defaultdict(list)
     for name in sorted(own):
         by_new[snake(name)].append(name)

@@ -1,4 +1,6 @@
 // The C interface: the calls over numbers and byte areas. Numbers of an answer are four bytes each, low byte first.
+#![tactic(auto)]
+
 ghost use Rattle.std.specs.Prelude.{◌≡◌, ◌*◌, ◌<◌, length};
 ghost use Rattle.facts.specs.Checks.{checked_numbers};
 ghost use Rattle.netlist.specs.Capacities.{capacities_of};

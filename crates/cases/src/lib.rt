@@ -1,4 +1,6 @@
 // Stored test cases: a file is a four-byte count and then fields, each a four-byte length and its bytes. Low byte first.
+#![tactic(auto)]
+
 ghost use Rattle.std.specs.Prelude.{◌≡◌, ◌<◌, ◌≤◌, length};
 
 const NUMBER: usize = 4;

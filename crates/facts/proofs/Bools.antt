@@ -32,9 +32,9 @@ pub or_false : (a : Bool) → (a || false) ≡ a
 or_false true = refl
 or_false false = refl
 
-pub not_true : (a : Bool) → (a ≡ true → ⊥) → a ≡ false
-not_true true h = absurd (h refl)
-not_true false h = refl
+pub not-true : (a : Bool) → (a ≡ true → ⊥) → a ≡ false
+not-true true h = absurd (h refl)
+not-true false h = refl
 
 pub true_false : (a : Bool) → a ≡ true → a ≡ false → ⊥
 true_false a e f = let z : ◌≡◌ {A = ℕ} 0 1 = cc in omega arith

@@ -4,7 +4,7 @@ use mathlib.Core.Path.{◌≡◌, refl}
 use mathlib.Core.Bool.{Bool, true, false, cond, not, ◌&&◌, ◌||◌}
 use mathlib.Core.List.{List}
 use lib.Dec.{ltb, leb, eqb}
-use borrow.Author.Tests.{ltb-true, ltb-false, leb-true, leb-false, eqb-true, eqb-false, lt-ltb, le-ltb, le-leb, lt-leb, eq-eqb, ne_eqb, not_true, not-false}
+use borrow.Author.Tests.{ltb-true, ltb-false, leb-true, leb-false, eqb-true, eqb-false, lt-ltb, le-ltb, le-leb, lt-leb, eq-eqb, ne_eqb, not-true, not-false}
 use native.Mathlib.Omega.{arith}
 use native.Mathlib.Decide.{ℕ_discrete}
 use mathlib.Core.Logic.{◌⊎◌, inl, inr, ⊎_elim, ◌≢◌, ◌↔◌}
@@ -135,7 +135,7 @@ pub same : (a b : ℕ) → (eqb a b ≡ true) ↔ (a ≡ b)
 same a b = (eqb-true a b, eq-eqb a b)
 
 pub unlike : (a b : ℕ) → (not (eqb a b) ≡ true) ↔ (a ≢ b)
-unlike a b = (λ e. eqb-false a b (not_true (eqb a b) e), λ e. rw (ne_eqb a b e))
+unlike a b = (λ e. eqb-false a b (not-true (eqb a b) e), λ e. rw (ne_eqb a b e))
 
 pub both : (a b : Bool) → ((a && b) ≡ true) ↔ ((a ≡ true) × (b ≡ true))
 both true b = (λ e. (refl, e), λ e. e.1)

@@ -9,7 +9,7 @@ use native.Mathlib.Decide.{dec_lt}
 use native.Mathlib.Numerals.{add-one}
 use lib.Dec.{ltb, eqb}
 use borrow.Author.Tests.{ltb-true, lt-ltb, eq-eqb, ne_eqb, eqb-true}
-use Rattle.facts.proofs.Bools.{and_l, and_r, or_l, or_r, true_false, not_true}
+use Rattle.facts.proofs.Bools.{and_l, and_r, or_l, or_r, true_false, not-true}
 use Rattle.facts.specs.Sums.{bit, sum, count, count₂, largest, any}
 
 -- equal terms below n give equal sums
@@ -383,8 +383,8 @@ any_some p n = (any_found p n, λ f. any_at p n f.0 f.1 f.2)
 -- no number below n has p
 pub any_none : (p : ℕ → Bool) (n : ℕ) → (any p n ≡ false) ↔ ((i : ℕ) → i < n → p i ≡ false)
 any_none p n = (
-  λ e i l. not_true (p i) (λ h. true_false (any p n) (any_at p n i l h) e),
-  λ h. not_true (any p n) (λ e. let f = any_found p n e in true_false (p f.0) f.2 (h f.0 f.1)),
+  λ e i l. not-true (p i) (λ h. true_false (any p n) (any_at p n i l h) e),
+  λ h. not-true (any p n) (λ e. let f = any_found p n e in true_false (p f.0) f.2 (h f.0 f.1)),
 )
 
 pub any_cong : (p q : ℕ → Bool) (n : ℕ) → ((j : ℕ) → j < n → p j ≡ q j) → any p n ≡ any q n

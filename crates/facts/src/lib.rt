@@ -1,4 +1,6 @@
 // What every call shares and no netlist is needed for: the answer of a list of checks, a byte as a wider number, a bool as one, the larger and the smaller of two numbers, a fraction rounded, an area copied, and a number written in four bytes.
+#![tactic(auto)]
+
 ghost use Rattle.std.specs.Prelude.{◌≡◌, ◌+◌, ◌*◌, ◌<◌, ◌≤◌, max, min, length};
 ghost use Rattle.facts.specs.Areas.{put};
 ghost use Rattle.facts.specs.Bytes.{four};

@@ -6,7 +6,7 @@ use mathlib.Core.List.{List}
 use mathlib.Core.Logic.{◌↔◌, inl, inr, ⊎_elim}
 use native.Mathlib.Decide.{dec_lt}
 use native.Mathlib.Omega.{arith}
-use borrow.Author.Tests.{not-false, not_true}
+use borrow.Author.Tests.{not-false, not-true}
 use Rattle.facts.specs.declared.Checked.{Checked}
 use Rattle.facts.specs.declared.Checked.TheVariants as checked
 use Rattle.facts.specs.Checks.{outcome}
@@ -115,7 +115,7 @@ driver_is source d h =
     there : not (is_driver (record_at source d).kind) ≡ true → NoDriver source d
     there e =
         elim (dec_lt d (record_count source)) [
-          | yes l ↦ inr (is_output_lem (netlist source) h.is_source d l (not_true _ e))
+          | yes l ↦ inr (is_output_lem (netlist source) h.is_source d l (not-true _ e))
           | no g ↦ inl (omega arith)
         ]
 

@@ -1,4 +1,6 @@
 // One net: its sinks by distance and the fewest buffers of a tree.
+#![tactic(auto)]
+
 ghost use Rattle.std.specs.Prelude.{◌≡◌, suc, ◌/◌, ◌<◌, ◌≤◌, cond};
 ghost use Rattle.netlist.specs.Records.{netlist, record_count};
 ghost use Rattle.netlist.specs.Kinds.{top_level};

@@ -1,4 +1,6 @@
 // The sheet of a mapped netlist: its records by level, as text (specification 7.2).
+#![tactic(auto)]
+
 ghost use Rattle.std.specs.Prelude.{◌≡◌, ◌≤◌, length};
 ghost use Rattle.facts.specs.Areas.{onto, put};
 ghost use Rattle.netlist.specs.Records.{netlist};

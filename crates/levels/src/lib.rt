@@ -1,4 +1,6 @@
 // Least levels (specification 2.7, 4.10): a source's copy in which every record stands as low as the heights of the nets let it.
+#![tactic(auto)]
+
 ghost use Rattle.std.specs.Prelude.{◌≡◌, ◌≤◌};
 ghost use Rattle.facts.specs.Checks.{◌and_then◌, unless_refused};
 ghost use Rattle.netlist.specs.Checks.{structure_checks};

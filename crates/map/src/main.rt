@@ -1,4 +1,6 @@
 // The program `map`: standard input is three bytes for the capacities, then the source; the mapper's seven numbers, with an empty price list, go to standard output.
+#![tactic(auto)]
+
 ghost use Rattle.std.specs.Prelude.{◌≡◌, [], drop};
 ghost use Rattle.netlist.specs.CapacityBytes.{capacity_bytes, capacities_in};
 ghost use Rattle.mapper.specs.Answer.{map_answer};

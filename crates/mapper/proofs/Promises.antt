@@ -8,7 +8,7 @@ use native.Mathlib.Omega.{arith}
 use native.Mathlib.Nat.{zero-add}
 use lib.ListN.{length, take, drop, length-append, length-drop}
 use lib.Seq.{take_at, drop_at}
-use borrow.Author.Tests.{le-leb, not_true}
+use borrow.Author.Tests.{le-leb, not-true}
 use Rattle.facts.specs.declared.Checked.{Checked}
 use Rattle.facts.specs.declared.Checked.TheVariants.{Passed, Refused}
 use Rattle.facts.specs.Checks.{check, ◌and_then◌}
@@ -62,8 +62,8 @@ treeless_is n caps d i p = (there (is_driver (n.at d).kind) refl, λ h. back (ne
     exactly = tree_exactly c caps.buffer (net_of n d) (row n d) (omega arith) (row_of_net n d i)
 
     there : (b : Bool) → is_driver (n.at d).kind ≡ b → no_tree n caps d ≡ true → Treeless n caps d
-    there true e h = (e, λ t l. true_false (net_has_tree n caps d) (exactly.0 (t, l)) (not_true _ h))
-    there false e h = absurd (true_false (net_has_tree n caps d) empty (not_true _ h))
+    there true e h = (e, λ t l. true_false (net_has_tree n caps d) (exactly.0 (t, l)) (not-true _ h))
+    there false e h = absurd (true_false (net_has_tree n caps d) empty (not-true _ h))
       where
         empty : net_has_tree n caps d ≡ true
         empty = le-leb (nodes_at caps.buffer (row n d) 1) c (omega (arith, (measured_none n caps d p (no_sinks n d i e)).nodes))

@@ -1,4 +1,6 @@
 // The mapper: checks 9 and 10 and the mapped netlist, written record by record and priced.
+#![tactic(auto)]
+
 ghost use Rattle.std.specs.Prelude.{◌≡◌, suc, ◌*◌, ◌≤◌, length, replicate};
 ghost use Rattle.netlist.specs.Kinds.{slots, top_level, source_limit, mapped_limit};
 ghost use Rattle.netlist.specs.Records.{netlist, record_count};

@@ -7,7 +7,7 @@ use mathlib.Core.Bool.{Bool, true, false}
 use lib.Dec.{leb, eqb}
 use borrow.Author.Tests.{leb-true, le-leb, eqb-true, eqb-false}
 use Rattle.facts.specs.Sums.{bit, sum, count}
-use Rattle.facts.proofs.Bools.{and_l, and_r, not_true}
+use Rattle.facts.proofs.Bools.{and_l, and_r, not-true}
 use Rattle.facts.proofs.Sums.{bit_le, count_cong}
 use Rattle.netlist.specs.Kinds.{and, majority, among}
 use Rattle.netlist.specs.Records.{Netlist}
@@ -48,7 +48,7 @@ among_one a k = go (eqb k a) refl
     go : (b : Bool) → eqb k a ≡ b → among a a k ≡ b
     go true e = let h : k ≡ a = eqb-true k a e in rw (le-leb a k (omega arith), le-leb k a (omega arith))
     go false e =
-        not_true (among a a k) (λ t. eqb-false k a e (omega (arith, leb-true a k (and_l (leb a k) (leb k a) t), leb-true k a (and_r (leb a k) (leb k a) t))))
+        not-true (among a a k) (λ t. eqb-false k a e (omega (arith, leb-true a k (and_l (leb a k) (leb k a) t), leb-true k a (and_r (leb a k) (leb k a) t))))
 
 pub one_kind : (m : Netlist) (kind x : ℕ) → x ≡ count_kind m (among kind kind) → x ≡ count_of m kind
 one_kind m kind x e = e ∙ count_cong _ _ m.size (λ i l. among_one kind (m.at i).kind)

@@ -1,4 +1,6 @@
 // Records of ten bytes, capacities (checks 1 and 26), the source reader (2 to 7) and the record view.
+#![tactic(auto)]
+
 ghost use Rattle.std.specs.Prelude.{◌≡◌, leb};
 ghost use Rattle.netlist.specs.Kinds.{among, is_gate, is_driver};
 ghost use Rattle.netlist.specs.Kinds;

@@ -1,4 +1,6 @@
 // The nets of a source: the chains of their sinks, and their trees counted, for check 8 and for a list of counts (specification 4.9).
+#![tactic(auto)]
+
 ghost use Rattle.std.specs.Prelude.{◌≡◌};
 ghost use Rattle.nets.specs.Counts.{counts_answer, counts_area};
 

@@ -1,4 +1,6 @@
 // The foundry's price list: checks 27 and 28, the prices that apply, and the price of a record by its kind and the slots it feeds.
+#![tactic(auto)]
+
 ghost use Rattle.std.specs.Prelude.{◌≡◌, ◌≤◌, length};
 ghost use Rattle.facts.specs.Checks.{scan};
 ghost use Rattle.prices.specs.Prices.{list_length, price_count, price_start, price_of};

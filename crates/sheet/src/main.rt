@@ -1,4 +1,6 @@
 // The program `sheet`: the files s, source and mapped of the working directory; the mapped netlist's sheet by level, or the verifier's refusal, goes to standard output.
+#![tactic(auto)]
+
 ghost use Rattle.std.specs.Prelude.{◌≡◌, ◌≤◌, length};
 ghost use Rattle.io.specs.Counts.{IsPrefixLen};
 ghost use Rattle.facts.specs.Areas.{onto};

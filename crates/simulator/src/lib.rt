@@ -1,4 +1,6 @@
 // The plain evaluator, one step and the phase run (checks 18 and 19).
+#![tactic(auto)]
+
 ghost use Rattle.std.specs.Prelude.{◌≡◌};
 ghost use Rattle.simulator.specs.Evaluate.{evaluate_answer, evaluate_area};
 ghost use Rattle.simulator.specs.Step.{step_answer, step_area};

@@ -1,4 +1,6 @@
 // Stripping (specification 4.11): the source that a mapped netlist came from.
+#![tactic(auto)]
+
 ghost use Rattle.std.specs.Prelude.{◌≡◌};
 ghost use Rattle.facts.specs.Areas.{onto};
 ghost use Rattle.facts.specs.Checks.{unless_refused};

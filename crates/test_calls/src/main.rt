@@ -1,5 +1,7 @@
 // Runs the calls on stored cases and compares each answer with the stored one. For each family it prints how many cases there are
 // and how many differ; then what the reader answers at the sizes around a source's limit.
+#![tactic(auto)]
+
 ghost use Rattle.std.specs.Prelude.{◌≤◌, length};
 
 use facts::Checked;

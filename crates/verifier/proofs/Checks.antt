@@ -8,7 +8,7 @@ use mathlib.Core.List.{List}
 use mathlib.Core.Logic.{◌≢◌}
 use lib.ListN.{length}
 use lib.Dec.{ltb, leb, eqb}
-use borrow.Author.Tests.{lt-ltb, le-ltb, le-leb, lt-leb, eq-eqb, ne_eqb, not_true}
+use borrow.Author.Tests.{lt-ltb, le-ltb, le-leb, lt-leb, eq-eqb, ne_eqb, not-true}
 use Rattle.facts.specs.declared.Checked.{Checked}
 use Rattle.facts.specs.declared.Checked.TheVariants.{Passed, Refused}
 use Rattle.facts.specs.Checks.{check, scan}
@@ -91,7 +91,7 @@ module _ (m : Netlist) (k : ℕ) (r : Record) where
   slots_passed h = let f = simp reflect at h in simp reflect (λ j l. (f.0 j l, f.1 j l))
 
   pub slots_good : (b : Bool) → b ≡ not (any (bad_fanin m r) (arity r.kind)) → b ≡ true → slot_checks m k r ≡ Passed
-  slots_good b e t = slots_fine (not_true (any (bad_fanin m r) (arity r.kind)) (sym e ∙ t))
+  slots_good b e t = slots_fine (not-true (any (bad_fanin m r) (arity r.kind)) (sym e ∙ t))
 
   module _ (n : ℕ) (p : n ≡ arity r.kind) (j : ℕ) where
     pub names_bad : (b : Bool) → j < n → b ≡ bad_name m r j → b ≡ true → Refused 14 k ≡ slot_checks m k r

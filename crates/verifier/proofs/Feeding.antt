@@ -9,7 +9,7 @@ use mathlib.Core.List.{List}
 use lib.ListN.{length, get_or, replicate, length-set, length-replicate, get_or-replicate}
 use lib.Seq.{set-get_or, get_or-set_same, get_or-set_other}
 use lib.Dec.{ltb, leb, eqb}
-use borrow.Author.Tests.{lt-ltb, le-ltb, ltb-true, ltb-false, leb-true, leb-false, eqb-true, eqb-false, not_true, not-false}
+use borrow.Author.Tests.{lt-ltb, le-ltb, ltb-true, ltb-false, leb-true, leb-false, eqb-true, eqb-false, not-true, not-false}
 use Rattle.facts.specs.Sums.{bit, sum, count, count₂, any}
 use Rattle.facts.specs.declared.Checked.{Checked}
 use Rattle.facts.specs.declared.Checked.TheVariants.{Passed, Refused}
@@ -321,7 +321,7 @@ module _ (caps : Capacities) (m : Netlist) (counts : List ℕ) (size k : ℕ) (i
   count_more d = scan_more (count_check caps m counts) size k Passed i l (sym (rw (← g, le-ltb most f (leb-true f most (sym h ∙ not-false b d))))) refl
 
   pub count_stop : not b ≡ true → Refused 17 k ≡ scan (count_check caps m counts) 0 size
-  count_stop d = scan_stop (count_check caps m counts) size k 17 k (Refused 17 k) i l (sym (rw (← g, lt-ltb most f (leb-false f most (sym h ∙ not_true b d))))) refl
+  count_stop d = scan_stop (count_check caps m counts) size k 17 k (Refused 17 k) i l (sym (rw (← g, lt-ltb most f (leb-false f most (sym h ∙ not-true b d))))) refl
 
 -- the largest count of the records from `from` on, below k
 module _ (counts : List ℕ) (from : ℕ) where

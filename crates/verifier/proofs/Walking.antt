@@ -9,7 +9,7 @@ use mathlib.Core.List.{List}
 use lib.ListN.{length, get_or, set, replicate, length-set, length-replicate, get_or-replicate}
 use lib.Seq.{get_or-set_same, get_or-set_other}
 use lib.Dec.{eqb}
-use borrow.Author.Tests.{lt-ltb, le-ltb, eq-eqb, ne_eqb, not_true}
+use borrow.Author.Tests.{lt-ltb, le-ltb, eq-eqb, ne_eqb, not-true}
 use Rattle.facts.specs.declared.Checked.{Checked}
 use Rattle.facts.specs.declared.Checked.TheVariants.{Passed, Refused}
 use Rattle.facts.specs.Checks.{check, scan}
@@ -92,7 +92,7 @@ module _ (m : Netlist) (drivers : List ℕ) (known : Known m drivers) (r : Recor
 -- so has one whose slot was counted
 module _ (m : Netlist) (r : Record) (used : ℕ) (u : used ≡ arity buffer) (c : Bool) (before after : List ℕ) (f : Fed m r used c before after) (g : c ≡ true) where
   fed_fine : bad_fanin m r 0 ≡ false
-  fed_fine = (any_none (bad_fanin m r) used).0 (not_true (any (bad_fanin m r) used) (sym f.good ∙ g)) 0 (omega (arith, u))
+  fed_fine = (any_none (bad_fanin m r) used).0 (not-true (any (bad_fanin m r) used) (sym f.good ∙ g)) 0 (omega (arith, u))
 
   module _ (drivers : List ℕ) (x : ℕ) (p : x ≡ slot r 0) (known : Known m drivers) where
     pub fanin_room : x < length drivers

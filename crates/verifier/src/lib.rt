@@ -1,4 +1,6 @@
 // The verifier (specification 4.3): whether a mapped netlist is legal for a source and capacities (checks 11 to 17).
+#![tactic(auto)]
+
 ghost use Rattle.std.specs.Prelude.{◌≡◌};
 ghost use Rattle.netlist.specs.Capacities.{Allowed};
 ghost use Rattle.netlist.specs.Records.{netlist};
