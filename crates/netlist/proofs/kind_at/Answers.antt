@@ -1,0 +1,5 @@
+-- `kind_at` meets its contract: it is the field of the record.
+use Rattle.netlist.proofs.kind_at.Goals as goal
+
+pub returns : goal.returns
+returns c = cc
