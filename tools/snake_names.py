@@ -112,13 +112,14 @@ def in_antt(text, to):
     out = []
     for line in text.split("\n"):
         code, mark, comment = line.partition("--") if re.search(r"(^|\s)--(\s|$)", line) else (line, "", "")
-        camel = {old: new for old, new in to.items() if "-" not in old}
+        camel = {old: new for old, new in to.items() if re.search("[a-z0-9][A-Z]", old)}
         out.append(by_token(code, to) + mark + by_token(comment, camel))
     return "\n".join(out)
 
 
 def in_rt(text, to):
-    camel = {old: new for old, new in to.items() if "-" not in old}
+    """Clauses name definitions and no lemmas."""
+    camel = {old: new for old, new in to.items() if re.search("[a-z0-9][A-Z]", old)}
     out = []
     for line in text.split("\n"):
         out.append(line if '"' in line and "extern" not in line else by_token(line, camel))
