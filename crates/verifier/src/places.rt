@@ -50,7 +50,7 @@ fn differs(a: Record, r: Record) -> bool
 }
 
 // Check 13: r is no buffer's record.
-fn no_buffer_lem(r: Record) -> bool
+fn no_buffer(r: Record) -> bool
     ensures { result ≡ no_buffer r }
 {
     if r.kind != netlist::BUFFER {
@@ -180,7 +180,7 @@ fn check_buffer(mapped: &[u8], n: u32, k: u32, counts: &mut [u16], drivers: &mut
     ensures known_2 { Known (netlist mapped.now) drivers.new }
 {
     let r = record_reader::read_at(mapped, k as usize);
-    if no_buffer_lem(r) {
+    if no_buffer(r) {
         return Checked::Refused(13, k);
     }
     if feed_slots(mapped, r, arity(netlist::BUFFER), counts) {
