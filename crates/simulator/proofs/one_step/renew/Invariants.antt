@@ -1,0 +1,14 @@
+-- `renew` meets its contract: the first i bytes are the new values, and the second half, which they are worked out from, is as it was.
+use Prim.Native.Nat.{◌-◌, ◌*◌, ◌≤◌}
+use mathlib.Core.Path.{◌≡◌}
+use lib.ListN.{length, drop}
+use Rattle.netlist.specs.Records.{netlist}
+use Rattle.simulator.specs.Step.{renewed_below}
+use Rattle.simulator.proofs.Writes.{Passing}
+use Rattle.simulator.proofs.one_step.renew.Given as goal
+
+abbrev pub invariant-loop-i : goal.invariant-loop-i
+invariant-loop-i l = (l.n ≤ l.m) × (length l.initial.state ≡ 2 * l.m) × Passing l.mapped l.n (renewed_below (netlist l.mapped) l.row (drop l.m l.initial.state) l.i) l.given l.i l.state l.initial.state
+
+abbrev pub decreases-loop-i : goal.decreases-loop-i
+decreases-loop-i l = l.n - l.i
