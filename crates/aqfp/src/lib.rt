@@ -46,8 +46,7 @@ fn answer_checked(answer: &mut [u8; 8], checked: Checked) -> u32
 }
 
 // The mapper: number, place, M, buffers, D, JJs, share.
-#[unsafe(no_mangle)]
-pub extern "C" fn aqfp_map(
+pub fn aqfp_map(
     source: &[u8],
     capacity: u32,
     input_capacity: u32,
@@ -78,8 +77,7 @@ pub extern "C" fn aqfp_map(
 }
 
 // The count of one net: number, place, fewest buffers, or what stands for no tree.
-#[unsafe(no_mangle)]
-pub extern "C" fn aqfp_count(
+pub fn aqfp_count(
     source: &[u8],
     capacity: u32,
     input_capacity: u32,
@@ -101,8 +99,7 @@ pub extern "C" fn aqfp_count(
 }
 
 // The list of counts: number, place.
-#[unsafe(no_mangle)]
-pub extern "C" fn aqfp_count_nets(
+pub fn aqfp_count_nets(
     source: &[u8],
     capacity: u32,
     input_capacity: u32,
@@ -124,8 +121,7 @@ pub extern "C" fn aqfp_count_nets(
 }
 
 // The verifier (specification 4.3): number, place, buffers.
-#[unsafe(no_mangle)]
-pub extern "C" fn aqfp_verify(
+pub fn aqfp_verify(
     source: &[u8],
     capacity: u32,
     input_capacity: u32,
@@ -146,13 +142,7 @@ pub extern "C" fn aqfp_verify(
 }
 
 // The plain evaluator: number, place.
-#[unsafe(no_mangle)]
-pub extern "C" fn aqfp_evaluate(
-    source: &[u8],
-    row: &[u8],
-    values: &mut [u8],
-    answer: &mut [u8; 8],
-) -> u32
+pub fn aqfp_evaluate(source: &[u8], row: &[u8], values: &mut [u8], answer: &mut [u8; 8]) -> u32
     ensures answer { Answered result answer.new (checked_numbers (evaluate_answer source.now row.now values.old)) }
     ensures area { values.new ≡ evaluate_area source.now row.now values.old }
 {
@@ -160,8 +150,7 @@ pub extern "C" fn aqfp_evaluate(
 }
 
 // One step: number, place.
-#[unsafe(no_mangle)]
-pub extern "C" fn aqfp_step(
+pub fn aqfp_step(
     source: &[u8],
     capacity: u32,
     input_capacity: u32,
@@ -184,8 +173,7 @@ pub extern "C" fn aqfp_step(
 }
 
 // The phase run: number, place.
-#[unsafe(no_mangle)]
-pub extern "C" fn aqfp_run(
+pub fn aqfp_run(
     source: &[u8],
     capacity: u32,
     input_capacity: u32,
@@ -211,13 +199,7 @@ pub extern "C" fn aqfp_run(
 }
 
 // Least levels: number, place.
-#[unsafe(no_mangle)]
-pub extern "C" fn aqfp_levels(
-    source: &[u8],
-    capacity: u32,
-    levelled: &mut [u8],
-    answer: &mut [u8; 8],
-) -> u32
+pub fn aqfp_levels(source: &[u8], capacity: u32, levelled: &mut [u8], answer: &mut [u8; 8]) -> u32
     ensures answer { Answered result answer.new (checked_numbers (levels_answer source.now capacity levelled.old)) }
     ensures area { levelled.new ≡ levels_area source.now capacity levelled.old }
 {
@@ -225,8 +207,7 @@ pub extern "C" fn aqfp_levels(
 }
 
 // Stripping: number, place, N.
-#[unsafe(no_mangle)]
-pub extern "C" fn aqfp_strip(
+pub fn aqfp_strip(
     capacity: u32,
     input_capacity: u32,
     mapped: &[u8],
