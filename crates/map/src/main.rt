@@ -2,42 +2,41 @@
 #![tactic(auto)]
 
 ghost use Rattle.std.specs.Prelude.{◌≡◌, [], drop};
+ghost use Rattle.std.specs.Io.{ReadsAtMost};
 ghost use Rattle.netlist.specs.CapacityBytes.{capacity_bytes, capacities_in};
 ghost use Rattle.mapper.specs.Answer.{map_answer};
 
-use libc::{STDIN_FILENO, STDOUT_FILENO};
 use netlist::capacity_reader;
 use netlist::capacity_reader::CAPACITY_BYTES;
+use std::io;
+use std::io::Read;
 
 // The capacities, and a source of one record more than the longest.
 const INPUT_LIMIT: usize = CAPACITY_BYTES + netlist::WIDTH * (netlist::SOURCE_LIMIT + 1);
 
 const AREA: usize = 60000;
 
-fn print_number(x: u32) {
-    io::print_decimal(STDOUT_FILENO, x as u64);
-}
-
-fn print_space() {
-    io::write_all(STDOUT_FILENO, b" ");
+// Reads until the area is full or the input ends. Answers how many bytes were read.
+fn read_full(input: &mut impl Read, bytes: &mut [u8]) -> io::Result<usize>
+    ensures { ReadsAtMost result bytes.new }
+{
+    let mut done: usize = 0;
+    while done < bytes.len() {
+        let n = input.read(&mut bytes[done..])?;
+        if n == 0 {
+            break;
+        }
+        done += n;
+    }
+    Ok(done)
 }
 
 // The line of a mapping: its numbers with single spaces.
-fn print_line(m: mapper::Mapping) {
-    print_number(m.number);
-    print_space();
-    print_number(m.place);
-    print_space();
-    print_number(m.size);
-    print_space();
-    print_number(m.buffers);
-    print_space();
-    print_number(m.depth);
-    print_space();
-    print_number(m.junctions);
-    print_space();
-    print_number(m.share);
-    io::write_all(STDOUT_FILENO, b"\n");
+fn print_line(rt: &impl Print, m: mapper::Mapping) -> io::Result<()> {
+    println!(rt;
+        "{} {} {} {} {} {} {}",
+        m.number, m.place, m.size, m.buffers, m.depth, m.junctions, m.share
+    )
 }
 
 // The mapping of an input: the capacities, then the source; the price list is empty.
@@ -51,9 +50,9 @@ fn map_input(input: &[u8], area: &mut [u8]) -> mapper::Mapping
     mapper::map_netlist(&input[CAPACITY_BYTES..], capacities, &[], area)
 }
 
-fn main() {
+fn main(rt: HostRuntime) -> io::Result<()> {
     let mut input = [0u8; INPUT_LIMIT];
     let mut area = [0u8; AREA];
-    let n = io::read_full(STDIN_FILENO, &mut input);
-    print_line(map_input(&input[..n], &mut area));
+    let n = read_full(&mut rt.stdin(), &mut input)?;
+    print_line(&rt, map_input(&input[..n], &mut area))
 }

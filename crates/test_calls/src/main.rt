@@ -5,7 +5,9 @@
 ghost use Rattle.std.specs.Prelude.{◌≤◌, length};
 
 use facts::Checked;
-use libc::STDOUT_FILENO;
+use std::io::Read;
+use std::rt::Files;
+use std::{fs, io};
 
 // Families of cases.
 const READER: u8 = 0;
@@ -71,20 +73,20 @@ fn record_view_agrees(file: &[u8], at: usize) -> bool {
     let part = cases::skip(file, index);
     let k = cases::number(cases::field(file, index), 0) as usize;
     let view = netlist::record_view(cases::field(file, at), cases::field(file, mapped), k);
-    check::same(view, cases::field(file, part))
+    view == cases::field(file, part)
 }
 
 // Whether an answer of two, three or seven numbers is the stored one.
 fn is_two(got: [u8; 8], stored: &[u8]) -> bool {
-    check::same(&got, stored)
+    got.as_slice() == stored
 }
 
 fn is_three(got: [u8; 12], stored: &[u8]) -> bool {
-    check::same(&got, stored)
+    got.as_slice() == stored
 }
 
 fn is_seven(got: [u8; 28], stored: &[u8]) -> bool {
-    check::same(&got, stored)
+    got.as_slice() == stored
 }
 
 // A case of the count: source, numbers (capacity, input capacity, record); answer.
@@ -135,7 +137,7 @@ fn evaluate_agrees(file: &[u8], at: usize, area: &mut [u8]) -> bool {
         &mut got,
     );
     if is_two(got, cases::field(file, answer)) {
-        check::same(&area[0..n], cases::field(file, after))
+        &area[0..n] == cases::field(file, after)
     } else {
         false
     }
@@ -160,7 +162,7 @@ fn count_nets_agrees(file: &[u8], at: usize, area: &mut [u8]) -> bool {
         &mut got,
     );
     if is_two(got, cases::field(file, answer)) {
-        check::same(&area[0..n], cases::field(file, after))
+        &area[0..n] == cases::field(file, after)
     } else {
         false
     }
@@ -177,7 +179,7 @@ fn levels_agrees(file: &[u8], at: usize, area: &mut [u8]) -> bool {
     let capacity = cases::number(cases::field(file, numbers), 0);
     aqfp::aqfp_levels(cases::field(file, at), capacity, &mut area[0..n], &mut got);
     if is_two(got, cases::field(file, answer)) {
-        check::same(&area[0..n], cases::field(file, after))
+        &area[0..n] == cases::field(file, after)
     } else {
         false
     }
@@ -200,7 +202,7 @@ fn strip_agrees(file: &[u8], at: usize, area: &mut [u8]) -> bool {
         &mut got,
     );
     if is_three(got, cases::field(file, answer)) {
-        check::same(&area[0..n], cases::field(file, after))
+        &area[0..n] == cases::field(file, after)
     } else {
         false
     }
@@ -223,7 +225,7 @@ fn step_leaves(file: &[u8], at: usize, numbers: usize, answer: usize, state: &mu
     );
     if is_two(got, cases::field(file, answer)) {
         let after = cases::skip(file, answer);
-        check::same(state, cases::field(file, after))
+        &*state == cases::field(file, after)
     } else {
         false
     }
@@ -278,10 +280,10 @@ fn run_leaves(
         return false;
     }
     let after = cases::skip(file, answer);
-    if !check::same(state, cases::field(file, after)) {
+    if &*state != cases::field(file, after) {
         return false;
     }
-    check::same(outputs, cases::field(file, cases::skip(file, after)))
+    &*outputs == cases::field(file, cases::skip(file, after))
 }
 
 // A case of the run: source, numbers (capacity, input capacity, row count), mapped, rows, state and outputs before; answer, state and outputs after.
@@ -318,7 +320,7 @@ fn block_view_agrees(file: &[u8], at: usize) -> bool {
         cases::field(file, mapped),
         driver,
     );
-    check::same(block, cases::field(file, part))
+    block == cases::field(file, part)
 }
 
 // A case of the mapper: source, numbers (capacity, input capacity, length of the area), prices; answer, area after.
@@ -342,7 +344,7 @@ fn mapper_agrees(file: &[u8], at: usize, area: &mut [u8]) -> bool {
         &mut got,
     );
     if is_seven(got, cases::field(file, answer)) {
-        check::same(&area[0..n], cases::field(file, after))
+        &area[0..n] == cases::field(file, after)
     } else {
         false
     }
@@ -406,83 +408,83 @@ fn differing(family: u8, fields: usize, file: &[u8]) -> u32 {
     counted(differ, at == file.len())
 }
 
-fn print_number(n: u32) {
-    io::print_decimal(STDOUT_FILENO, n as u64);
+// Reads until the area is full, or the file ends or cannot be read. Answers how many bytes were read.
+fn read_full(file: &mut impl Read, bytes: &mut [u8]) -> usize
+    ensures { result ≤ length bytes.new }
+{
+    let mut done: usize = 0;
+    while done < bytes.len() {
+        match file.read(&mut bytes[done..]) {
+            Ok(n) if n > 0 => done += n,
+            _ => break,
+        }
+    }
+    done
 }
 
 // How many bytes of a file were read.
-fn read_file(name: &[u8], bytes: &mut [u8]) -> usize
+fn read_file(rt: &impl Files, name: &str, bytes: &mut [u8]) -> usize
     ensures { result ≤ length bytes.new }
 {
-    let opened = os::open_read(name);
-    let n = io::read_full(opened, bytes);
-    libc::close(opened);
-    n
-}
-
-// Reads the file of a family and prints how many cases it has and how many differ.
-fn test_family(name: &[u8], family: u8, fields: usize) {
-    let mut bytes = [0u8; 300000];
-    let n = read_file(name, &mut bytes);
-    let file = &bytes[0..n];
-    io::write_all(STDOUT_FILENO, name);
-    io::write_all(STDOUT_FILENO, b": ");
-    print_number(cases::number(file, 0));
-    io::write_all(STDOUT_FILENO, b" cases, ");
-    print_number(differing(family, fields, file));
-    io::write_all(STDOUT_FILENO, b" differ\n");
-}
-
-// Prints what the reader answers to so many bytes.
-fn test_size(bytes: &[u8], size: u32) {
-    let n = size as usize;
-    if n <= bytes.len() {
-        print_number(size);
-        io::write_all(STDOUT_FILENO, b" bytes of inputs: ");
-        print_checked(netlist::check_source(&bytes[0..n]));
+    match fs::open(rt, name) {
+        Ok(mut file) => read_full(&mut file, bytes),
+        Err(_) => 0,
     }
 }
 
-fn print_checked(checked: Checked) {
+// Reads the file of a family and prints how many cases it has and how many differ.
+fn test_family(rt: &(impl Files + Print), name: &str, family: u8, fields: usize) -> io::Result<()> {
+    let mut bytes = [0u8; 300000];
+    let n = read_file(rt, name, &mut bytes);
+    let file = &bytes[0..n];
+    println!(rt;
+        "{name}: {} cases, {} differ",
+        cases::number(file, 0),
+        differing(family, fields, file)
+    )
+}
+
+// Prints what the reader answers to so many bytes.
+fn test_size(rt: &impl Print, bytes: &[u8], size: u32) -> io::Result<()> {
+    let n = size as usize;
+    if n <= bytes.len() {
+        print!(rt; "{size} bytes of inputs: ")?;
+        print_checked(rt, netlist::check_source(&bytes[0..n]))?;
+    }
+    Ok(())
+}
+
+fn print_checked(rt: &impl Print, checked: Checked) -> io::Result<()> {
     match checked {
-        Checked::Passed => {
-            io::write_all(STDOUT_FILENO, b"0 0\n");
-        }
-        Checked::Refused(number, place) => {
-            print_number(number);
-            io::write_all(STDOUT_FILENO, b" ");
-            print_number(place);
-            io::write_all(STDOUT_FILENO, b"\n");
-        }
+        Checked::Passed => println!(rt; "0 0"),
+        Checked::Refused(number, place) => println!(rt; "{number} {place}"),
     }
 }
 
 // The sizes around a source's limit, on a file of inputs.
-fn test_sizes() {
+fn test_sizes(rt: &(impl Files + Print)) -> io::Result<()> {
     let mut bytes = [0u8; 200000];
-    let n = read_file(b"inputs", &mut bytes);
+    let n = read_file(rt, "inputs", &mut bytes);
     let inputs = &bytes[0..n];
-    io::write_all(STDOUT_FILENO, b"inputs: ");
-    io::print_decimal(STDOUT_FILENO, n as u64);
-    io::write_all(STDOUT_FILENO, b" bytes\n");
-    test_size(inputs, 0);
-    test_size(inputs, 40960);
-    test_size(inputs, 40970);
-    test_size(inputs, 40971);
+    println!(rt; "inputs: {n} bytes")?;
+    test_size(rt, inputs, 0)?;
+    test_size(rt, inputs, 40960)?;
+    test_size(rt, inputs, 40970)?;
+    test_size(rt, inputs, 40971)
 }
 
-fn main() {
-    test_family(b"reader", READER, 2);
-    test_family(b"record_view", RECORD_VIEW, 4);
-    test_family(b"count", COUNT, 3);
-    test_family(b"count_nets", COUNT_NETS, 6);
-    test_family(b"levels", LEVELS, 5);
-    test_family(b"strip", STRIP, 5);
-    test_family(b"verifier", VERIFIER, 4);
-    test_family(b"evaluate", EVALUATE, 5);
-    test_family(b"step", STEP, 7);
-    test_family(b"run", RUN, 9);
-    test_family(b"mapper", MAPPER, 5);
-    test_family(b"block_view", BLOCK_VIEW, 4);
-    test_sizes();
+fn main(rt: HostRuntime) -> io::Result<()> {
+    test_family(&rt, "reader", READER, 2)?;
+    test_family(&rt, "record_view", RECORD_VIEW, 4)?;
+    test_family(&rt, "count", COUNT, 3)?;
+    test_family(&rt, "count_nets", COUNT_NETS, 6)?;
+    test_family(&rt, "levels", LEVELS, 5)?;
+    test_family(&rt, "strip", STRIP, 5)?;
+    test_family(&rt, "verifier", VERIFIER, 4)?;
+    test_family(&rt, "evaluate", EVALUATE, 5)?;
+    test_family(&rt, "step", STEP, 7)?;
+    test_family(&rt, "run", RUN, 9)?;
+    test_family(&rt, "mapper", MAPPER, 5)?;
+    test_family(&rt, "block_view", BLOCK_VIEW, 4)?;
+    test_sizes(&rt)
 }
