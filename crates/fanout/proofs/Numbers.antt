@@ -13,7 +13,7 @@ use Rattle.netlist.proofs.Source.{input_passed}
 use Rattle.netlist.proofs.Refusals.{input_numbered}
 use Rattle.fanout.specs.declared.Count.{Count}
 use Rattle.fanout.specs.declared.Count.TheVariants.{Fewest, NoTree, Refused}
-use Rattle.fanout.specs.Nets.{row, fewest}
+use Rattle.fanout.specs.Nets.{row}
 use Rattle.fanout.specs.Trees.{Net, net_of}
 use Rattle.fanout.specs.Answer.{no_tree, count_numbers, count_answer}
 use Rattle.fanout.specs.Promises.{LeastNetTree, Asked, CountFails, NumbersExactly}
