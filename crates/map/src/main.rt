@@ -1,8 +1,7 @@
 // The program `map`: standard input is three bytes for the capacities, then the source; the mapper's seven numbers, with an empty price list, go to standard output.
 #![tactic(auto)]
 
-ghost use Rattle.std.specs.Prelude.{◌≡◌, [], drop};
-ghost use Rattle.std.specs.Io.{ReadsAtMost};
+ghost use Rattle.std.specs.Prelude.{◌≡◌, ◌≤◌, [], drop, length};
 ghost use Rattle.netlist.specs.CapacityBytes.{capacity_bytes, capacities_in};
 ghost use Rattle.mapper.specs.Answer.{map_answer};
 
@@ -16,19 +15,18 @@ const INPUT_LIMIT: usize = CAPACITY_BYTES + netlist::WIDTH * (netlist::SOURCE_LI
 
 const AREA: usize = 60000;
 
-// Reads until the area is full or the input ends. Answers how many bytes were read.
-fn read_full(input: &mut impl Read, bytes: &mut [u8]) -> io::Result<usize>
-    ensures { ReadsAtMost result bytes.new }
+// Reads until the area is full, or the input ends or cannot be read. Answers how many bytes were read.
+fn read_full(input: &mut impl Read, bytes: &mut [u8]) -> usize
+    ensures { result ≤ length bytes.new }
 {
     let mut done: usize = 0;
     while done < bytes.len() {
-        let n = input.read(&mut bytes[done..])?;
-        if n == 0 {
-            break;
+        match input.read(&mut bytes[done..]) {
+            Ok(n) if n > 0 => done += n,
+            _ => break,
         }
-        done += n;
     }
-    Ok(done)
+    done
 }
 
 // The line of a mapping: its numbers with single spaces.
@@ -53,6 +51,6 @@ fn map_input(input: &[u8], area: &mut [u8]) -> mapper::Mapping
 fn main(rt: HostRuntime) -> io::Result<()> {
     let mut input = [0u8; INPUT_LIMIT];
     let mut area = [0u8; AREA];
-    let n = read_full(&mut rt.stdin(), &mut input)?;
+    let n = read_full(&mut rt.stdin(), &mut input);
     print_line(&rt, map_input(&input[..n], &mut area))
 }

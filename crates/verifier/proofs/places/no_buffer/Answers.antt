@@ -1,4 +1,4 @@
--- `no_buffer_lem` meets its contract: each return follows from the tests that led there.
+-- `no_buffer` meets its contract: each return follows from the tests that led there.
 use borrow.Author.Tests.{lt-ltb, le-ltb, eq-eqb, ne_eqb}
 use Rattle.verifier.proofs.places.no_buffer.Goals as goal
 
