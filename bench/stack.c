@@ -2,9 +2,9 @@
  *
  * Each call runs on a stack of its own that was painted before, with one byte value and then with
  * another; the lowest byte that changed tells how far the call went. The inputs are the deepest that
- * the limits allow: one driver with 12,285 sinks; chains of 4,094 buffers whose records stand in
+ * the limits allow: one driver with 20,475 sinks; chains of 4,094 buffers whose records stand in
  * falling order, so that each trace goes through a whole chain; and, with b = 4,095, inputs that feed
- * 4,095 slots each. Elsewhere b is 1. The mapper is called with an empty price list and with one of 11
+ * 4,095 slots each. Elsewhere b is 1. The mapper is called with an empty price list and with one of 13
  * prices.
  */
 #define _GNU_SOURCE
@@ -16,8 +16,9 @@
 
 #include "aqfp.h"
 
-enum { WIDTH = 10, TOP = 4095, SOURCE_LIMIT = 4096, MAPPED_LIMIT = 60000, LISTED = 65535, STACK = 4 << 20 };
-enum { INPUT = 0, MAJORITY = 3, OUTPUT = 4, BUFFER = 5 };
+enum { WIDTH = 14, SLOTS = 5, PRICES = 13, STACK = 4 << 20 };
+enum { TOP = 4095, SOURCE_LIMIT = 4096, MAPPED_LIMIT = 60000, LISTED = 65535 };
+enum { INPUT = 0, OUTPUT = 4, BUFFER = 5, MAJ5 = 6 };
 
 static uint8_t source[WIDTH * SOURCE_LIMIT], mapped[WIDTH * MAPPED_LIMIT];
 static uint8_t state[2 * MAPPED_LIMIT], rows[SOURCE_LIMIT], values[SOURCE_LIMIT], outputs[SOURCE_LIMIT];
@@ -40,12 +41,12 @@ static void put(uint8_t *area, size_t k, int kind, unsigned level, int used, uns
     }
 }
 
-/* One input that all three slots of every other record name. */
+/* One input that all five slots of every other record name. With s = 2 their height is 15. */
 static void wide(void) {
     records = SOURCE_LIMIT;
     put(source, 0, INPUT, 0, 0, 0);
     for (size_t k = 1; k < records; k++)
-        put(source, k, MAJORITY, 15, 3, 0);
+        put(source, k, MAJ5, 16, SLOTS, 0);
     inputs = 1;
     output_count = 0;
 }
@@ -93,7 +94,7 @@ static uint32_t map(void) {
     return map_with(NULL, 0);
 }
 static uint32_t map_priced(void) {
-    static const uint8_t prices[11] = {10, 12, 11, 14, 9, 13, 4, 2, 3, 5, 6};
+    static const uint8_t prices[PRICES] = {10, 12, 11, 14, 9, 13, 4, 2, 3, 5, 6, 15, 17};
     return map_with(prices, sizeof prices);
 }
 static uint32_t count(void) {
@@ -168,13 +169,13 @@ int main(void) {
         return 1;
     puts("| call | input | number | bytes |\n|---|---|---|---|");
     wide();
-    row("aqfp_map", map, "12,285 sinks");
-    row("aqfp_map", map_priced, "12,285 sinks, 11 prices");
-    row("aqfp_strip", strip, "12,285 sinks");
-    row("aqfp_count", count, "12,285 sinks");
-    row("aqfp_count_nets", count_nets, "12,285 sinks");
-    row("aqfp_levels", levels, "12,285 sinks");
-    row("aqfp_evaluate", evaluate, "12,285 sinks");
+    row("aqfp_map", map, "20,475 sinks");
+    row("aqfp_map", map_priced, "20,475 sinks, 13 prices");
+    row("aqfp_strip", strip, "20,475 sinks");
+    row("aqfp_count", count, "20,475 sinks");
+    row("aqfp_count_nets", count_nets, "20,475 sinks");
+    row("aqfp_levels", levels, "20,475 sinks");
+    row("aqfp_evaluate", evaluate, "20,475 sinks");
     const size_t pairs[] = {1, 14};
     for (int i = 0; i < 2; i++) {
         chains(pairs[i]);

@@ -11,7 +11,8 @@
 
 #include "aqfp.h"
 
-enum { HEAD = 3, RECORD = 10, MAX_SOURCE = 4096, MAX_MAPPED = 60000, ROWS = 4 };
+enum { HEAD = 3, RECORD = 14, SLOTS = 5, PRICES = 13 };
+enum { MAX_SOURCE = 4096, MAX_MAPPED = 60000, ROWS = 4 };
 
 static uint8_t file[HEAD + RECORD * (MAX_SOURCE + 1)];
 static uint8_t levelled[RECORD * (MAX_SOURCE + 1)];
@@ -48,13 +49,13 @@ static void print_numbers(const char *call, const uint8_t *answer, size_t count)
 
 static void print_records(const uint8_t *netlist, size_t m)
 {
-    static const char *const names[] = { "input", "AND", "OR", "MAJ", "output", "buffer" };
+    static const char *const names[] = { "input", "AND", "OR", "MAJ", "output", "buffer", "MAJ5" };
     size_t k, j;
     for (k = 0; k < m; k++) {
         const uint8_t *record = netlist + RECORD * k;
         printf("  %2lu %-6s level %u", (unsigned long)k, names[record[0]],
                record[2] | record[3] << 8);
-        for (j = 0; j < 3; j++) {
+        for (j = 0; j < SLOTS; j++) {
             unsigned slot = record[4 + 2 * j] | record[5 + 2 * j] << 8;
             if (slot != 65535)
                 printf("  %s%u", record[1] >> j & 1 ? "not " : "", slot);
@@ -73,7 +74,7 @@ static void print_row(const char *name, const uint8_t *row, size_t len)
 
 int main(int argc, char **argv)
 {
-    static const uint8_t prices[11] = { 1, 2, 3, 4, 5, 6, 7, 8, 9, 10, 11 };
+    static const uint8_t prices[PRICES] = { 1, 2, 3, 4, 5, 6, 7, 8, 9, 10, 11, 12, 13 };
     uint8_t answer[28];
     const uint8_t *source = file + HEAD;
     size_t len, source_len, mapped_len, m, t, k, inputs, output_count;

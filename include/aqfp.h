@@ -17,20 +17,21 @@
  *
  * NETLISTS
  *
- * A netlist is a row of records of ten bytes, with no header. A record's index counts from 0.
+ * A netlist is a row of records of 14 bytes, with no header. A record's index counts from 0.
  * Two-byte fields are unsigned, low byte first.
  *
- *   byte  0     kind: 0 input, 1 AND, 2 OR, 3 MAJ (majority of three), 4 output,
- *               5 buffer (mapped netlists only; a splitter is a buffer with several branches)
- *   byte  1     inversion: bit j inverts slot j, bits 3 to 7 are 0
- *   bytes 2-3   level, at most 4,095
- *   bytes 4-9   slots 0, 1 and 2, two bytes each: the index of a fanin
+ *   byte  0      kind: 0 input, 1 AND, 2 OR, 3 MAJ (majority of three), 4 output,
+ *                5 buffer (mapped netlists only; a splitter is a buffer with several branches),
+ *                6 MAJ5 (majority of five)
+ *   byte  1      inversion: bit j inverts slot j, for j from 0 to 4; bits 5 to 7 are 0
+ *   bytes 2-3    level, at most 4,095
+ *   bytes 4-13   slots 0 to 4, two bytes each: the index of a fanin
  *
- * An input uses no slot, output and buffer use slot 0, AND and OR use slots 0 and 1, MAJ uses all.
- * An unused slot holds 65,535 and its inversion bit is 0. Outputs and buffers never invert. A fanin
- * of a source record is an earlier record that is no output. Inputs stand at level 0, outputs share
- * one level, and a fanin stands at a lower level than its record; in a source for aqfp_levels the
- * levels may be anything.
+ * An input uses no slot, output and buffer use slot 0, AND and OR slots 0 and 1, MAJ slots 0 to 2,
+ * MAJ5 slots 0 to 4. AND, OR, MAJ and MAJ5 are the gates. An unused slot holds 65,535 and its
+ * inversion bit is 0. Outputs and buffers never invert. A fanin of a source record is an earlier
+ * record that is no output. Inputs stand at level 0, outputs share one level, and a fanin stands
+ * at a lower level than its record; in a source for aqfp_levels the levels may be anything.
  *
  * A source has N records, at most 4,096. A mapped netlist has M records, at most 60,000; its
  * first N are the source's with other fanins, the rest are buffers. Both may be empty. D is the
@@ -72,7 +73,7 @@
  *        1  capacity not 2, 3 or 4                                                0
  *       26  input_capacity 0 or above 4,095                                       0
  *
- *       27  prices neither empty nor 11 bytes long                                0
+ *       27  prices neither empty nor 13 bytes long                                0
  *       28  a price of 0, positions in turn                                       its position
  *                                                                                 in prices
  *
@@ -80,11 +81,11 @@
  *           with it and both capacities
  *       25  a source area shorter than that source                                0
  *
- *        2  source length not a multiple of 10                                    0
+ *        2  source length not a multiple of 14                                    0
  *        3  source of more than 4,096 records                                     0
  *
  *           each source record in turn, all four checks (aqfp_levels: 4 to 6):
- *        4  kind above 4                                                          record
+ *        4  kind 5, or above 6                                                    record
  *        5  an inversion bit of no used slot, or any on an input or output        record
  *        6  a used slot that names no earlier record or names an output, or an    record
  *           unused slot that is not 65,535
@@ -98,14 +99,14 @@
  *        9  a mapped netlist of more than 60,000 records                          0
  *       10  an area shorter than the mapped netlist                               0
  *
- *       11  mapped length not a multiple of 10, fewer than N records, or more     0
+ *       11  mapped length not a multiple of 14, fewer than N records, or more     0
  *           than 60,000
  *
  *           each mapped record in turn, all checks:
  *       12  a record below N that differs from the source's outside its used      record
  *           slots
- *       13  a record from N on with kind not 5, inversion not 0, slot 1 or 2      record
- *           not 65,535, or level above 4,095
+ *       13  a record from N on with kind not 5, inversion not 0, one of slots     record
+ *           1 to 4 not 65,535, or level above 4,095
  *       14  a used slot that names no record or names an output                   record
  *       15  a fanin that is not exactly one level lower                           record
  *
@@ -149,18 +150,19 @@ extern "C" {
  * junctions. Fewest buffers, not the least price: prices that 27 and 28 pass change the last two
  * numbers of the answer and nothing else.
  *
- * In:       source; capacity; input_capacity; prices, empty or 11 bytes from 1 to 255:
+ * In:       source; capacity; input_capacity; prices, empty or 13 bytes from 1 to 255:
  *
- *             bytes 0-1   an AND that feeds no slot, one slot
- *             bytes 2-3   an OR that feeds no slot, one slot
- *             bytes 4-5   a MAJ that feeds no slot, one slot
- *             bytes 6-10  a buffer that feeds no slot, one, two, three, four slots
+ *             bytes 0-1    an AND that feeds no slot, one slot
+ *             bytes 2-3    an OR that feeds no slot, one slot
+ *             bytes 4-5    a MAJ that feeds no slot, one slot
+ *             bytes 6-10   a buffer that feeds no slot, one, two, three, four slots
+ *             bytes 11-12  a MAJ5 that feeds no slot, one slot
  *
- *           With empty prices every gate costs 6 and every buffer 2. Inputs and outputs cost
- *           nothing.
- * Out:      mapped, whose first 10 x M bytes are written and whose other bytes stay. Source
+ *           With empty prices a MAJ5 costs 10, every other gate 6 and every buffer 2. Inputs and
+ *           outputs cost nothing.
+ * Out:      mapped, whose first 14 x M bytes are written and whose other bytes stay. Source
  *           records keep their indices; then come buffers by driver, then by distance from it
- *           rising. A mapped area of 600,000 bytes is always enough.
+ *           rising. A mapped area of 840,000 bytes is always enough.
  * Answer:   number, place, M, buffers, D, Josephson junctions, share of the buffers in them.
  *           Josephson junctions are the sum, over the M records written, of the price of each
  *           one's kind at the number of slots that it feeds in them. The share is the part of
@@ -217,7 +219,9 @@ uint32_t aqfp_verify(const uint8_t *source, size_t source_len,
                      const uint8_t *mapped, size_t mapped_len,
                      uint8_t answer[12]);
 
-/* Gives the value of every source record by plain logic.
+/* Gives the value of every source record by plain logic. A slot is its fanin's value, or the
+ * opposite where it is inverted. AND is 1 if both slots are, OR if at least one is, MAJ if at least
+ * two are, MAJ5 if at least three are; an output is its slot.
  *
  * In:       source; row, one byte 0 or 1 for each input in index order.
  * Out:      values, one byte 0 or 1 for each source record.
@@ -304,8 +308,8 @@ uint32_t aqfp_levels(const uint8_t *source, size_t source_len,
  * buffers: in all, on each net and at each level of each net.
  *
  * In:       capacity; input_capacity; mapped, which may be empty.
- * Out:      source, whose first 10 x N bytes are written and whose other bytes stay. An area of
- *           40,960 bytes is always enough.
+ * Out:      source, whose first 14 x N bytes are written and whose other bytes stay. An area of
+ *           57,344 bytes is always enough.
  * Answer:   number, place, N.
  * Checks:   1, 26, 24 (every fault of mapped, its length included), 25.
  * Refused:  source stays as it was.

@@ -18,10 +18,18 @@
 #include "aqfp.h"
 
 enum {
-    RECORD = 10, SLOTS = 3, MAX_SOURCE = 4096, MAX_MAPPED = 60000, MAX_LEVEL = 4095, UNUSED = 65535,
-    MAX_ROWS = 10000, MAX_LISTED = 65535, MAX_INPUT_CAPACITY = 4095, PRICES = 11
+    RECORD = 14, SLOTS = 5, MAX_SOURCE = 4096, MAX_MAPPED = 60000, MAX_LEVEL = 4095, UNUSED = 65535,
+    MAX_ROWS = 10000, MAX_LISTED = 65535, MAX_INPUT_CAPACITY = 4095, PRICES = 13,
+    MAX_SINKS = SLOTS * (MAX_SOURCE - 1) /* of one driver */
 };
-enum { INPUT, AND, OR, MAJ, OUTPUT, BUFFER };
+enum { INPUT, AND, OR, MAJ, OUTPUT, BUFFER, MAJ5, KINDS };
+
+static const unsigned gate_kinds[] = { AND, OR, MAJ, MAJ5 };
+
+enum { GATES = sizeof gate_kinds / sizeof gate_kinds[0] };
+
+/* Where the fields of a record stand in it. */
+enum { INVERSION = 1, LEVEL = 2, FIRST_SLOT = 4 };
 
 #define NO_TREE 4294967295u
 
@@ -365,20 +373,81 @@ static uint8_t netlist[RECORD * (MAX_MAPPED + 2)];
 static size_t netlist_len;
 static uint8_t filler[BLOCK];
 
+static unsigned field(const uint8_t *at)
+{
+    return at[0] | (unsigned)at[1] << 8;
+}
+
+static void set_field(uint8_t *at, size_t value)
+{
+    at[0] = (uint8_t)value;
+    at[1] = (uint8_t)(value >> 8);
+}
+
+static unsigned level_of(const uint8_t *record)
+{
+    return field(record + LEVEL);
+}
+
+static uint8_t *slot_at(uint8_t *record, size_t slot)
+{
+    return record + FIRST_SLOT + 2 * slot;
+}
+
+/* What a slot holds. */
+static unsigned slot_of(const uint8_t *record, size_t slot)
+{
+    return field(record + FIRST_SLOT + 2 * slot);
+}
+
+static unsigned used_slots(unsigned kind)
+{
+    static const unsigned used[KINDS] = { 0, 2, 2, 3, 1, 1, 5 };
+    return kind < KINDS ? used[kind] : 0;
+}
+
+static int is_gate(unsigned kind)
+{
+    return kind == AND || kind == OR || kind == MAJ || kind == MAJ5;
+}
+
+/* How many values the inversion of a kind may have; they are the first ones. */
+static unsigned inversions(unsigned kind)
+{
+    return is_gate(kind) ? 1u << used_slots(kind) : 1;
+}
+
+static void put_slots(uint8_t *at, unsigned kind, unsigned inversion, unsigned level,
+                      const unsigned slots[SLOTS])
+{
+    size_t j;
+    at[0] = (uint8_t)kind;
+    at[INVERSION] = (uint8_t)inversion;
+    set_field(at + LEVEL, level);
+    for (j = 0; j < SLOTS; j++)
+        set_field(slot_at(at, j), slots[j]);
+}
+
+/* A record whose slots 3 and 4 are not used. */
 static void put_record(uint8_t *at, unsigned kind, unsigned inversion, unsigned level, unsigned a,
                        unsigned b, unsigned c)
 {
-    unsigned fields[4], j;
-    fields[0] = level;
-    fields[1] = a;
-    fields[2] = b;
-    fields[3] = c;
-    at[0] = (uint8_t)kind;
-    at[1] = (uint8_t)inversion;
-    for (j = 0; j < 4; j++) {
-        at[2 + 2 * j] = (uint8_t)fields[j];
-        at[3 + 2 * j] = (uint8_t)(fields[j] >> 8);
-    }
+    unsigned slots[SLOTS] = { UNUSED, UNUSED, UNUSED, UNUSED, UNUSED };
+    slots[0] = a;
+    slots[1] = b;
+    slots[2] = c;
+    put_slots(at, kind, inversion, level, slots);
+}
+
+/* A record whose used slots name records one after the other, each `step` behind the one before;
+ * with a step of 0 they all name one. */
+static void put_steps(uint8_t *at, unsigned kind, unsigned inversion, unsigned level,
+                      unsigned fanin, unsigned step)
+{
+    unsigned slots[SLOTS], j;
+    for (j = 0; j < SLOTS; j++)
+        slots[j] = j < used_slots(kind) ? fanin + step * j : UNUSED;
+    put_slots(at, kind, inversion, level, slots);
 }
 
 static void clear(void)
@@ -386,10 +455,43 @@ static void clear(void)
     netlist_len = 0;
 }
 
+/* The index of the record that is added next. */
+static unsigned next_record(void)
+{
+    return (unsigned)(netlist_len / RECORD);
+}
+
 static void add(unsigned kind, unsigned inversion, unsigned level, unsigned a, unsigned b,
                 unsigned c)
 {
     put_record(netlist + netlist_len, kind, inversion, level, a, b, c);
+    netlist_len += RECORD;
+}
+
+/* A record that names one fanin in every used slot. */
+static void add_same(unsigned kind, unsigned inversion, unsigned level, unsigned fanin)
+{
+    put_steps(netlist + netlist_len, kind, inversion, level, fanin, 0);
+    netlist_len += RECORD;
+}
+
+/* A record that names the records from one on, in the order of its slots. */
+static void add_rising(unsigned kind, unsigned inversion, unsigned level, unsigned fanin)
+{
+    put_steps(netlist + netlist_len, kind, inversion, level, fanin, 1);
+    netlist_len += RECORD;
+}
+
+static void add_maj5(unsigned inversion, unsigned level, unsigned a, unsigned b, unsigned c,
+                     unsigned d, unsigned e)
+{
+    unsigned slots[SLOTS];
+    slots[0] = a;
+    slots[1] = b;
+    slots[2] = c;
+    slots[3] = d;
+    slots[4] = e;
+    put_slots(netlist + netlist_len, MAJ5, inversion, level, slots);
     netlist_len += RECORD;
 }
 
@@ -427,23 +529,6 @@ static struct bytes fill(size_t len)
     return part(filler, len);
 }
 
-static unsigned field(const uint8_t *at)
-{
-    return at[0] | (unsigned)at[1] << 8;
-}
-
-static void set_field(uint8_t *at, size_t value)
-{
-    at[0] = (uint8_t)value;
-    at[1] = (uint8_t)(value >> 8);
-}
-
-static unsigned used_slots(unsigned kind)
-{
-    static const unsigned used[] = { 0, 2, 2, 3, 1, 1 };
-    return kind < 6 ? used[kind] : 0;
-}
-
 static size_t number_of(unsigned kind, struct bytes records)
 {
     size_t k, found = 0;
@@ -463,17 +548,18 @@ static void count_feeds(struct bytes mapped)
     memset(feeds, 0, m * sizeof *feeds);
     for (k = 0; k < m; k++)
         for (j = 0; j < used_slots(mapped.at[RECORD * k]); j++)
-            feeds[field(mapped.at + RECORD * k + 4 + 2 * j)]++;
+            feeds[slot_of(mapped.at + RECORD * k, j)]++;
 }
 
 /* The price of a record of a kind that feeds so many slots. */
 static uint64_t price_of(struct bytes prices, unsigned kind, uint32_t slots)
 {
-    static const unsigned first[] = { 0, 0, 2, 4, 0, 6 }, most[] = { 0, 1, 1, 1, 0, 4 };
-    if (kind == INPUT || kind == OUTPUT || kind > BUFFER)
+    static const unsigned first[KINDS] = { 0, 0, 2, 4, 0, 6, 11 };
+    static const unsigned most[KINDS] = { 0, 1, 1, 1, 0, 4, 1 };
+    if (kind != BUFFER && !is_gate(kind))
         return 0;
     if (prices.len == 0)
-        return kind == BUFFER ? 2 : 6;
+        return kind == BUFFER ? 2 : kind == MAJ5 ? 10 : 6;
     return slots <= most[kind] ? prices.at[first[kind] + slots] : 0;
 }
 
@@ -505,8 +591,8 @@ static int is_priced(const uint32_t *numbers, struct bytes prices)
     return numbers[5] == junctions && numbers[6] == percent(of_buffers, junctions);
 }
 
-/* The list 1, 2, 3, .., 11. */
-static const uint8_t rising_bytes[PRICES] = { 1, 2, 3, 4, 5, 6, 7, 8, 9, 10, 11 };
+/* The list 1, 2, 3, .., 13. */
+static const uint8_t rising_bytes[PRICES] = { 1, 2, 3, 4, 5, 6, 7, 8, 9, 10, 11, 12, 13 };
 
 /* All prices 1 but one. */
 static void one_price(uint8_t *prices, size_t position, uint8_t price)
@@ -613,7 +699,7 @@ static size_t traced(struct bytes mapped, size_t record)
     for (steps = 0; steps <= MAX_LEVEL && record < m; steps++) {
         if (mapped.at[RECORD * record] != BUFFER)
             return record;
-        record = field(mapped.at + RECORD * record + 4);
+        record = slot_of(mapped.at + RECORD * record, 0);
     }
     return UNUSED;
 }
@@ -631,7 +717,7 @@ static int has_source(struct bytes mapped, uint32_t s, size_t *n)
     memcpy(left, mapped.at, RECORD * *n);
     for (k = 0; k < *n; k++)
         for (j = 0; j < used_slots(left[RECORD * k]); j++) {
-            uint8_t *slot = left + RECORD * k + 4 + 2 * j;
+            uint8_t *slot = slot_at(left + RECORD * k, j);
             set_field(slot, traced(mapped, field(slot)));
         }
     do_verify(part(left, RECORD * *n), s, mapped);
@@ -718,7 +804,7 @@ static size_t buffers_by_net(struct bytes mapped, uint32_t *buffers)
     for (k = 0; k < mapped.len / RECORD; k++) {
         const uint8_t *record = mapped.at + RECORD * k;
         if (record[0] == BUFFER)
-            buffers[count++] = (uint32_t)traced(mapped, k) << 16 | field(record + 2);
+            buffers[count++] = (uint32_t)traced(mapped, k) << 16 | level_of(record);
     }
     qsort(buffers, count, sizeof *buffers, by_number);
     return count;
@@ -783,12 +869,12 @@ static void find_least(struct bytes source, uint32_t s)
     memset(sinks, 0, sizeof sinks);
     for (k = 0; k < n; k++)
         for (j = 0; j < used_slots(source.at[RECORD * k]); j++)
-            sinks[field(source.at + RECORD * k + 4 + 2 * j)]++;
+            sinks[slot_of(source.at + RECORD * k, j)]++;
     for (k = 0; k < n; k++) {
         const uint8_t *record = source.at + RECORD * k;
         least[k] = 0;
         for (j = 0; j < used_slots(record[0]); j++) {
-            unsigned driver = field(record + 4 + 2 * j);
+            unsigned driver = slot_of(record, j);
             uint32_t level = least[driver] + 1 + height(sinks[driver], s);
             least[k] = level > least[k] ? level : least[k];
         }
@@ -805,12 +891,12 @@ static uint32_t bad_record(struct bytes source, size_t k)
 {
     const uint8_t *record = source.at + RECORD * k;
     unsigned used = used_slots(record[0]), j;
-    if (record[0] > OUTPUT)
+    if (record[0] == BUFFER || record[0] >= KINDS)
         return 4;
-    if (record[1] >= 1 << (record[0] == INPUT || record[0] == OUTPUT ? 0 : used))
+    if (record[INVERSION] >= inversions(record[0]))
         return 5;
     for (j = 0; j < SLOTS; j++) {
-        unsigned slot = field(record + 4 + 2 * j);
+        unsigned slot = slot_of(record, j);
         if (j < used ? slot >= k || source.at[RECORD * slot] == OUTPUT : slot != UNUSED)
             return 6;
     }
@@ -845,9 +931,10 @@ static int is_levelled(struct bytes source)
     size_t k;
     for (k = 0; k < source.len / RECORD; k++) {
         const uint8_t *old = source.at + RECORD * k, *new = levelled_area.at + RECORD * k;
-        if (memcmp(old, new, 2) != 0 || memcmp(old + 4, new + 4, RECORD - 4) != 0)
+        if (memcmp(old, new, LEVEL) != 0
+            || memcmp(old + FIRST_SLOT, new + FIRST_SLOT, RECORD - FIRST_SLOT) != 0)
             return 0;
-        if (field(new + 2) != least[k])
+        if (level_of(new) != least[k])
             return 0;
     }
     return 1;
@@ -893,11 +980,8 @@ static void hold_copy(struct bytes source, uint32_t s, size_t mapped_len, uint32
 static void set_levels(uint8_t *records, size_t len, int any, unsigned level)
 {
     size_t k;
-    for (k = 0; k < len; k += RECORD) {
-        unsigned own = any ? below(65536) : level;
-        records[k + 2] = (uint8_t)own;
-        records[k + 3] = (uint8_t)(own >> 8);
-    }
+    for (k = 0; k < len; k += RECORD)
+        set_field(records + k + LEVEL, any ? below(65536) : level);
 }
 
 /* ---- the worked case ---- */
@@ -924,6 +1008,12 @@ static void make_worked(void)
     memcpy(worked_mapped, netlist, netlist_len);
     worked = part(worked_source, sizeof worked_source);
     worked_out = part(worked_mapped, sizeof worked_mapped);
+}
+
+/* An area for the mapped netlist of the worked case. */
+static struct bytes worked_area(void)
+{
+    return fill(sizeof worked_mapped);
 }
 
 /* Up to two calls of a list that are no steps: a row of another length, or with a byte above 1. The
@@ -962,18 +1052,19 @@ static void test_map_worked(void)
 {
     size_t len, k;
     begin("aqfp_map, the worked case");
-    for (len = 0; len <= 100; len++) {
+    check(worked.len == 70 && worked_out.len == 112, "the source and the mapped netlist in bytes");
+    for (len = 0; len <= 2 * worked_out.len; len++) {
         do_map(worked, 2, fill(len));
-        if (len < 80) {
-            check(answered(10, 0), "an area below 80 bytes gives 10");
+        if (len < worked_out.len) {
+            check(answered(10, 0), "an area below 112 bytes gives 10");
             continue;
         }
-        check(is_worked_answer(), "an area of 80 bytes or more: the seven numbers");
-        check(memcmp(mapped_area.at, worked_mapped, 80) == 0, "the mapped netlist");
-        for (k = 80; k < len; k++)
+        check(is_worked_answer(), "an area of 112 bytes or more: the seven numbers");
+        check(memcmp(mapped_area.at, worked_out.at, worked_out.len) == 0, "the mapped netlist");
+        for (k = worked_out.len; k < len; k++)
             check(mapped_area.at[k] == filler[k], "bytes after the mapped netlist stay");
     }
-    do_map(worked, 5, fill(80));
+    do_map(worked, 5, worked_area());
     check(answered(1, 0), "capacity 5 gives 1");
     do_map(fill(0), 2, fill(0));
     check(answered(0, 0) && answer[2] == 0 && answer[6] == 0, "an empty source maps to nothing");
@@ -982,47 +1073,58 @@ static void test_map_worked(void)
     end();
 }
 
-/* Gates on two inputs of their own, and a line of so many buffers from an input to an output. */
-static void make_priced(unsigned gates, unsigned buffers)
+/* ANDs and MAJ5s on inputs of their own, and a line of so many buffers from an input to an
+ * output. */
+static void make_priced(unsigned ands, unsigned fives, unsigned buffers)
 {
-    unsigned k;
+    unsigned inputs = 2 * ands + SLOTS * fives, k;
     clear();
-    for (k = 0; k < 2 * gates + 1; k++)
+    for (k = 0; k <= inputs; k++)
         add_input();
-    for (k = 0; k < gates; k++)
-        add_and(1, 2 * k, 2 * k + 1);
-    add_one(OUTPUT, buffers + 1, 2 * gates);
+    for (k = 0; k < ands; k++)
+        add_rising(AND, 0, 1, 2 * k);
+    for (k = 0; k < fives; k++)
+        add_rising(MAJ5, 0, 1, 2 * ands + SLOTS * k);
+    add_one(OUTPUT, buffers + 1, inputs);
 }
 
 static void test_shares(void)
 {
     static const struct {
-        unsigned gates, buffers;
+        unsigned ands, fives, buffers;
         uint32_t junctions, share;
         const char *what;
     } rows[] = {
-        { 7, 3, 48, 12, "12.5 is rounded to the even 12" },
-        { 173, 81, 1200, 14, "13.5 is rounded to the even 14" },
-        { 107, 46, 734, 13, "12.53 is rounded up" },
-        { 171, 80, 1186, 13, "13.49 is rounded down" },
-        { 2, 3, 18, 33, "33.3 is rounded down" },
-        { 1, 6, 18, 67, "66.7 is rounded up" },
-        { 1, 3, 12, 50, "50 stays" },
-        { 13, 1, 80, 2, "2.5 is rounded to the even 2" },
-        { 1364, 0, 8184, 0, "no buffers" },
-        { 199, 3, 1200, 0, "0.5 is rounded to the even 0" },
-        { 1327, 20, 8002, 0, "0.49987 is rounded down" },
-        { 1326, 20, 7996, 1, "0.50025 is rounded up" },
-        { 1, 597, 1200, 100, "99.5 is rounded to the even 100" },
-        { 1, 596, 1198, 99, "99.499 is rounded down" },
-        { 1, 4094, 8194, 100, "99.9 is rounded up" },
-        { 0, 1, 2, 100, "buffers alone" },
-        { 0, 0, 0, 0, "no junctions" }
+        { 7, 0, 3, 48, 12, "12.5 is rounded to the even 12" },
+        { 173, 0, 81, 1200, 14, "13.5 is rounded to the even 14" },
+        { 107, 0, 46, 734, 13, "12.53 is rounded up" },
+        { 171, 0, 80, 1186, 13, "13.49 is rounded down" },
+        { 2, 0, 3, 18, 33, "33.3 is rounded down" },
+        { 1, 0, 6, 18, 67, "66.7 is rounded up" },
+        { 1, 0, 3, 12, 50, "50 stays" },
+        { 13, 0, 1, 80, 2, "2.5 is rounded to the even 2" },
+        { 1364, 0, 0, 8184, 0, "no buffers" },
+        { 199, 0, 3, 1200, 0, "0.5 is rounded to the even 0" },
+        { 1327, 0, 20, 8002, 0, "0.49987 is rounded down" },
+        { 1326, 0, 20, 7996, 1, "0.50025 is rounded up" },
+        { 1, 0, 597, 1200, 100, "99.5 is rounded to the even 100" },
+        { 1, 0, 596, 1198, 99, "99.499 is rounded down" },
+        { 1, 0, 4094, 8194, 100, "99.9 is rounded up" },
+        { 0, 0, 1, 2, 100, "buffers alone" },
+        { 0, 0, 0, 0, 0, "no junctions" },
+        { 0, 7, 5, 80, 12, "MAJ5 alone, 12.5 is rounded to the even 12" },
+        { 0, 173, 135, 2000, 14, "MAJ5 alone, 13.5 is rounded to the even 14" },
+        { 0, 1, 5, 20, 50, "MAJ5 alone, 50 stays" },
+        { 0, 682, 0, 6820, 0, "MAJ5 alone, no buffers" },
+        { 1, 1, 4, 24, 33, "both, 33.3 is rounded down" },
+        { 2, 3, 6, 54, 22, "both, 22.2 is rounded down" },
+        { 5, 19, 30, 280, 21, "both, 21.4 is rounded down" },
+        { 3, 2, 1, 40, 5, "both, 5 stays" }
     };
     size_t k;
     begin("aqfp_map, shares");
     for (k = 0; k < sizeof rows / sizeof rows[0]; k++) {
-        make_priced(rows[k].gates, rows[k].buffers);
+        make_priced(rows[k].ands, rows[k].fives, rows[k].buffers);
         do_map(made(), 2, fill(netlist_len + RECORD * rows[k].buffers));
         check(answered(0, 0) && answer[3] == rows[k].buffers && answer[5] == rows[k].junctions
               && answer[6] == rows[k].share, rows[k].what);
@@ -1041,17 +1143,18 @@ static void make_net(const unsigned *distances, size_t count)
         add_and(distances[k], 0, 1);
 }
 
-/* Gate 2 with sinks at the distances, gates that name it once and an input of their own once. */
-static void make_gate_net(const unsigned *distances, size_t count)
+/* Record 5, a gate of a kind on the inputs before it, with sinks at the distances: gates that name
+ * it once and an input of their own once. */
+static void make_gate_net(unsigned kind, const unsigned *distances, size_t count)
 {
     size_t k;
     clear();
-    add_input();
-    add_input();
-    add_and(1, 0, 1);
+    while (next_record() < SLOTS)
+        add_input();
+    add_rising(kind, 0, 1, 0);
     for (k = 0; k < count; k++) {
         add_input();
-        add_and(1 + distances[k], 2, 3 + 2 * (unsigned)k);
+        add_and(1 + distances[k], SLOTS, next_record() - 1);
     }
 }
 
@@ -1101,7 +1204,7 @@ static void hold_input_net(const struct net *net)
     do_listed(made(), net->s);
     check(answered(0, 0) && listed(0) == net->fewest && listed(1) == net->fewest,
           "a list of both inputs, whose nets are alike");
-    do_map(made(), net->s, fill(2000));
+    do_map(made(), net->s, fill(RECORD * 200));
     if (net->fewest == NO_TREE)
         check(answered(8, 0), "the mapper gives 8 where there is no tree");
     else
@@ -1109,24 +1212,24 @@ static void hold_input_net(const struct net *net)
               "the mapper gives the fewest buffers to each input, whose nets are alike");
 }
 
-/* The net on a gate, with the b at hand. */
-static void hold_gate_net(const struct net *net)
+/* The net on a gate of a kind, with the b at hand. */
+static void hold_gate_net(const struct net *net, unsigned kind)
 {
     uint32_t others = 0;
     size_t k;
     for (k = 0; k < net->count; k++)
         others += net->distances[k];
-    make_gate_net(net->distances, net->count);
-    do_count(made(), net->s, 2);
+    make_gate_net(kind, net->distances, net->count);
+    do_count(made(), net->s, SLOTS);
     check(accepted(net->on_gate), "the count of the net of a gate");
     list_len = 0;
     list_add(0);
-    list_add(2);
+    list_add(SLOTS);
     do_listed(made(), net->s);
     check(answered(0, 0) && listed(0) == 0 && listed(1) == net->on_gate, "a list with the gate");
-    do_map(made(), net->s, fill(2000));
+    do_map(made(), net->s, fill(RECORD * 200));
     if (net->on_gate == NO_TREE)
-        check(answered(8, 2), "the mapper gives 8 at the gate");
+        check(answered(8, SLOTS), "the mapper gives 8 at the gate");
     else
         check(answered(0, 0) && answer[3] == net->on_gate + others,
               "the mapper gives the fewest buffers to the gate");
@@ -1135,16 +1238,26 @@ static void hold_gate_net(const struct net *net)
 static void test_count_worked(void)
 {
     static const uint32_t others[] = { 1, 2, 3, 4, 255, 256, 4095 };
-    size_t k, j;
+    size_t k, j, i;
     begin("aqfp_count, P1 to P12 and the nets of inputs that branch");
     for (k = 0; k < NETS; k++) {
         hold_input_net(&nets[k]);
         for (j = 0; j < sizeof others / sizeof others[0]; j++) {
             input_capacity = others[j];
-            hold_gate_net(&nets[k]);
+            for (i = 0; i < GATES; i++)
+                hold_gate_net(&nets[k], gate_kinds[i]);
         }
     }
     end();
+}
+
+/* One input, and gates of a kind at a level up to 4,096 records, which name it in every slot. */
+static void make_most(unsigned kind, unsigned level)
+{
+    clear();
+    add_input();
+    while (netlist_len < RECORD * MAX_SOURCE)
+        add_same(kind, 0, level, 0);
 }
 
 static void test_count_limits(void)
@@ -1165,20 +1278,29 @@ static void test_count_limits(void)
         do_count(made(), k, 1);
         check(accepted(0), "a driver without sinks");
     }
-    clear();
-    add_input();
-    for (k = 1; k < MAX_SOURCE; k++)
-        add(MAJ, 0, 15, 0, 0, 0);
+    make_most(MAJ, 15);
     do_count(made(), 2, 0);
     /* 12,285 sinks: 6143 + 3072 + 1536 + 768 + 384 + 192 + 96 + 48 + 24 + 12 + 6 + 3 + 2 + 1 */
     check(accepted(12287), "12,285 sinks at distance 15 with capacity 2");
     do_count(made(), 4, 0);
     /* 3072 + 768 + 192 + 48 + 12 + 3 + 1 + 7 more of 1 */
     check(accepted(4103), "12,285 sinks at distance 15 with capacity 4");
-    for (k = 1; k < MAX_SOURCE; k++)
-        put_record(netlist + RECORD * k, MAJ, 0, 14, 0, 0, 0);
+    make_most(MAJ, 14);
     do_count(made(), 2, 0);
     check(accepted(NO_TREE), "12,285 sinks at distance 14 with capacity 2");
+    make_most(MAJ5, 16);
+    do_count(made(), 2, 0);
+    /* 10238 + 5119 + 2560 + 1280 + 640 + 320 + 160 + 80 + 40 + 20 + 10 + 5 + 3 + 2 + 1 */
+    check(accepted(20478), "20,475 sinks at distance 16 with capacity 2");
+    do_count(made(), 3, 0);
+    /* 6825 + 2275 + 759 + 253 + 85 + 29 + 10 + 4 + 2 + 1 + 5 more of 1 */
+    check(accepted(10248), "20,475 sinks at distance 16 with capacity 3");
+    do_count(made(), 4, 0);
+    /* 5119 + 1280 + 320 + 80 + 20 + 5 + 2 + 1 + 7 more of 1 */
+    check(accepted(6834), "20,475 sinks at distance 16 with capacity 4");
+    make_most(MAJ5, 15);
+    do_count(made(), 2, 0);
+    check(accepted(NO_TREE), "20,475 sinks at distance 15 with capacity 2");
     end();
 }
 
@@ -1261,13 +1383,14 @@ static void test_list_limits(void)
         check(listed(0) == MAX_LEVEL - 1 && listed(14) == MAX_LEVEL - 1 && listed(15) == 0,
               "nets around it are counted; 8 and 9 are not checked");
     }
-    clear();
-    add_input();
-    for (k = 1; k < MAX_SOURCE; k++)
-        add(MAJ, 0, 15, 0, 0, 0);
+    make_most(MAJ, 15);
     list_drivers(made());
     do_listed(made(), 2);
     check(answered(0, 0) && listed(MAX_SOURCE - 1) == 12287, "12,285 sinks at distance 15");
+    make_most(MAJ5, 16);
+    list_drivers(made());
+    do_listed(made(), 2);
+    check(answered(0, 0) && listed(MAX_SOURCE - 1) == 20478, "20,475 sinks at distance 16");
     for (k = 0; k < MAX_SOURCE - 1; k++)
         check(listed(k) == 0, "drivers without sinks");
     end();
@@ -1294,11 +1417,12 @@ static void test_levels_worked(void)
                 check(answered(0, 0), "levels brought are not looked at");
                 check(memcmp(levelled_area.at, worked_source, sizeof changed) == 0,
                       "the worked case's levels");
-                hold_copy(source, s, 1000, 0);
+                hold_copy(source, s, 2 * worked_out.len, 0);
             }
-        for (len = 0; len <= 110; len++) {
+        for (len = 0; len <= 2 * worked.len; len++) {
             do_levels(worked, s, fill(len));
-            check(len == 50 ? answered(0, 0) : answered(23, 0), "an area of 50 bytes, no other");
+            check(len == worked.len ? answered(0, 0) : answered(23, 0),
+                  "an area of 70 bytes, no other");
             do_levels(fill(0), s, fill(len));
             check(len == 0 ? answered(0, 0) : answered(23, 0), "an empty source, an empty area");
         }
@@ -1312,70 +1436,115 @@ static void test_levels_worked(void)
     end();
 }
 
-/* An input and a net of so many sinks on it: outputs, or majorities and what is left of three: an
- * AND for two sinks, an output for one. */
-static void make_sinks(unsigned sinks, int outputs)
+/* The most sinks that records of a kind give one driver. */
+static unsigned most_sinks(unsigned kind)
 {
-    clear();
-    add_input();
-    for (; !outputs && sinks >= 3; sinks -= 3)
-        add(MAJ, sinks % 8, sinks, 0, 0, 0);
-    if (!outputs && sinks == 2) {
-        add(AND, 3, 0, 0, 0, UNUSED);
-        sinks = 0;
-    }
-    for (; sinks > 0; sinks--)
-        add_one(OUTPUT, sinks, 0);
+    return used_slots(kind) * (MAX_SOURCE - 1);
 }
 
-/* All records but the first, an input, are answered this level. */
-static int all_at(unsigned level)
+/* An input and a net of so many sinks on it: records of a kind, and for what they leave a MAJ for
+ * three sinks, an AND for two and an output for one. Only of 20,474 sinks four are left for one
+ * record, a MAJ5 whose last slot names the first gate. */
+static void make_sinks(unsigned sinks, unsigned kind)
+{
+    unsigned used = used_slots(kind);
+    clear();
+    add_input();
+    for (; sinks >= used; sinks -= used)
+        add_same(kind, sinks % inversions(kind), sinks, 0);
+    if (sinks == 4 && next_record() == MAX_SOURCE - 1) {
+        add_maj5(0, 0, 0, 0, 0, 0, 1);
+        sinks = 0;
+    }
+    if (sinks >= 3) {
+        add_same(MAJ, 5, 0, 0);
+        sinks -= 3;
+    }
+    if (sinks == 2)
+        add_same(AND, 3, 0, 0);
+    if (sinks == 1)
+        add_one(OUTPUT, 1, 0);
+}
+
+/* The first record, an input, is answered level 0, the last a level of its own, all others this. */
+static int all_but_last_at(unsigned level, unsigned last)
 {
     size_t k;
     for (k = RECORD; k < levelled_area.len; k += RECORD)
-        if (field(levelled_area.at + k + 2) != level)
+        if (level_of(levelled_area.at + k) != (k + RECORD < levelled_area.len ? level : last))
             return 0;
-    return answered(0, 0) && field(levelled_area.at + 2) == 0;
+    return answered(0, 0) && level_of(levelled_area.at) == 0;
+}
+
+static int all_at(unsigned level)
+{
+    return all_but_last_at(level, level);
 }
 
 static void test_levels_heights(void)
 {
-    static const unsigned most[3] = { 15, 10, 8 };
+    static const unsigned kinds[] = { OUTPUT, AND, MAJ, MAJ5 };
+    /* Of 4,095, 12,285 and 20,475 sinks, with s = 2, 3 and 4. */
+    static const unsigned ones[] = { 13, 9, 7 }, threes[] = { 15, 10, 8 }, fives[] = { 16, 11, 9 };
     uint32_t s, h;
-    unsigned power, sinks, outputs;
+    unsigned power, sinks;
+    size_t k;
     begin("aqfp_levels, heights");
     for (s = 2; s <= 4; s++) {
-        for (h = 0, power = 1; power <= 12284; h++, power *= s)
+        for (h = 0, power = 1; power < MAX_SINKS; h++, power *= s)
             for (sinks = power; sinks <= power + 1; sinks++)
-                for (outputs = 0; outputs < 2; outputs++) {
-                    if (outputs && sinks >= MAX_SOURCE)
+                for (k = 0; k < sizeof kinds / sizeof kinds[0]; k++) {
+                    if (sinks > most_sinks(kinds[k]))
                         continue;
-                    make_sinks(sinks, (int)outputs);
+                    make_sinks(sinks, kinds[k]);
                     do_levels(made(), s, fill(netlist_len));
                     check(all_at(1 + h + (sinks > power)), "s to the power h sinks, and one more");
-                    hold_copy(made(), s, 600000, 0);
+                    hold_copy(made(), s, RECORD * MAX_MAPPED, 0);
                 }
-        make_sinks(12285, 0);
-        check(netlist_len == RECORD * MAX_SOURCE, "the largest net");
+        for (k = 0; k < sizeof kinds / sizeof kinds[0]; k++) {
+            make_sinks(most_sinks(kinds[k]), kinds[k]);
+            check(netlist_len == RECORD * MAX_SOURCE, "the largest net of a kind");
+            hold_copy(made(), s, RECORD * MAX_MAPPED, 0);
+        }
+        make_sinks(4095, OUTPUT);
         do_levels(made(), s, fill(netlist_len));
-        check(all_at(most[s - 2]), "12,285 sinks");
-        hold_copy(made(), s, 600000, 0);
+        check(all_at(ones[s - 2]), "4,095 sinks");
+        make_sinks(12285, MAJ);
+        do_levels(made(), s, fill(netlist_len));
+        check(all_at(threes[s - 2]), "12,285 sinks");
+        make_sinks(20475, MAJ5);
+        do_levels(made(), s, fill(netlist_len));
+        check(all_at(fives[s - 2]), "20,475 sinks");
         /* Slots are counted, not records. */
         two_records(AND, 3, 9, 0, 0, UNUSED);
-        do_levels(made(), s, fill(20));
+        do_levels(made(), s, fill(netlist_len));
         check(all_at(2), "a gate that names a driver twice");
         two_records(MAJ, 7, 0, 0, 0, 0);
-        do_levels(made(), s, fill(20));
+        do_levels(made(), s, fill(netlist_len));
         check(all_at(s == 2 ? 3 : 2), "a gate that names a driver three times");
+        clear();
+        add_input();
+        add_maj5(31, 0, 0, 0, 0, 0, 0);
+        do_levels(made(), s, fill(netlist_len));
+        check(all_at(s == 2 ? 4 : 3), "a gate that names a driver five times");
         clear();
         add_input();
         add_input();
         add(MAJ, 0, 0, 1, 0, 1);
-        do_levels(made(), s, fill(30));
-        check(answered(0, 0) && field(levelled_area.at + 22) == 2,
+        do_levels(made(), s, fill(netlist_len));
+        check(answered(0, 0) && level_of(levelled_area.at + 2 * RECORD) == 2,
               "a gate that names a driver twice and another once");
+        for (k = 0; k < SLOTS; k++) {
+            clear();
+            add_input();
+            add_input();
+            add_maj5(0, 0, k == 0, k == 1, k == 2, k == 3, k == 4);
+            do_levels(made(), s, fill(netlist_len));
+            check(answered(0, 0) && level_of(levelled_area.at + 2 * RECORD) == (s == 4 ? 2 : 3),
+                  "a gate that names a driver four times and another once");
+        }
         two_records(OUTPUT, 0, 4096, 0, UNUSED, UNUSED);
-        do_levels(made(), s, fill(20));
+        do_levels(made(), s, fill(netlist_len));
         check(all_at(1), "one sink");
         clear();
         for (sinks = 0; sinks < MAX_SOURCE; sinks++)
@@ -1387,28 +1556,33 @@ static void test_levels_heights(void)
     end();
 }
 
-/* Every number of sinks that a net may have. */
+/* Every number of sinks that a net may have, a part of them with each placement of areas. */
 static void test_levels_every_height(void)
 {
-    uint32_t s;
+    uint32_t s, h;
     unsigned sinks;
     begin("aqfp_levels, every number of sinks");
-    for (sinks = 0; sinks <= 12285; sinks++) {
-        make_sinks(sinks, 0);
+    for (sinks = placement; sinks <= MAX_SINKS; sinks += PLACEMENTS) {
+        make_sinks(sinks, MAJ5);
         for (s = 2; s <= 4; s++) {
+            h = height(sinks, s);
             do_levels(made(), s, fill(netlist_len));
-            check(all_at(1 + height(sinks, s)), "1 + height above the input");
+            if (sinks == 20474)
+                check(all_but_last_at(1 + h, 2 + h), "the last gate is above the first");
+            else
+                check(all_at(1 + h), "1 + height above the input");
         }
     }
     end();
 }
 
-/* Gates one on the other from record `end` on, each naming the one before in so many slots. */
-static void add_chain(unsigned gates, unsigned slots, unsigned end)
+/* Gates of a kind one on the other from record `end` on, each naming the one before in all its
+ * slots. */
+static void add_chain(unsigned gates, unsigned kind, unsigned end)
 {
     for (; gates > 0; gates--) {
-        add(slots == 3 ? MAJ : AND, 0, 65535, end, end, slots == 3 ? end : UNUSED);
-        end = (unsigned)(netlist_len / RECORD - 1);
+        add_same(kind, 0, 65535, end);
+        end = next_record() - 1;
     }
 }
 
@@ -1421,7 +1595,7 @@ static void levels_mapped(uint32_t s, uint32_t number, uint32_t place, uint32_t 
     check(answered(number, place), what);
     hold_levels(made(), s, netlist_len);
     if (number == 0) {
-        hold_copy(made(), s, 600000, by);
+        hold_copy(made(), s, RECORD * MAX_MAPPED, by);
         number = 23;
     }
     do_levels(made(), s, fill(netlist_len - 1));
@@ -1449,21 +1623,44 @@ static void test_levels_limits(void)
     /* Three sinks have height 2 with capacity 2, and two have height 1 with any. */
     clear();
     add_input();
-    add_chain(1365, 3, 0);
+    add_chain(1365, MAJ, 0);
     levels_answered(2, 0, 0, "a gate at 4,095");
     check(least[1365] == MAX_LEVEL, "a gate at 4,095");
     add_one(OUTPUT, 0, 1365);
     levels_answered(2, 22, 1366, "an output at 4,096");
     netlist_len -= RECORD;
-    add_chain(1, 3, 1365);
+    add_chain(1, MAJ, 1365);
     levels_answered(2, 22, 1366, "a gate at 4,098");
     levels_answered(3, 0, 0, "capacity 3");
-    add_chain(4096 - 1367, 3, 1366);
+    add_chain(4096 - 1367, MAJ, 1366);
     levels_answered(2, 22, 1366, "4,096 records, a gate at 4,098 and higher ones");
+    /* Five sinks have height 3 with capacity 2, and height 2 with 3 and 4. */
+    clear();
+    add_input();
+    add_chain(1023, MAJ5, 0);
+    levels_answered(2, 0, 0, "a MAJ5 at 4,092");
+    check(least[1023] == 4092, "a MAJ5 at 4,092");
+    add_one(OUTPUT, 0, 1023);
+    levels_answered(2, 0, 0, "an output at 4,093");
+    netlist_len -= RECORD;
+    add_chain(1, MAJ5, 1023);
+    levels_answered(2, 22, 1024, "a MAJ5 at 4,096");
+    for (s = 3; s <= 4; s++) {
+        clear();
+        add_input();
+        add_chain(1365, MAJ5, 0);
+        levels_answered(s, 0, 0, "a MAJ5 at 4,095");
+        check(least[1365] == MAX_LEVEL, "a MAJ5 at 4,095");
+        add_one(OUTPUT, 0, 1365);
+        levels_answered(s, 22, 1366, "an output at 4,096");
+        netlist_len -= RECORD;
+        add_chain(1, MAJ5, 1365);
+        levels_answered(s, 22, 1366, "a MAJ5 at 4,098");
+    }
     for (s = 2; s <= 4; s++) {
         clear();
         add_input();
-        add_chain(2047, 2, 0);
+        add_chain(2047, AND, 0);
         levels_answered(s, 0, 0, "a gate at 4,094");
         add_one(OUTPUT, 9, 2047);
         levels_answered(s, 0, 0, "an output at 4,095");
@@ -1474,7 +1671,7 @@ static void test_levels_limits(void)
         levels_answered(s, s == 2 ? 22 : 0, s == 2 ? 2048 : 0, "two outputs, one on the input");
         clear();
         add_input();
-        add_chain(4095, 2, 0);
+        add_chain(4095, AND, 0);
         levels_answered(s, 22, 2048, "the highest least levels of 4,096 records");
         put_record(netlist + RECORD * 4095, AND, 0, 0, 0, 4095, UNUSED);
         levels_answered(s, 6, 4095, "6 of the last record before 22");
@@ -1492,7 +1689,7 @@ static void test_levels_limits(void)
         add_input();
         add_input();
         add_one(OUTPUT, 1, 0);
-        add_chain(2048, 2, 1);
+        add_chain(2048, AND, 1);
         levels_answered(s, 22, 2050, "an early output stands low: the gate is the place");
         netlist_len -= RECORD;
         levels_answered(s, 0, 0, "a gate at 4,094, an early output at 1");
@@ -1522,7 +1719,7 @@ static void test_levels_limits(void)
     /* A gate at 4,083 with 2,048 outputs, which have height 11, and with one more. */
     clear();
     add_input();
-    add_chain(1361, 3, 0);
+    add_chain(1361, MAJ, 0);
     for (k = 0; k < 2048; k++)
         add_one(OUTPUT, 0, 1361);
     levels_answered(2, 0, 0, "2,048 outputs at 4,095");
@@ -1532,7 +1729,7 @@ static void test_levels_limits(void)
     /* Sinks that stand after the chain raise its last gate. */
     clear();
     add_input();
-    add_chain(1365, 3, 0);
+    add_chain(1365, MAJ, 0);
     add_and(0, 1364, 0);
     levels_answered(2, 0, 0, "four sinks below the last gate, as high as three");
     add_and(0, 1364, 0);
@@ -1544,13 +1741,13 @@ static void test_levels_limits(void)
     for (k = 0; k < 15; k++)
         add_one(OUTPUT, 0, k);
     add_and(0, 15, 15);
-    add_chain(2046, 2, 31);
+    add_chain(2046, AND, 31);
     add_one(OUTPUT, 0, 2077);
     levels_mapped(2, 0, 0, 9, "16 outputs at 4,095");
     check(least[16] == MAX_LEVEL && least[2078] == MAX_LEVEL, "16 outputs at 4,095");
     do_levels(made(), 2, fill(netlist_len));
     memcpy(netlist, levelled_area.at, netlist_len);
-    do_map(made(), 2, fill(600000));
+    do_map(made(), 2, fill(RECORD * MAX_MAPPED));
     check(answered(9, 0), "a copy that needs more buffers than 9 allows");
     end();
 }
@@ -1561,9 +1758,10 @@ static void test_strip_worked(void)
     size_t len;
     begin("aqfp_strip, the worked case");
     for (s = 2; s <= 4; s++) {
-        for (len = 0; len <= 110; len++) {
+        for (len = 0; len <= 2 * worked.len; len++) {
             do_strip(s, worked_out, fill(len));
-            check(len < 50 ? answered(25, 0) : is_stripped(worked), "an area of 50 bytes or more");
+            check(len < worked.len ? answered(25, 0) : is_stripped(worked),
+                  "an area of 70 bytes or more");
             do_strip(s, fill(0), fill(len));
             check(is_stripped(fill(0)), "an empty netlist has an empty source");
             do_strip(s, worked, fill(len));
@@ -1680,7 +1878,7 @@ static void refused_everywhere(struct bytes source, uint32_t number, uint32_t pl
  * checks, which come later. */
 static void capacities_refused(struct bytes source, uint32_t capacity, uint32_t number)
 {
-    do_map(source, capacity, fill(80));
+    do_map(source, capacity, worked_area());
     check(answered(number, 0), "aqfp_map");
     do_map(source, capacity, fill(0));
     check(answered(number, 0), "aqfp_map, before 10");
@@ -1698,27 +1896,27 @@ static void capacities_refused(struct bytes source, uint32_t capacity, uint32_t 
     check(answered(number, 0), "aqfp_verify");
     do_verify(source, capacity, source);
     check(answered(number, 0), "aqfp_verify, before 15");
-    do_verify(source, capacity, fill(11));
+    do_verify(source, capacity, fill(RECORD + 1));
     check(answered(number, 0), "aqfp_verify, before 11");
     do_run(source, capacity, worked_out, 0, fill(0), fill(16), fill(0));
     check(answered(number, 0), "aqfp_run");
     do_run(source, capacity, worked_out, 99999, fill(2), fill(15), fill(1));
     check(answered(number, 0), "aqfp_run, before 18 and 19");
-    do_run(source, capacity, fill(11), 0, fill(0), fill(16), fill(0));
+    do_run(source, capacity, fill(RECORD + 1), 0, fill(0), fill(16), fill(0));
     check(answered(number, 0), "aqfp_run, before 11");
     do_step(source, capacity, worked_out, fill(2), fill(16));
     check(answered(number, 0), "aqfp_step, before 19");
     do_step(source, capacity, worked_out, fill(1), fill(15));
     check(answered(number, 0), "aqfp_step, before 18");
-    do_step(source, capacity, fill(11), fill(2), fill(16));
+    do_step(source, capacity, fill(RECORD + 1), fill(2), fill(16));
     check(answered(number, 0), "aqfp_step, before 11");
-    do_strip(capacity, source, fill(80));
+    do_strip(capacity, source, worked_area());
     check(answered(number, 0), "aqfp_strip, before 24");
     do_strip(capacity, source, fill(0));
     check(answered(number, 0), "aqfp_strip, before 24 and 25");
-    do_strip(capacity, worked_out, fill(80));
+    do_strip(capacity, worked_out, worked_area());
     check(answered(number, 0), "aqfp_strip");
-    do_strip(capacity, worked_out, fill(49));
+    do_strip(capacity, worked_out, fill(worked.len - 1));
     check(answered(number, 0), "aqfp_strip, before 25");
     do_strip(capacity, worked_out, fill(0));
     check(answered(number, 0), "aqfp_strip, before 25");
@@ -1754,8 +1952,8 @@ static void test_source_lengths(void)
     size_t k;
     begin("refusals 2 and 3, all calls");
     for (k = 1; k < RECORD; k++) {
-        refused_everywhere(part(worked_source, k), 2, 0, "a length of 1 to 9");
-        refused_everywhere(part(worked_source, 40 + k), 2, 0, "a length of 41 to 49");
+        refused_everywhere(part(worked_source, k), 2, 0, "a length of 1 to 13");
+        refused_everywhere(part(worked_source, 4 * RECORD + k), 2, 0, "a length of 57 to 69");
     }
     clear();
     for (k = 0; k <= MAX_SOURCE; k++)
@@ -1776,9 +1974,11 @@ static void test_source_records(void)
 {
     unsigned k, bit;
     begin("refusals 4 to 7, all calls");
-    for (k = 5; k < 256; k++) {
+    for (k = 0; k < 256; k++) {
+        if (k < KINDS && k != BUFFER)
+            continue;
         two_records(k, 0, 1, 0, UNUSED, UNUSED);
-        refused_everywhere(made(), 4, 1, "a kind above 4");
+        refused_everywhere(made(), 4, 1, "kind 5, or a kind above 6");
     }
     for (bit = 0; bit < 8; bit++) {
         two_records(INPUT, 1 << bit, 0, UNUSED, UNUSED, UNUSED);
@@ -1794,6 +1994,11 @@ static void test_source_records(void)
         two_records(MAJ, 1 << bit, 2, 0, 0, 0);
         if (bit >= 3)
             refused_everywhere(made(), 5, 1, "MAJ with another bit than 0 to 2");
+        clear();
+        add_input();
+        add_same(MAJ5, 1 << bit, 2, 0);
+        if (bit >= 5)
+            refused_everywhere(made(), 5, 1, "MAJ5 with another bit than 0 to 4");
     }
     two_records(AND, 0, 1, 0, 1, UNUSED);
     refused_everywhere(made(), 6, 1, "a slot that names its own record");
@@ -1853,7 +2058,7 @@ static void test_map_sizes(void)
     unsigned k;
     begin("refusals 8 to 10");
     two_records(AND, 0, 1, 0, 0, UNUSED);
-    do_map(made(), 4, fill(20));
+    do_map(made(), 4, fill(netlist_len));
     check(answered(8, 0), "two sinks at distance 1");
     clear();
     add_input();
@@ -1866,22 +2071,26 @@ static void test_map_sizes(void)
     check(answered(8, 1), "8 at the first driver without a tree, before 10");
     do_map(made(), 3, fill(0));
     check(answered(10, 0), "with capacity 3 the net has a tree");
-    do_map(made(), 3, fill(80));
-    check(answered(0, 0) && answer[2] == 8, "an area of 80 bytes is enough");
+    do_map(made(), 3, fill(RECORD * 8));
+    check(answered(0, 0) && answer[2] == 8, "an area of 8 records is enough");
+    do_map(made(), 3, fill(RECORD * 8 - 1));
+    check(answered(10, 0), "an area one byte shorter is not");
     clear();
     for (k = 0; k < 15; k++)
         add_input();
     for (k = 0; k < 15; k++)
         add_one(OUTPUT, 3999, k);
-    do_map(made(), 2, fill(600000));
+    do_map(made(), 2, fill(RECORD * MAX_MAPPED));
     check(answered(0, 0) && answer[2] == MAX_MAPPED && answer[3] == 59970 && answer[4] == 3999
           && answer[5] == 119940 && answer[6] == 100, "60,000 records");
-    do_map(made(), 2, fill(599999));
+    do_map(made(), 2, fill(RECORD * MAX_MAPPED - 1));
     check(answered(10, 0), "an area one byte too short for 60,000 records");
+    do_map(made(), 2, fill(10 * MAX_MAPPED));
+    check(answered(10, 0), "an area of ten bytes for each of 60,000 records");
     do_map(made(), 2, fill(0));
     check(answered(10, 0), "an empty area for 60,000 records");
     add_input();
-    do_map(made(), 2, fill(600010));
+    do_map(made(), 2, fill(RECORD * (MAX_MAPPED + 1)));
     check(answered(9, 0), "60,001 records");
     do_map(made(), 2, fill(0));
     check(answered(9, 0), "9 comes before 10");
@@ -1890,7 +2099,7 @@ static void test_map_sizes(void)
     add_input();
     add_and(2, 0, 0);
     add_and(3, 2, 1);
-    do_map(made(), 2, fill(100));
+    do_map(made(), 2, fill(RECORD * 10));
     check(answered(0, 0) && answer[2] == 7 && answer[3] == 3 && answer[4] == 0 && answer[5] == 18
           && answer[6] == 33, "without outputs D is 0");
     two_records(AND, 0, 1, 0, 0, UNUSED);
@@ -2070,49 +2279,53 @@ static void test_mapped_length(void)
     size_t len;
     begin("refusal 11");
     start_from_worked();
-    for (len = 0; len <= 80; len++)
-        if (len % RECORD != 0 || len < 50) {
+    for (len = 0; len <= worked_out.len; len++)
+        if (len % RECORD != 0 || len < worked.len) {
             netlist_len = len;
-            refused_now(11, 0, "no multiple of 10, or fewer records than the source");
+            refused_now(11, 0, "no multiple of 14, or fewer records than the source");
         }
     while (netlist_len < RECORD * (size_t)(MAX_MAPPED + 1))
         add_one(BUFFER, 2, 7);
     mapped_refused(worked, 2, made(), 11, 0, "60,001 records");
+    for (len = 1; len < RECORD; len++)
+        mapped_refused(worked, 2, part(netlist, netlist_len - len), 11, 0,
+                       "60,000 records and up to 13 bytes");
     netlist_len -= RECORD;
     mapped_refused(worked, 2, made(), 17, 7, "60,000 records pass 11");
+    mapped_refused(worked, 2, part(netlist, 600000), 11, 0, "600,000 bytes are no whole records");
+    mapped_refused(worked, 2, part(netlist, 600010), 11, 0, "600,010 bytes are no whole records");
+    mapped_refused(worked, 2, part(netlist, 600012), 17, 7, "600,012 bytes, 42,858 records");
     end();
+}
+
+/* Byte `at` of record k of the netlist made. */
+static uint8_t *byte_of(size_t k, size_t at)
+{
+    return netlist + RECORD * k + at;
 }
 
 static void test_mapped_records(void)
 {
     unsigned bit;
+    size_t k, at;
     begin("refusals 12 to 15");
     start_from_worked();
     for (bit = 0; bit < 8; bit++) {
-        netlist[20] ^= 1 << bit;
-        refused_now(12, 2, "another kind");
-        netlist[21] ^= 1 << bit;
-        refused_now(12, 2, "another inversion");
-        netlist[22] ^= 1 << bit;
-        refused_now(12, 2, "another level");
-        netlist[23] ^= 1 << bit;
-        refused_now(12, 2, "another level");
-        netlist[28] ^= 1 << bit;
-        refused_now(12, 2, "an unused slot of AND");
-        netlist[39] ^= 1 << bit;
-        refused_now(12, 3, "an unused slot of an output");
-        netlist[4] ^= 1 << bit;
-        refused_now(12, 0, "an unused slot of an input");
-        netlist[51] ^= 1 << bit;
+        for (at = 0; at < FIRST_SLOT; at++) {
+            *byte_of(2, at) ^= 1 << bit;
+            refused_now(12, 2, "another kind, inversion or level");
+        }
+        for (k = 0; k < 8; k++)
+            for (at = FIRST_SLOT + 2 * used_slots(*byte_of(k, 0)); at < RECORD; at++) {
+                *byte_of(k, at) ^= 1 << bit;
+                refused_now(k < 5 ? 12 : 13, (uint32_t)k, "an unused slot");
+            }
+        *byte_of(5, INVERSION) ^= 1 << bit;
         refused_now(13, 5, "a buffer that inverts");
-        netlist[56] ^= 1 << bit;
-        refused_now(13, 5, "slot 1 of a buffer");
-        netlist[59] ^= 1 << bit;
-        refused_now(13, 5, "slot 2 of a buffer");
-        netlist[70] = bit == OUTPUT || bit == BUFFER ? 255 : bit;
+        *byte_of(7, 0) = bit == OUTPUT || bit == BUFFER ? 255 : bit;
         refused_now(13, 7, "a kind that is no buffer");
     }
-    netlist[70] = OUTPUT;
+    *byte_of(7, 0) = OUTPUT;
     refused_now(14, 2, "14 of an earlier record reads the kind of a later one");
     change_buffer(7, 4096, 1);
     refused_now(15, 2, "15 of an earlier record reads the level of a later one");
@@ -2163,6 +2376,23 @@ static void test_mapped_records(void)
     end();
 }
 
+/* Gates of a kind and buffers that all stand on one buffer, which feeds so many slots. */
+static void hold_one_buffer(unsigned kind, unsigned slots)
+{
+    size_t k;
+    make_most(kind, 2);
+    memcpy(filler, netlist, netlist_len);
+    for (k = 1; k < MAX_SOURCE; k++)
+        put_steps(netlist + RECORD * k, kind, 0, 2, MAX_SOURCE, 0);
+    add_one(BUFFER, 1, 0);
+    for (slots -= most_sinks(kind); slots > 0; slots--)
+        add_one(BUFFER, 2, MAX_SOURCE);
+    do_verify(fill(RECORD * MAX_SOURCE), 4, made());
+    check(answered(17, MAX_SOURCE), "a buffer that feeds 65,537 slots");
+    for (k = 2; k <= 4; k++)
+        hold_no_source(made(), (uint32_t)k, "a buffer that feeds 65,537 slots");
+}
+
 static void test_mapped_nets(void)
 {
     size_t k;
@@ -2187,21 +2417,9 @@ static void test_mapped_nets(void)
     for (k = 0; k < 59000; k++)
         add_one(BUFFER, 2, 5);
     refused_now(17, 5, "a buffer that feeds 59,002 slots");
-    /* 12,285 slots of gates and 53,252 of buffers are 65,537, one more than two bytes count. */
-    clear();
-    add_input();
-    for (k = 1; k < MAX_SOURCE; k++)
-        add(MAJ, 0, 2, 0, 0, 0);
-    memcpy(filler, netlist, netlist_len);
-    for (k = 1; k < MAX_SOURCE; k++)
-        change(k, MAJ, 0, 2, 4096, 4096, 4096);
-    add_one(BUFFER, 1, 0);
-    for (k = 0; k < 53252; k++)
-        add_one(BUFFER, 2, 4096);
-    do_verify(fill(RECORD * MAX_SOURCE), 4, made());
-    check(answered(17, 4096), "a buffer that feeds 65,537 slots");
-    for (k = 2; k <= 4; k++)
-        hold_no_source(made(), (uint32_t)k, "a buffer that feeds 65,537 slots");
+    /* Slots of gates, 12,285 or 20,475, and of buffers: 65,537, one more than two bytes count. */
+    for (k = 0; k < 2; k++)
+        hold_one_buffer(k == 0 ? MAJ : MAJ5, 65537);
     end();
 }
 
@@ -2255,7 +2473,7 @@ static void test_mapped_accepted(void)
     start_from_worked();
     for (k = 8; k < MAX_MAPPED; k++) {
         unsigned on = k == 8 ? 7 : (k - 9) / 2 + 8;
-        add_one(BUFFER, field(netlist + RECORD * on + 2) + 1, on);
+        add_one(BUFFER, level_of(netlist + RECORD * on) + 1, on);
     }
     do_verify(worked, 2, made());
     check(accepted(MAX_MAPPED - 5), "60,000 records");
@@ -2325,6 +2543,16 @@ static void test_rows(void)
 
 static uint8_t source_bytes[RECORD * MAX_SOURCE], mapped_bytes[RECORD * MAX_MAPPED];
 
+/* A record of any kind, with a small level and small indices; most often its used slots are those
+ * that are not 65,535, and its inversion is allowed. */
+static void random_record(uint8_t *to)
+{
+    unsigned kind = below(KINDS), slots[SLOTS], j;
+    for (j = 0; j < SLOTS; j++)
+        slots[j] = (j < used_slots(kind)) != (below(16) == 0) ? below(4) : UNUSED;
+    put_slots(to, kind, below(8) ? below(inversions(kind)) : below(64), below(5), slots);
+}
+
 /* Any bytes at all, some of them made to look like records. */
 static struct bytes random_bytes(uint8_t *to, size_t most)
 {
@@ -2334,8 +2562,7 @@ static struct bytes random_bytes(uint8_t *to, size_t most)
     for (k = 0; k < len; k++)
         to[k] = (uint8_t)below(256);
     for (k = 0; k + RECORD <= len && below(3) > 0; k += RECORD)
-        put_record(to + k, below(6), below(4), below(5), below(4), below(3) ? UNUSED : below(4),
-                   below(3) ? UNUSED : below(4));
+        random_record(to + k);
     return part(to, len);
 }
 
@@ -2389,11 +2616,11 @@ static void test_random_bytes(void)
     for (k = 0; k < 45000; k++) {
         if (k >= 40000)
             input_capacity = below(20) ? random_input_capacity() : bad_input_capacity();
-        struct bytes source = random_bytes(source_bytes, 60);
-        struct bytes mapped = random_bytes(mapped_bytes, 90);
+        struct bytes source = random_bytes(source_bytes, RECORD * 6);
+        struct bytes mapped = random_bytes(mapped_bytes, RECORD * 9);
         uint32_t capacity = below(20) ? 2 + below(3) : below(7);
         size_t rows = below(4), state = below(2) ? 2 * (mapped.len / RECORD) : below(20);
-        do_map(source, capacity, fill(below(200)));
+        do_map(source, capacity, fill(below(RECORD * 20)));
         check(by_capacities(capacity, within(0, 10)), "aqfp_map gives 0 to 10 or 26");
         do_count(source, capacity, below(8));
         check(by_capacities(capacity, within(0, 7) || within(20, 20)),
@@ -2414,9 +2641,9 @@ static void test_random_bytes(void)
         do_step(source, capacity, mapped, fill(rows), fill(state));
         check(by_capacities(capacity, within(0, 7) || within(11, 19)),
               "aqfp_step gives 0 to 7, 11 to 19 or 26");
-        hold_levels(source, capacity, below(4) ? source.len : below(70));
+        hold_levels(source, capacity, below(4) ? source.len : below(RECORD * 7));
         check(within(0, 6) || within(23, 23), "aqfp_levels gives 0 to 6 or 23");
-        hold_strip(mapped, capacity, below(100));
+        hold_strip(mapped, capacity, below(RECORD * 10));
         check(by_capacities(capacity, within(0, 1) || within(24, 25)),
               "aqfp_strip gives 0, 1 or 24 to 26");
         refused += answer[0] == 26;
@@ -2428,11 +2655,13 @@ static void test_random_bytes(void)
 /* A sound source of up to 24 records: a record's level leaves room above its fanins. */
 static struct bytes random_source(void)
 {
+    static const unsigned kinds[] = { AND, OR, MAJ, OUTPUT, MAJ5 };
     size_t n = 1 + below(24), k, j, inputs = 1 + below(4);
     unsigned depth = 0, room = 1 + below(5);
     for (k = 0; k < n; k++) {
         uint8_t *record = source_bytes + RECORD * k;
-        unsigned kind = k < inputs ? INPUT : 1 + below(4), level = 0, least, slots[SLOTS];
+        unsigned kind = k < inputs ? INPUT : kinds[below(sizeof kinds / sizeof kinds[0])];
+        unsigned level = 0, least, slots[SLOTS];
         for (j = 0; j < SLOTS; j++) {
             slots[j] = UNUSED;
             if (j >= used_slots(kind))
@@ -2440,28 +2669,27 @@ static struct bytes random_source(void)
             do
                 slots[j] = below((uint32_t)k);
             while (source_bytes[RECORD * slots[j]] == OUTPUT);
-            least = field(source_bytes + RECORD * slots[j] + 2) + 1 + below(room);
+            least = level_of(source_bytes + RECORD * slots[j]) + 1 + below(room);
             level = least > level ? least : level;
         }
         if (kind == OUTPUT && level > depth)
             depth = level;
-        put_record(record, kind, kind == INPUT || kind == OUTPUT ? 0 : below(1u << used_slots(kind)),
-                   level, slots[0], slots[1], slots[2]);
+        put_slots(record, kind, below(inversions(kind)), level, slots);
     }
     for (k = 0; k < n; k++)
         if (source_bytes[RECORD * k] == OUTPUT)
-            put_record(source_bytes + RECORD * k, OUTPUT, 0, depth + room - 1,
-                       field(source_bytes + RECORD * k + 4), UNUSED, UNUSED);
+            set_field(source_bytes + RECORD * k + LEVEL, depth + room - 1);
     return part(source_bytes, RECORD * n);
 }
 
 /* The value of record k by plain logic, worked out from its fanins' values. */
 static uint8_t plain(const uint8_t *record, const uint8_t *values)
 {
+    static const unsigned needed[KINDS] = { 0, 2, 1, 2, 1, 1, 3 };
     unsigned j, ones = 0, used = used_slots(record[0]);
     for (j = 0; j < used; j++)
-        ones += values[field(record + 4 + 2 * j)] ^ (record[1] >> j & 1);
-    return record[0] == AND || record[0] == MAJ ? ones >= 2 : ones >= 1;
+        ones += values[slot_of(record, j)] ^ (record[INVERSION] >> j & 1);
+    return ones >= needed[record[0]];
 }
 
 /* One accepted call of a list, with refused ones before it: every byte that it leaves. */
@@ -2493,7 +2721,7 @@ static void hold_waves(struct bytes source, uint32_t capacity, struct bytes mapp
     size_t depth = 0;
     for (k = 0; k < n; k++)
         if (source.at[RECORD * k] == OUTPUT)
-            depth = field(source.at + RECORD * k + 2);
+            depth = level_of(source.at + RECORD * k);
     for (k = 0; k < R * inputs; k++)
         rows[k] = (uint8_t)below(2);
     do_run(source, capacity, mapped, R, part(rows, R * inputs), fill(2 * m), fill(R * outs));
@@ -2542,7 +2770,7 @@ static void move_records(uint8_t *records, size_t m)
         uint8_t *to = records + RECORD * places[k];
         memcpy(to, old + RECORD * k, RECORD);
         for (j = 0; j < used_slots(to[0]); j++)
-            set_field(to + 4 + 2 * j, places[field(to + 4 + 2 * j)]);
+            set_field(slot_at(to, j), places[slot_of(to, j)]);
     }
 }
 
@@ -2582,7 +2810,7 @@ static void list_some_drivers(struct bytes source)
 
 static void test_random_sources(void)
 {
-    unsigned long k, mapped_count = 0;
+    unsigned long k, mapped_count = 0, fives = 0;
     begin("random sound netlists through all calls");
     for (k = 0; k < 7000; k++) {
         struct bytes source = random_source(), mapped;
@@ -2600,6 +2828,7 @@ static void test_random_sources(void)
             continue;
         }
         mapped_count++;
+        fives += number_of(MAJ5, source) > 0;
         buffers = answer[3];
         mapped = part(mapped_bytes, RECORD * answer[2]);
         memcpy(mapped_bytes, mapped_area.at, mapped.len);
@@ -2631,6 +2860,7 @@ static void test_random_sources(void)
         hold_strip(mapped, capacity, source.len);
     }
     check(mapped_count > 500, "enough netlists were accepted");
+    check(fives > 250, "enough of them have a MAJ5");
     end();
 }
 
@@ -2649,7 +2879,7 @@ static size_t add_spare(size_t m, uint32_t s, uint32_t tries)
         const uint8_t *record = mapped_bytes + RECORD * on;
         if (record[0] == OUTPUT || feeds[on] >= capacity_of(record[0], s))
             continue;
-        put_record(mapped_bytes + RECORD * m, BUFFER, 0, field(record + 2) + 1, on, UNUSED, UNUSED);
+        put_steps(mapped_bytes + RECORD * m, BUFFER, 0, level_of(record) + 1, on, 0);
         feeds[on]++;
         feeds[m++] = 0;
     }
@@ -2665,8 +2895,8 @@ static void move_slots(size_t m, uint32_t s, uint32_t tries)
         uint32_t to = below((uint32_t)m), used = used_slots(record[0]);
         if (used == 0 || mapped_bytes[RECORD * to] != BUFFER || feeds[to] >= s)
             continue;
-        slot = record + 4 + 2 * below(used);
-        if (field(mapped_bytes + RECORD * to + 2) + 1 != field(record + 2)
+        slot = slot_at(record, below(used));
+        if (level_of(mapped_bytes + RECORD * to) + 1 != level_of(record)
             || traced(mapped, to) != traced(mapped, field(slot)))
             continue;
         feeds[field(slot)]--;
@@ -2697,16 +2927,16 @@ static void damage(size_t m)
         record[below(RECORD)] ^= (uint8_t)(1 << below(8));
         break;
     case 1:
-        set_field(record + 4 + 2 * below(SLOTS), below((uint32_t)m + 1));
+        set_field(slot_at(record, below(SLOTS)), below((uint32_t)m + 1));
         break;
     case 2:
-        memmove(record + 4, other + 4, 2);
+        memmove(record + FIRST_SLOT, other + FIRST_SLOT, 2);
         break;
     case 3:
-        set_field(record + 2, field(record + 2) + 1 - 2 * below(2));
+        set_field(record + LEVEL, level_of(record) + 1 - 2 * below(2));
         break;
     case 4:
-        record[0] = (uint8_t)below(7);
+        record[0] = (uint8_t)below(KINDS + 1);
         break;
     default:
         memmove(record, other, RECORD);
@@ -2781,41 +3011,66 @@ static void test_random_levels(void)
 /* ---- regular netlists, of any size ---- */
 
 /* A source of n records that capacity s maps to m: up to two inputs without sinks; blocks of an
- * input, a majority at level 3 that names it in all slots and an output of the majority; at the end
- * an input and such a majority at a level of its own. */
+ * input, a gate at a level that names it in all slots and an output of the gate; at the end an
+ * input and such a gate at a level of its own. The gates are MAJ or MAJ5. */
 struct blocks {
+    unsigned kind;
     uint32_t n, m, s;
     uint32_t count; /* of blocks */
-    uint32_t ends;  /* buffers on which a majority's three slots hang: ceil(3 / s) */
-    uint32_t line;  /* buffers between a block's majority and its output */
+    uint32_t rows;  /* distances from the gate down to the first at which there is one buffer */
+    uint32_t few;   /* buffers at these distances */
+    uint32_t tree;  /* buffers of a block's input */
+    uint32_t line;  /* buffers between a block's gate and its output */
     uint32_t last;  /* buffers of the last input */
 };
 
-/* Three sinks at distance d hang on `ends` buffers at distance d - 1, and these on one buffer at
- * each of the d - 2 nearer distances. What the blocks leave of the buffers is the last input's. */
-static struct blocks blocks_of(uint32_t n, uint32_t m, uint32_t s)
+/* The level of a block's gate, at which its input has a tree with each s. */
+static unsigned block_level(struct blocks b)
 {
-    struct blocks b = { n, m, s, 0, 0, 0, 0 };
-    uint32_t tree;
+    return b.kind == MAJ ? 3 : 4;
+}
+
+/* The buffers at the distance `row` below a gate that names one driver in all slots. */
+static uint32_t row_size(struct blocks b, uint32_t row)
+{
+    uint32_t nodes = used_slots(b.kind);
+    for (; row > 0; row--)
+        nodes = (nodes + b.s - 1) / b.s;
+    return nodes;
+}
+
+/* What the blocks leave of the buffers is the last input's. */
+static struct blocks blocks_of(unsigned kind, uint32_t n, uint32_t m, uint32_t s)
+{
+    struct blocks b = { kind, n, m, s, 0, 0, 0, 0, 0, 0 };
     b.count = (n - 2) / 3;
-    b.ends = (3 + s - 1) / s;
-    tree = b.ends + 1;
-    b.line = (m - n - tree) / b.count - tree;
-    b.last = m - n - b.count * (tree + b.line);
+    do {
+        b.rows++;
+        b.few += row_size(b, b.rows);
+    } while (row_size(b, b.rows) > 1);
+    b.tree = b.few + block_level(b) - 1 - b.rows;
+    b.line = (m - n - b.tree) / b.count - b.tree;
+    b.last = m - n - b.count * (b.tree + b.line);
     return b;
 }
 
-/* Where block k starts; after the blocks stand the last input and its majority. */
+/* Where block k starts; after the blocks stand the last input and its gate. */
 static uint32_t block_at(struct blocks b, uint32_t k)
 {
     return (b.n - 2) % 3 + 3 * k;
 }
 
-static void add_majority(unsigned inversion, unsigned level)
+/* The level of the last gate: one buffer at each distance nearer than its rows. */
+static unsigned last_level(struct blocks b)
 {
-    unsigned input = (unsigned)(netlist_len / RECORD);
+    return b.last - b.few + b.rows + 1;
+}
+
+/* An input, and a gate that names it in all slots. */
+static void add_block_gate(struct blocks b, unsigned inversion, unsigned level)
+{
     add_input();
-    add(MAJ, inversion, level, input, input, input);
+    add_same(b.kind, inversion % inversions(b.kind), level, next_record() - 1);
 }
 
 /* The source, in source_bytes. */
@@ -2826,10 +3081,10 @@ static struct bytes block_source(struct blocks b)
     while (netlist_len < RECORD * block_at(b, 0))
         add_input();
     for (k = 0; k < b.count; k++) {
-        add_majority(k % 8, 3);
-        add_one(OUTPUT, 4 + b.line, block_at(b, k) + 1);
+        add_block_gate(b, k, block_level(b));
+        add_one(OUTPUT, block_level(b) + 1 + b.line, block_at(b, k) + 1);
     }
-    add_majority(5, b.last - b.ends + 2);
+    add_block_gate(b, 5, last_level(b));
     memcpy(source_bytes, netlist, netlist_len);
     return part(source_bytes, netlist_len);
 }
@@ -2839,21 +3094,25 @@ static unsigned add_line(uint32_t count, unsigned level, unsigned fanin)
 {
     for (; count > 0; count--) {
         add_one(BUFFER, level++, fanin);
-        fanin = (unsigned)(netlist_len / RECORD - 1);
+        fanin = next_record() - 1;
     }
     return fanin;
 }
 
-/* The buffers of an input, and the slots of the majority after it. */
+/* The buffers of an input, and the slots of the gate after it. */
 static void add_tree(struct blocks b, uint32_t input)
 {
-    unsigned level = field(netlist + RECORD * (input + 1) + 2);
-    unsigned nearer = add_line(level - 2, 1, input), end = (unsigned)(netlist_len / RECORD);
-    uint32_t k;
-    for (k = 0; k < b.ends; k++)
-        add_one(BUFFER, level - 1, nearer);
-    change(input + 1, MAJ, netlist[RECORD * (input + 1) + 1], level, end, end + 1 / b.s,
-           end + 2 / b.s);
+    uint8_t *gate = netlist + RECORD * (input + 1);
+    unsigned level = level_of(gate), fanins = add_line(level - 1 - b.rows, 1, input), first;
+    uint32_t row, k;
+    for (row = b.rows; row > 0; row--) {
+        first = next_record();
+        for (k = 0; k < row_size(b, row); k++)
+            add_one(BUFFER, level - row, fanins + k / b.s);
+        fanins = first;
+    }
+    for (k = 0; k < used_slots(b.kind); k++)
+        set_field(slot_at(gate, k), fanins + k / b.s);
 }
 
 /* What the mapper writes, from the source that stands in netlist. */
@@ -2863,7 +3122,8 @@ static struct bytes block_mapped(struct blocks b)
     for (k = 0; k < b.count; k++) {
         uint32_t input = block_at(b, k);
         add_tree(b, input);
-        change(input + 2, OUTPUT, 0, 4 + b.line, add_line(b.line, 4, input + 1), UNUSED, UNUSED);
+        set_field(slot_at(netlist + RECORD * (input + 2), 0),
+                  add_line(b.line, block_level(b) + 1, input + 1));
     }
     add_tree(b, b.n - 2);
     return made();
@@ -2881,11 +3141,11 @@ static uint32_t share_of(uint32_t buffers, uint32_t price)
 
 static void hold_block_map(struct blocks b, struct bytes source, struct bytes mapped)
 {
-    uint32_t buffers = b.m - b.n, price = 6 * (b.count + 1) + 2 * buffers;
+    uint32_t buffers = b.m - b.n, price = (b.kind == MAJ ? 6 : 10) * (b.count + 1) + 2 * buffers;
     uint32_t expected[7] = { 0, 0, 0, 0, 0, 0, 0 };
     expected[2] = b.m;
     expected[3] = buffers;
-    expected[4] = 4 + b.line;
+    expected[4] = block_level(b) + 1 + b.line;
     expected[5] = price;
     expected[6] = share_of(buffers, price);
     do_map(source, b.s, fill(mapped.len + 5));
@@ -2906,7 +3166,7 @@ static uint32_t block_count(struct blocks b, uint32_t k)
         return 0;
     if (k == b.n - 2)
         return b.last;
-    return (k - from) % 3 == 0 ? b.ends + 1 : b.line;
+    return (k - from) % 3 == 0 ? b.tree : b.line;
 }
 
 static void hold_block_counts(struct blocks b, struct bytes source)
@@ -2926,30 +3186,33 @@ static void hold_block_counts(struct blocks b, struct bytes source)
 /* Changes of netlist that show at the last source record and at the last buffer. */
 static void hold_block_refusals(struct blocks b, struct bytes source)
 {
-    unsigned last = b.n - 1, level = field(source.at + RECORD * last + 2);
+    uint8_t *last_buffer = netlist + RECORD * (b.m - 1);
+    unsigned last = b.n - 1, level = last_level(b), fanin = slot_of(last_buffer, 0);
     change_buffer(b.m - b.last, 1, block_at(b, 0));
     do_verify(source, b.s, made());
-    check(answered(16, last), "the last majority traced to another input");
-    hold_no_source(made(), b.s, "the last majority traced to an input that feeds two slots");
+    check(answered(16, last), "the last gate traced to another input");
+    hold_no_source(made(), b.s, "the last gate traced to an input that feeds two slots");
     change_buffer(b.m - b.last, 1, b.n - 2);
     change_buffer(b.m - 1, level - 2, b.m - 2);
     hold_no_source(made(), b.s, "the last buffer one level too low");
-    change_buffer(b.m - 1, level - 1, b.m - b.ends - 1);
-    change(last, MAJ, 5, level, b.m - 1, b.m - 1, b.m - 1);
+    change_buffer(b.m - 1, level - 1, fanin);
+    put_steps(netlist + RECORD * last, b.kind, 5, level, b.m - 1, 0);
     do_verify(source, b.s, made());
-    check(b.s == 2 ? answered(17, b.m - 1) : accepted(b.m - b.n), "three slots on the last buffer");
-    if (b.s == 2)
-        hold_no_source(made(), b.s, "three slots on the last buffer");
-    else
-        hold_foreign(source, b.s, made(), "three slots on the last buffer");
-    put_record(source_bytes + RECORD * last, MAJ, 5, 1, b.n - 2, b.n - 2, b.n - 2);
+    if (used_slots(b.kind) > b.s) {
+        check(answered(17, b.m - 1), "all slots of the last gate on the last buffer");
+        hold_no_source(made(), b.s, "all slots of the last gate on the last buffer");
+    } else {
+        check(accepted(b.m - b.n), "all slots of the last gate on the last buffer");
+        hold_foreign(source, b.s, made(), "all slots of the last gate on the last buffer");
+    }
+    put_steps(source_bytes + RECORD * last, b.kind, 5, 1, b.n - 2, 0);
     do_map(source, b.s, fill(RECORD * b.m));
     check(answered(8, b.n - 2), "the last input's sinks at distance 1");
 }
 
-static void hold_blocks(uint32_t n, uint32_t m, uint32_t s)
+static void hold_blocks(unsigned kind, uint32_t n, uint32_t m, uint32_t s)
 {
-    struct blocks b = blocks_of(n, m, s);
+    struct blocks b = blocks_of(kind, n, m, s);
     struct bytes source = block_source(b), mapped = block_mapped(b);
     check(source.len == RECORD * n && mapped.len == RECORD * m, "the sizes of the test's netlists");
     hold_block_map(b, source, mapped);
@@ -2975,13 +3238,16 @@ static void test_array_sizes(void)
     uint32_t s, n, m;
     begin("on both sides of 1,024 source records, and of 2,048 and 16,384 mapped; the largest");
     for (s = 2; s <= 4; s++) {
-        for (m = 2048; m <= 2049; m++)
-            hold_blocks(500, m, s);
+        for (m = 2048; m <= 2049; m++) {
+            hold_blocks(MAJ, 500, m, s);
+            hold_blocks(MAJ5, 500, m, s);
+        }
         for (n = 1024; n <= 1025; n++)
             for (m = 16384; m <= 16385; m++)
-                hold_blocks(n, m, s);
+                hold_blocks((n + m + s) % 2 == 0 ? MAJ : MAJ5, n, m, s);
     }
-    hold_blocks(MAX_SOURCE, MAX_MAPPED, 2);
+    hold_blocks(MAJ, MAX_SOURCE, MAX_MAPPED, 2);
+    hold_blocks(MAJ5, MAX_SOURCE, MAX_MAPPED, 2);
     end();
 }
 
@@ -2996,7 +3262,7 @@ static struct bytes keep_source(void)
 
 static void set_slot(size_t record, size_t slot, size_t fanin)
 {
-    set_field(netlist + RECORD * record + 4 + 2 * slot, fanin);
+    set_field(slot_at(netlist + RECORD * record, slot), fanin);
 }
 
 /* The changed worked netlist has no source with capacity 2. */
@@ -3040,34 +3306,34 @@ static void test_strip_lengths(void)
     begin("refusal 24, lengths");
     start_from_worked();
     add_one(BUFFER, 2, 7);
-    for (len = 0; len <= 90; len++) {
+    for (len = 0; len <= 9 * RECORD; len++) {
         struct bytes mapped = part(netlist, len);
-        if (len == 0 || len == 10 || len == 20)
+        if (len == 0 || len == RECORD || len == 2 * RECORD)
             hold_foreign(mapped, 2, mapped, "inputs alone are their own source");
-        else if (len == 80 || len == 90)
+        else if (len == 8 * RECORD || len == 9 * RECORD)
             hold_foreign(worked, 2, mapped, "the worked case, and a buffer that feeds nothing");
         else
-            hold_no_source(mapped, 2, "no multiple of 10, or a slot that names no record");
+            hold_no_source(mapped, 2, "no multiple of 14, or a slot that names no record");
     }
     end();
 }
 
 static void test_strip_records(void)
 {
-    /* Bytes of unused slots: of an input, of AND, of an output and of a buffer. */
-    static const size_t unused[] = { 4, 5, 6, 7, 8, 9, 28, 29, 36, 37, 38, 39, 56, 57, 58, 59 };
-    size_t k;
+    /* An input, AND, an output and a buffer. */
+    static const size_t kept[] = { 0, 2, 3, 5 };
+    size_t k, at;
     unsigned bit, kind;
     begin("refusal 24, kinds, inversions, unused slots and levels");
     start_from_worked();
     for (bit = 0; bit < 8; bit++) {
-        netlist[1] ^= 1 << bit;
+        *byte_of(0, INVERSION) ^= 1 << bit;
         no_source_now("an input that inverts");
-        netlist[31] ^= 1 << bit;
+        *byte_of(3, INVERSION) ^= 1 << bit;
         no_source_now("an output that inverts");
-        netlist[51] ^= 1 << bit;
+        *byte_of(5, INVERSION) ^= 1 << bit;
         no_source_now("a buffer that inverts");
-        netlist[21] ^= 1 << bit;
+        *byte_of(2, INVERSION) ^= 1 << bit;
         if (bit < 2)
             other_source_now(2, AND, 1 << bit, 2, 0, 1, UNUSED, "another inversion");
         else
@@ -3082,20 +3348,20 @@ static void test_strip_records(void)
             other_source_now(2, MAJ, 1 << bit, 2, 0, 1, 1, "MAJ that inverts");
         else
             no_source_now("MAJ with another bit than 0 to 2");
-        for (k = 0; k < sizeof unused / sizeof unused[0]; k++) {
-            netlist[unused[k]] ^= 1 << bit;
-            no_source_now("an unused slot that is not 65,535");
-        }
-        for (k = 0; k < sizeof unused / sizeof unused[0]; k += 2) {
-            set_field(netlist + unused[k], bit);
-            no_source_now("an unused slot that names a record");
-        }
-        for (k = 0; k < 8; k++) {
-            netlist[RECORD * k + 2] ^= 1 << bit;
-            no_source_now("another level");
-            netlist[RECORD * k + 3] ^= 1 << bit;
-            no_source_now("another level");
-        }
+        for (k = 0; k < sizeof kept / sizeof kept[0]; k++)
+            for (at = FIRST_SLOT + 2 * used_slots(*byte_of(kept[k], 0)); at < RECORD; at++) {
+                *byte_of(kept[k], at) ^= 1 << bit;
+                no_source_now("an unused slot that is not 65,535");
+                if (at % 2 != 0)
+                    continue;
+                set_field(byte_of(kept[k], at), bit);
+                no_source_now("an unused slot that names a record");
+            }
+        for (k = 0; k < 8; k++)
+            for (at = LEVEL; at < FIRST_SLOT; at++) {
+                *byte_of(k, at) ^= 1 << bit;
+                no_source_now("another level");
+            }
     }
     for (k = 0; k < 9; k++)
         for (kind = 0; kind < 256; kind++) {
@@ -3107,7 +3373,8 @@ static void test_strip_records(void)
             if (k == 2 && kind == OR)
                 other_source_now(2, OR, 0, 2, 0, 1, UNUSED, "OR instead of AND");
             else if (k == 4 && kind == BUFFER)
-                hold_foreign(part(worked_source, 40), 2, made(), "a buffer instead of an output");
+                hold_foreign(part(worked_source, 4 * RECORD), 2, made(),
+                             "a buffer instead of an output");
             else
                 no_source_now("another kind");
         }
@@ -3128,7 +3395,7 @@ static void test_strip_slots(void)
             for (to = 0; to < 8; to++)
                 for (s = 2; s <= 4; s++) {
                     set_slot(k, j, to);
-                    hold_strip(made(), s, 50 - below(2));
+                    hold_strip(made(), s, worked.len - below(2));
                     start_from_worked();
                 }
             for (to = 0; to < sizeof absent / sizeof absent[0]; to++) {
@@ -3218,6 +3485,12 @@ static void test_strip_order(void)
         add(kind, 0, 3, 8, 8, kind == MAJ ? 6 : UNUSED);
         no_source_now("a gate behind the buffers");
     }
+    add_one(BUFFER, 2, 7);
+    add_one(BUFFER, 3, 8);
+    add_one(BUFFER, 3, 8);
+    add_one(BUFFER, 3, 6);
+    add_maj5(0, 4, 9, 9, 10, 10, 11);
+    no_source_now("a MAJ5 behind the buffers");
     two_records(OUTPUT, 0, 2, 0, UNUSED, UNUSED);
     source = keep_source();
     set_slot(1, 0, 2);
@@ -3408,7 +3681,7 @@ static void test_strip_sizes(void)
         add_one(BUFFER, MAX_MAPPED / MAX_SOURCE, MAX_MAPPED - MAX_SOURCE);
         hold_no_source(made(), s, "60,001 records");
         netlist_len--;
-        hold_no_source(made(), s, "60,000 records and 9 bytes");
+        hold_no_source(made(), s, "60,000 records and 13 bytes");
         make_lines(MAX_SOURCE + 1, MAX_MAPPED);
         hold_no_source(made(), s, "4,097 inputs in 60,000 records");
     }
@@ -3420,10 +3693,10 @@ static void test_strip_sizes(void)
     for (k = 0; k < 15; k++)
         add_one(OUTPUT, 3999, (unsigned)k);
     source = keep_source();
-    do_map(source, 2, fill(600000));
+    netlist_len = RECORD * MAX_MAPPED;
+    do_map(source, 2, fill(netlist_len));
     check(answered(0, 0) && answer[2] == MAX_MAPPED, "15 lines of 3,998 buffers");
-    memcpy(netlist, mapped_area.at, 600000);
-    netlist_len = 600000;
+    memcpy(netlist, mapped_area.at, netlist_len);
     hold_source(source, 2, made(), "15 lines of 3,998 buffers");
     reverse_buffers(netlist, source.len / RECORD, MAX_MAPPED);
     hold_source(source, 2, made(), "15 lines of 3,998 buffers in falling order");
@@ -3456,7 +3729,7 @@ static void test_strip_small(void)
                 memcpy(netlist + RECORD, choices[a], RECORD);
                 memcpy(netlist + 2 * RECORD, choices[b], RECORD);
                 memcpy(netlist + 3 * RECORD, choices[c], RECORD);
-                hold_strip(made(), 2, 40 - 10 * (a % 2));
+                hold_strip(made(), 2, RECORD * (4 - a % 2));
                 kept += answer[0] == 0;
             }
     check(kept > 0, "some have a source");
@@ -3530,8 +3803,8 @@ static void test_input_capacities(void)
             for (j = 0; j < LATER; j++)
                 capacities_refused(source[j], s, 26);
         for (j = 0; j < 30; j++)
-            capacities_refused(random_bytes(mapped_bytes, 60), 2 + below(3), 26);
-        hold_copy(worked, 2, 80, 26);
+            capacities_refused(random_bytes(mapped_bytes, RECORD * 6), 2 + below(3), 26);
+        hold_copy(worked, 2, worked_out.len, 26);
     }
     end();
 }
@@ -3560,16 +3833,16 @@ static void test_worked_any(void)
 /* Accepted: the seven numbers of the mapped netlist, its bytes, and those behind it as before. */
 static int is_written(struct bytes mapped)
 {
-    uint32_t expected[7] = { 0, 0, 0, 0, 0, 0, 0 }, gates = 0;
+    uint32_t expected[7] = { 0, 0, 0, 0, 0, 0, 0 };
     size_t k;
-    for (k = AND; k <= MAJ; k++)
-        gates += (uint32_t)number_of((unsigned)k, mapped);
     expected[2] = (uint32_t)(mapped.len / RECORD);
     expected[3] = (uint32_t)number_of(BUFFER, mapped);
     for (k = 0; k < mapped.len; k += RECORD)
         if (mapped.at[k] == OUTPUT)
-            expected[4] = field(mapped.at + k + 2);
-    expected[5] = 6 * gates + 2 * expected[3];
+            expected[4] = level_of(mapped.at + k);
+    expected[5] = 2 * expected[3];
+    for (k = 0; k < mapped.len; k += RECORD)
+        expected[5] += mapped.at[k] == MAJ5 ? 10 : is_gate(mapped.at[k]) ? 6 : 0;
     expected[6] = share_of(expected[3], expected[5]);
     return memcmp(answer, expected, sizeof expected) == 0 && mapped_area.len >= mapped.len
            && memcmp(mapped_area.at, mapped.at, mapped.len) == 0
@@ -3582,14 +3855,14 @@ static int is_written(struct bytes mapped)
 static uint32_t fewest(struct bytes source, size_t driver, uint32_t s)
 {
     static uint32_t sinks[MAX_LEVEL + 1];
-    unsigned level = field(source.at + RECORD * driver + 2);
+    unsigned level = level_of(source.at + RECORD * driver);
     uint32_t buffers = 0, total = 0;
     size_t k, j, distance, farthest = 1;
     memset(sinks, 0, sizeof sinks);
     for (k = 0; k < source.len / RECORD; k++)
         for (j = 0; j < used_slots(source.at[RECORD * k]); j++)
-            if (field(source.at + RECORD * k + 4 + 2 * j) == driver) {
-                distance = field(source.at + RECORD * k + 2) - level;
+            if (slot_of(source.at + RECORD * k, j) == driver) {
+                distance = level_of(source.at + RECORD * k) - level;
                 sinks[distance]++;
                 farthest = distance > farthest ? distance : farthest;
             }
@@ -3673,7 +3946,7 @@ static void test_branches_written(void)
         add_one(BUFFER, 2, 2);
         hold_written(source, s, 3, 1, "sinks at distances 1, 1 and 3");
         input_capacity = 3;
-        do_map(source, s, fill(80));
+        do_map(source, s, fill(netlist_len));
         check(memcmp(answer, numbers, sizeof numbers) == 0, "sinks at distances 1, 1 and 3");
         /* At distances 1, 2, 2, 2, 2 and 2: two or three buffers on the input. */
         clear();
@@ -3703,7 +3976,7 @@ static void test_branches_written(void)
         add_one(OUTPUT, 2, 1);
         add_one(OUTPUT, 2, 1);
         for (input_capacity = 2; input_capacity <= MAX_INPUT_CAPACITY; input_capacity *= 3) {
-            do_map(made(), s, fill(80));
+            do_map(made(), s, fill(RECORD * 8));
             check(answered(8, 1), "two outputs on a gate");
         }
     }
@@ -3733,7 +4006,7 @@ static void test_branches_written(void)
 }
 
 /* A record with so many slots on it: an input, a gate, or a buffer on an input. The slots belong to
- * outputs, to majorities (what is left of three: outputs) or to buffers. */
+ * outputs, to gates that use three or five (what is left: outputs) or to buffers. */
 static struct bytes make_star(unsigned on, unsigned kind, unsigned slots, uint32_t *place)
 {
     unsigned level = on == INPUT ? 1 : 2, driver = on == AND ? 2 : 1;
@@ -3744,8 +4017,8 @@ static struct bytes make_star(unsigned on, unsigned kind, unsigned slots, uint32
     add_input();
     if (on == AND)
         add_and(1, 0, 1);
-    for (; kind == MAJ && slots >= 3; slots -= 3)
-        add(MAJ, slots % 8, level, driver, driver, driver);
+    for (; is_gate(kind) && slots >= used_slots(kind); slots -= used_slots(kind))
+        add_same(kind, slots % inversions(kind), level, driver);
     for (; kind != BUFFER && slots > 0; slots--)
         add_one(OUTPUT, level, driver);
     source = keep_source();
@@ -3779,7 +4052,7 @@ static void hold_star(unsigned on, unsigned kind, unsigned slots, uint32_t s)
 
 static void test_branches_fed(void)
 {
-    static const unsigned kinds[] = { OUTPUT, MAJ, BUFFER };
+    static const unsigned kinds[] = { OUTPUT, MAJ, BUFFER, MAJ5 };
     static const uint32_t bounds[] = { 1, 2, 3, 4, 255, 256, 257, 300, 4094, 4095 };
     size_t k, j;
     unsigned slots;
@@ -3792,7 +4065,7 @@ static void test_branches_fed(void)
             for (slots = bounds[j]; slots <= bounds[j] + 1; slots++)
                 if (kinds[k] != OUTPUT || slots + 2 <= MAX_SOURCE)
                     hold_star(INPUT, kinds[k], slots, s);
-            for (slots = 1; slots <= 5; slots++)
+            for (slots = 1; slots <= 6; slots++)
                 for (s = 2; s <= 4; s++) {
                     hold_star(INPUT, kinds[k], slots, s);
                     hold_star(AND, kinds[k], slots, s);
@@ -3806,25 +4079,25 @@ static void test_branches_fed(void)
 }
 
 /* An input and a net of so many sinks on it, all at one distance. */
-static void make_sinks_at(unsigned sinks, unsigned distance)
+static void make_sinks_at(unsigned sinks, unsigned kind, unsigned distance)
 {
-    make_sinks(sinks, 0);
+    make_sinks(sinks, kind);
     set_levels(netlist + RECORD, netlist_len - RECORD, 0, distance);
 }
 
-/* The most slots that an input can feed in any netlist: those of 12,285 sinks and of 55,904
- * buffers. Counted in two bytes they are 2,653. */
+/* The most slots that an input can feed in any netlist are those of 20,475 sinks and of 55,904
+ * buffers, 76,379. Counted in two bytes, 65,537 are 1, 68,189 are 2,653 and 69,631 are 4,095. */
 static void test_branches_most(void)
 {
-    static const size_t fed[] = { 65535, 65536, 65537, 68189 };
+    static const size_t fed[] = { 65535, 65536, 65537, 68189, 69630, 69631, 69632, 76379 };
     static const uint32_t input_capacities[] = { 1, 2, 2652, 2653, 2654, 4094, 4095 };
     struct bytes source;
     size_t k, j;
     begin("refusal 17, the most slots");
     for (k = 0; k < sizeof fed / sizeof fed[0]; k++) {
-        make_sinks_at(12285, 1);
+        make_sinks_at(MAX_SINKS, MAJ5, 1);
         source = keep_source();
-        while (netlist_len < RECORD * (fed[k] - 12285 + MAX_SOURCE))
+        while (netlist_len < RECORD * (fed[k] - MAX_SINKS + MAX_SOURCE))
             add_one(BUFFER, 1, 0);
         for (j = 0; j < sizeof input_capacities / sizeof input_capacities[0]; j++) {
             input_capacity = input_capacities[j];
@@ -3839,16 +4112,16 @@ static void test_branches_most(void)
     end();
 }
 
-/* An input and majorities at level 2, and what the mapper writes if the input may feed as many
- * slots as there are buffers. */
-static void hold_wide(uint32_t n, uint32_t s)
+/* An input and gates of a kind at level 2, n records, and what the mapper writes if the input may
+ * feed as many slots as there are buffers. */
+static void hold_wide(unsigned kind, uint32_t n, uint32_t s)
 {
-    uint32_t sinks = 3 * (n - 1), buffers = (sinks + s - 1) / s, k;
+    uint32_t used = used_slots(kind), sinks = used * (n - 1), buffers = (sinks + s - 1) / s, k;
     struct bytes source;
-    make_sinks_at(sinks, 2);
+    make_sinks_at(sinks, kind, 2);
     source = keep_source();
     for (k = 0; k < sinks; k++)
-        set_slot(1 + k / 3, k % 3, n + k / s);
+        set_slot(1 + k / used, k % used, n + k / s);
     for (k = 0; k < buffers; k++)
         add_one(BUFFER, 1, 0);
     if (buffers <= MAX_INPUT_CAPACITY) {
@@ -3863,25 +4136,25 @@ static void hold_wide(uint32_t n, uint32_t s)
     mapped_refused(source, s, made(), 17, 0, "more buffers at distance 1 than 4,095");
 }
 
-/* 12,285 sinks at this distance, s = 2: b nodes at distance 1, and this many buffers. */
-static void hold_widest(unsigned distance, uint32_t b, uint32_t buffers)
+/* The most sinks of a kind at this distance, s = 2: b nodes at distance 1, and so many buffers. */
+static void hold_widest(unsigned kind, unsigned distance, uint32_t b, uint32_t buffers)
 {
-    make_sinks_at(12285, distance);
+    make_sinks_at(most_sinks(kind), kind, distance);
     input_capacity = b;
     do_count(made(), 2, 0);
-    check(accepted(buffers), "12,285 sinks");
-    do_map(made(), 2, fill(600000));
-    check(answered(0, 0) && answer[3] == buffers, "12,285 sinks");
+    check(accepted(buffers), "the most sinks");
+    do_map(made(), 2, fill(RECORD * MAX_MAPPED));
+    check(answered(0, 0) && answer[3] == buffers, "the most sinks");
     input_capacity = MAX_INPUT_CAPACITY;
     do_count(made(), 2, 0);
-    check(accepted(buffers), "12,285 sinks, as many buffers with the largest b");
+    check(accepted(buffers), "the most sinks, as many buffers with the largest b");
     if (b == 1)
         return;
     input_capacity = b - 1;
     do_count(made(), 2, 0);
-    check(accepted(NO_TREE), "12,285 sinks, one slot less");
-    do_map(made(), 2, fill(600000));
-    check(answered(8, 0), "12,285 sinks, one slot less");
+    check(accepted(NO_TREE), "the most sinks, one slot less");
+    do_map(made(), 2, fill(RECORD * MAX_MAPPED));
+    check(answered(8, 0), "the most sinks, one slot less");
 }
 
 static void test_branches_wide(void)
@@ -3891,24 +4164,35 @@ static void test_branches_wide(void)
     uint32_t s;
     begin("aqfp_map, inputs with many sinks");
     for (k = 0; k < sizeof sizes / sizeof sizes[0]; k++)
-        for (s = 2; s <= 4; s++)
-            hold_wide(sizes[k], s);
-    hold_wide(MAX_SOURCE, 2); /* 6,143 buffers */
-    hold_wide(MAX_SOURCE, 3); /* 4,095 buffers */
-    hold_widest(3, 3072, 9215);
-    hold_widest(14, 2, 12286);
-    hold_widest(15, 1, 12287);
-    make_sinks_at(12285, 1);
+        for (s = 2; s <= 4; s++) {
+            hold_wide(MAJ, sizes[k], s);
+            hold_wide(MAJ5, sizes[k], s);
+        }
+    hold_wide(MAJ, MAX_SOURCE, 2);  /* 6,143 buffers */
+    hold_wide(MAJ, MAX_SOURCE, 3);  /* 4,095 buffers */
+    hold_wide(MAJ5, MAX_SOURCE, 4); /* 5,119 buffers */
+    hold_wide(MAJ5, 3277, 4);       /* 4,095 buffers */
+    hold_wide(MAJ5, 3278, 4);       /* 4,097 buffers */
+    hold_widest(MAJ, 3, 3072, 9215);
+    hold_widest(MAJ, 14, 2, 12286);
+    hold_widest(MAJ, 15, 1, 12287);
+    hold_widest(MAJ5, 4, 2560, 17917);
+    hold_widest(MAJ5, 15, 2, 20477);
+    hold_widest(MAJ5, 16, 1, 20478);
+    for (k = 0; k < 2; k++) {
+        unsigned kind = k == 0 ? MAJ : MAJ5;
+        make_sinks_at(most_sinks(kind), kind, 1);
+        input_capacity = MAX_INPUT_CAPACITY;
+        do_map(made(), 4, fill(RECORD * MAX_MAPPED));
+        check(answered(8, 0), "the most sinks at distance 1");
+        do_verify(made(), 4, made());
+        check(answered(17, 0), "the most sinks at distance 1");
+        make_sinks_at(4095, kind, 1);
+        hold_written(keep_source(), 2, 4095, 0, "4,095 sinks at distance 1");
+    }
+    make_sinks_at(4096, MAJ5, 1);
     input_capacity = MAX_INPUT_CAPACITY;
-    do_map(made(), 4, fill(600000));
-    check(answered(8, 0), "12,285 sinks at distance 1");
-    do_verify(made(), 4, made());
-    check(answered(17, 0), "12,285 sinks at distance 1");
-    make_sinks_at(4095, 1);
-    hold_written(keep_source(), 2, 4095, 0, "4,095 sinks at distance 1");
-    make_sinks_at(4096, 1);
-    input_capacity = MAX_INPUT_CAPACITY;
-    do_map(made(), 2, fill(600000));
+    do_map(made(), 2, fill(RECORD * MAX_MAPPED));
     check(answered(8, 0), "4,096 sinks at distance 1");
     do_count(made(), 2, 0);
     check(accepted(NO_TREE), "4,096 sinks at distance 1");
@@ -4063,8 +4347,8 @@ static void test_branches_levels(void)
         input_capacity = input_capacities[j];
         for (k = 0; k < 200; k++)
             hold_copy(random_source(), 2 + below(3), RECORD * 4000, 0);
-        make_sinks(12285, 0);
-        hold_copy(made(), 2 + (uint32_t)j, 600000, 0);
+        make_sinks(MAX_SINKS, MAJ5);
+        hold_copy(made(), 2 + (uint32_t)j, RECORD * MAX_MAPPED, 0);
     }
     for (k = 0; k < 100; k++) {
         struct bytes source = random_source();
@@ -4093,7 +4377,7 @@ static int is_answer(uint32_t m, uint32_t buffers, uint32_t depth, uint32_t junc
            && answer[5] == junctions && answer[6] == share;
 }
 
-/* The netlist in `netlist` is what the mapper writes for a source with the list 1, 2, 3, .., 11,
+/* The netlist in `netlist` is what the mapper writes for a source with the list 1, 2, 3, .., 13,
  * with this depth, these JJs and this share. */
 static void hold_rising(struct bytes source, uint32_t s, uint32_t depth, uint32_t junctions,
                         uint32_t share, const char *what)
@@ -4111,6 +4395,7 @@ static void hold_rising(struct bytes source, uint32_t s, uint32_t depth, uint32_
 static void test_prices_worked(void)
 {
     static const uint32_t input_capacities[] = { 1, 2, 255, 4095 };
+    static const uint8_t longer[] = { 1, 2, 3, 4, 5, 6, 7, 8, 9, 10, 11, 12, 13, 14 };
     uint8_t prices[PRICES];
     size_t len, k;
     uint32_t s;
@@ -4124,39 +4409,47 @@ static void test_prices_worked(void)
         }
     }
     input_capacity = 1;
-    for (len = 0; len <= 100; len++) {
+    for (len = 0; len <= 2 * worked_out.len; len++) {
         do_map_priced(worked, 2, rising_prices(), fill(len));
-        if (len < 80) {
-            check(answered(10, 0), "an area below 80 bytes gives 10");
+        if (len < worked_out.len) {
+            check(answered(10, 0), "an area below 112 bytes gives 10");
             continue;
         }
-        check(is_answer(8, 3, 3, 27, 93), "an area of 80 bytes or more");
-        check(memcmp(mapped_area.at, worked_mapped, 80) == 0, "the mapped netlist");
-        check(memcmp(mapped_area.at + 80, filler + 80, len - 80) == 0, "bytes after it stay");
+        check(is_answer(8, 3, 3, 27, 93), "an area of 112 bytes or more");
+        check(memcmp(mapped_area.at, worked_out.at, worked_out.len) == 0, "the mapped netlist");
+        check(memcmp(mapped_area.at + worked_out.len, filler + worked_out.len,
+                     len - worked_out.len) == 0, "bytes after it stay");
     }
-    do_map_priced(worked, 2, part(rising_bytes, 10), fill(80));
-    check(answered(27, 0), "a list of 10 bytes");
+    for (len = 10; len <= 14; len++) {
+        do_map_priced(worked, 2, part(longer, len), worked_area());
+        check(len == PRICES ? is_answer(8, 3, 3, 27, 93) : answered(27, 0),
+              "lists of 10, 11, 12 and 14 bytes give 27");
+    }
     memcpy(prices, rising_bytes, PRICES);
     prices[8] = 0;
-    do_map_priced(worked, 2, part(prices, PRICES), fill(80));
+    do_map_priced(worked, 2, part(prices, PRICES), worked_area());
     check(answered(28, 8), "a first 0 at position 8");
     /* No gate and no buffer, and nothing at all. */
     two_records(OUTPUT, 0, 1, 0, UNUSED, UNUSED);
-    do_map_priced(made(), 2, rising_prices(), fill(20));
+    do_map_priced(made(), 2, rising_prices(), fill(netlist_len));
     check(is_answer(2, 0, 1, 0, 0), "an input and its output cost nothing");
     do_map_priced(fill(0), 2, rising_prices(), fill(0));
     check(is_answer(0, 0, 0, 0, 0), "an empty source costs nothing");
     end();
 }
 
-/* Netlists written out by hand. The numbers in brackets are JJs with the list 1, 2, 3, .., 11. */
+/* Netlists written out by hand. The numbers in brackets are JJs with the list 1, 2, 3, .., 13. */
 static void test_prices_written(void)
 {
+    /* Of each kind of gate: its JJs if it feeds no slot and one; the share of 26 JJs beside it. */
+    static const struct {
+        uint32_t none, one, share;
+    } gates[GATES] = { { 1, 2, 93 }, { 3, 4, 87 }, { 5, 6, 81 }, { 12, 13, 67 } };
     static const struct {
         uint32_t s, junctions, share;
-    } fed[] = { { 2, 73, 71 }, { 3, 66, 68 }, { 4, 59, 64 } };
+    } fed[] = { { 2, 98, 53 }, { 3, 91, 49 }, { 4, 84, 45 } };
     struct bytes source;
-    unsigned kind, j, n, gate;
+    unsigned j, n, gate;
     size_t k;
     begin("aqfp_map, prices of netlists written by hand");
     /* Net P7 of specification 8.1: three sinks at distance 3. Buffer 4 feeds buffers 5 and 6 (9),
@@ -4173,79 +4466,80 @@ static void test_prices_written(void)
     add_one(BUFFER, 2, 4);
     add_one(BUFFER, 2, 4);
     hold_rising(source, 2, 3, 26, 100, "P7 on an input");
-    /* The same on a gate of three inputs or two, which feeds one slot: AND (2), OR (4), MAJ (6).
-     * JJs are 28, 30 and 32, the buffers' part of them 92.9, 86.7 and 81.25 percent. */
-    for (kind = AND; kind <= MAJ; kind++) {
+    /* The same on a gate of as many inputs as it has slots, which feeds one slot: AND (2), OR (4),
+     * MAJ (6), MAJ5 (13). JJs are 28, 30, 32 and 39, the buffers' part of them 92.9, 86.7, 81.25
+     * and 66.7 percent. */
+    for (k = 0; k < GATES; k++) {
         clear();
-        for (j = 0; j < 3; j++)
+        for (gate = 0; gate < used_slots(gate_kinds[k]); gate++)
             add_input();
-        add(kind, 0, 1, 0, 1, kind == MAJ ? 2 : UNUSED);
+        add_rising(gate_kinds[k], 0, 1, 0);
         for (j = 0; j < 3; j++)
-            add_one(OUTPUT, 4, 3);
+            add_one(OUTPUT, 4, gate);
         source = keep_source();
-        set_slot(4, 0, 8);
-        set_slot(5, 0, 8);
-        set_slot(6, 0, 9);
-        add_one(BUFFER, 2, 3);
-        add_one(BUFFER, 3, 7);
-        add_one(BUFFER, 3, 7);
-        hold_rising(source, 2, 4, 26 + 2 * kind, kind == AND ? 93 : kind == OR ? 87 : 81,
-                    "P7 on a gate");
-        /* Without the outputs the gate feeds no slot: AND (1), OR (3), MAJ (5). */
-        netlist_len = 4 * RECORD;
-        hold_rising(keep_source(), 2, 0, 2 * kind - 1, 0, "a gate that feeds no slot");
+        set_slot(gate + 1, 0, gate + 5);
+        set_slot(gate + 2, 0, gate + 5);
+        set_slot(gate + 3, 0, gate + 6);
+        add_one(BUFFER, 2, gate);
+        add_one(BUFFER, 3, gate + 4);
+        add_one(BUFFER, 3, gate + 4);
+        hold_rising(source, 2, 4, 26 + gates[k].one, gates[k].share, "P7 on a gate");
+        /* Without the outputs the gate feeds no slot: AND (1), OR (3), MAJ (5), MAJ5 (12). */
+        netlist_len = RECORD * (gate + 1);
+        hold_rising(keep_source(), 2, 0, gates[k].none, 0, "a gate that feeds no slot");
     }
-    /* Two gates of each kind on input 0, which feeds 14 slots (0); the first of them feeds an
-     * output, the second nothing: 1 + 2 + .. + 6 = 21. Input n, from 1 to 4, has n outputs at
-     * distance 2. With s = 4 a buffer feeds 1 (8), 2 (9), 3 (10) and 4 (11): 38 of 59, 64.4
-     * percent. With s = 3 the four hang on buffers that feed 3 and 1: 45 of 66, 68.2 percent. With
-     * s = 2 the three hang on 2 and 1, the four on 2 and 2: 52 of 73, 71.2 percent. */
+    /* Two gates of each kind on input 0, which feeds 24 slots (0); the first of them feeds an
+     * output, the second nothing: 1 + 2 + .. + 6 + 12 + 13 = 46. Input n, from 1 to 4, has n
+     * outputs at distance 2. With s = 4 a buffer feeds 1 (8), 2 (9), 3 (10) and 4 (11): 38 of 84,
+     * 45.2 percent. With s = 3 the four hang on buffers that feed 3 and 1: 45 of 91, 49.45 percent.
+     * With s = 2 the three hang on 2 and 1, the four on 2 and 2: 52 of 98, 53.1 percent. */
     for (k = 0; k < sizeof fed / sizeof fed[0]; k++) {
         clear();
         for (j = 0; j < 5; j++)
             add_input();
-        for (kind = AND; kind <= MAJ; kind++)
+        for (n = 0; n < GATES; n++)
             for (j = 0; j < 2; j++)
-                add(kind, 0, 1, 0, 0, kind == MAJ ? 0 : UNUSED);
-        for (gate = 5; gate <= 9; gate += 2)
+                add_same(gate_kinds[n], 0, 1, 0);
+        for (gate = 5; gate <= 11; gate += 2)
             add_one(OUTPUT, 2, gate);
         for (n = 1; n <= 4; n++)
             for (j = 0; j < n; j++)
                 add_one(OUTPUT, 2, n);
         source = keep_source();
-        for (n = 1, gate = 14; n <= 4; gate += n++)
+        for (n = 1, gate = 17; n <= 4; gate += n++)
             for (j = 0; j < n; j++) {
                 if (j % fed[k].s == 0)
                     add_one(BUFFER, 1, n);
-                set_slot(gate + j, 0, netlist_len / RECORD - 1);
+                set_slot(gate + j, 0, next_record() - 1);
             }
-        for (input_capacity = 14; input_capacity <= MAX_INPUT_CAPACITY; input_capacity += 4081)
+        for (input_capacity = 24; input_capacity <= MAX_INPUT_CAPACITY; input_capacity += 4071)
             hold_rising(source, fed[k].s, 2, fed[k].junctions, fed[k].share,
                         "gates and buffers that feed each number of slots");
-        input_capacity = 13;
+        input_capacity = 23;
         do_map_priced(source, fed[k].s, rising_prices(), fill(netlist_len));
-        check(answered(8, 0), "input 0 may feed 13 slots");
+        check(answered(8, 0), "input 0 may feed 23 slots");
         input_capacity = 1;
     }
-    /* An input that feeds 4,095 slots: 1,365 majorities that feed nothing (5). */
-    clear();
-    add_input();
-    for (j = 0; j < 1365; j++)
-        add(MAJ, 0, 1, 0, 0, 0);
+    /* An input that feeds 4,095 slots: 1,365 MAJ that feed nothing (5), 819 MAJ5 (12). */
     input_capacity = MAX_INPUT_CAPACITY;
+    make_sinks_at(MAX_INPUT_CAPACITY, MAJ, 1);
     hold_rising(keep_source(), 2, 0, 6825, 0, "an input that feeds 4,095 slots costs nothing");
+    make_sinks_at(MAX_INPUT_CAPACITY, MAJ5, 1);
+    hold_rising(keep_source(), 2, 0, 9828, 0, "an input that feeds 4,095 slots costs nothing");
     end();
 }
 
-/* A gate that feeds no slot, at position 0, and a buffer that feeds one, at position 7. */
-static void hold_share(unsigned gate, unsigned buffer)
+/* A gate that feeds no slot, an AND at position 0 or a MAJ5 at position 11, and a buffer that feeds
+ * one, at position 7. M, of the mapped netlist. */
+static uint32_t hold_share(unsigned kind, unsigned gate, unsigned buffer)
 {
     uint8_t prices[PRICES];
     memset(prices, 200, PRICES);
-    prices[0] = (uint8_t)gate;
+    prices[kind == AND ? 0 : 11] = (uint8_t)gate;
     prices[7] = (uint8_t)buffer;
-    make_priced(1, 1);
+    make_priced(kind == AND, kind == MAJ5, 1);
     do_map_priced(made(), 2, part(prices, PRICES), fill(netlist_len + RECORD));
+    return next_record() + 1;
 }
 
 /* Shares that are exact halves, and those next to them. */
@@ -4274,19 +4568,24 @@ static void test_prices_shares(void)
         { 1, 2, 67, "66.7 is rounded up" },
         { 255, 255, 50, "50 stays" }
     };
+    static const unsigned kinds[] = { AND, MAJ5 };
     unsigned whole, buffer;
-    size_t k;
+    uint32_t m;
+    size_t k, j;
     begin("aqfp_map, shares with prices");
-    for (k = 0; k < sizeof rows / sizeof rows[0]; k++) {
-        hold_share(rows[k].gate, rows[k].buffer);
-        check(is_answer(6, 1, 2, rows[k].gate + rows[k].buffer, rows[k].share), rows[k].what);
-    }
-    /* Of 200 JJs each is half a percent. */
-    for (whole = 198; whole <= 202; whole++)
-        for (buffer = 1; buffer < whole; buffer++) {
-            hold_share(whole - buffer, buffer);
-            check(is_answer(6, 1, 2, whole, percent(buffer, whole)), "every share of about 200");
+    for (j = 0; j < 2; j++) {
+        for (k = 0; k < sizeof rows / sizeof rows[0]; k++) {
+            m = hold_share(kinds[j], rows[k].gate, rows[k].buffer);
+            check(is_answer(m, 1, 2, rows[k].gate + rows[k].buffer, rows[k].share), rows[k].what);
         }
+        /* Of 200 JJs each is half a percent. */
+        for (whole = 198; whole <= 202; whole++)
+            for (buffer = 1; buffer < whole; buffer++) {
+                m = hold_share(kinds[j], whole - buffer, buffer);
+                check(is_answer(m, 1, 2, whole, percent(buffer, whole)),
+                      "every share of about 200");
+            }
+    }
     end();
 }
 
@@ -4330,20 +4629,20 @@ static void test_prices_shapes(void)
         for (j = 0; j < sizeof input_capacities / sizeof input_capacities[0]; j++) {
             input_capacity = input_capacities[j];
             make_net(nets[k].distances, nets[k].count);
-            hold_prices(made(), nets[k].s, 2000);
-            make_gate_net(nets[k].distances, nets[k].count);
-            hold_prices(made(), nets[k].s, 2000);
+            hold_prices(made(), nets[k].s, RECORD * 200);
+            make_gate_net(gate_kinds[(k + j) % GATES], nets[k].distances, nets[k].count);
+            hold_prices(made(), nets[k].s, RECORD * 200);
         }
     for (s = 2; s <= 4; s++)
         for (sinks = 0; sinks <= 70; sinks++)
             for (distance = 1 + height(sinks, s); distance <= 2 + height(sinks, s); distance++) {
                 input_capacity = sinks % 3 == 0 ? 1 : sinks;
-                make_sinks_at(sinks, distance);
-                hold_prices(made(), s, 5000);
+                make_sinks_at(sinks, MAJ5, distance);
+                hold_prices(made(), s, RECORD * 500);
                 check(answered(0, 0), "a net of so many sinks");
                 input_capacity = MAX_INPUT_CAPACITY;
-                make_sinks_at(sinks, 1 + distance / 2);
-                hold_prices(made(), s, 5000);
+                make_sinks_at(sinks, MAJ, 1 + distance / 2);
+                hold_prices(made(), s, RECORD * 500);
                 check(answered(0, 0), "a net of so many sinks on an input that branches");
             }
     for (k = 0; k < 300; k++) {
@@ -4360,8 +4659,10 @@ static void test_prices_shapes(void)
     check(priced > 150, "enough sources were accepted");
     for (s = 2; s <= 4; s++) {
         input_capacity = 1;
-        hold_prices(block_source(blocks_of(500, 2048, s)), s, RECORD * 2048);
-        check(answered(0, 0), "blocks");
+        hold_prices(block_source(blocks_of(MAJ, 500, 2048, s)), s, RECORD * 2048);
+        check(answered(0, 0), "blocks of MAJ");
+        hold_prices(block_source(blocks_of(MAJ5, 500, 2048, s)), s, RECORD * 2048);
+        check(answered(0, 0), "blocks of MAJ5");
     }
     end();
 }
@@ -4375,22 +4676,22 @@ static void two_prices(uint8_t *prices, unsigned set, uint8_t in, uint8_t out)
         prices[k] = set >> k & 1 ? in : out;
 }
 
-/* A source in which every price but that of position 6 decides: `copies` times an AND, an OR and a
- * MAJ that feed one slot, the same that feed none, and an input for each number of sinks from 1 to
- * 8, all at distance 3. */
+/* A source in which every price but that of position 6 decides: `copies` times two gates of each
+ * kind, of which one feeds one slot and the other none, and an input for each number of sinks from
+ * 1 to 8, all at distance 3. */
 static struct bytes make_all_positions(unsigned copies)
 {
-    unsigned c, n, j, kind, first;
+    unsigned c, n, j, first;
     clear();
     for (c = 0; c < copies; c++) {
-        first = (unsigned)(netlist_len / RECORD);
+        first = next_record();
         for (n = 0; n <= 8; n++)
             add_input();
-        for (kind = AND; kind <= MAJ; kind++)
+        for (n = 0; n < GATES; n++)
             for (j = 0; j < 2; j++)
-                add(kind, 0, 1, first, first, kind == MAJ ? first : UNUSED);
-        for (kind = 0; kind < 3; kind++)
-            add_one(OUTPUT, 3, first + 9 + 2 * kind);
+                add_same(gate_kinds[n], 0, 1, first);
+        for (n = 0; n < GATES; n++)
+            add_one(OUTPUT, 3, first + 9 + 2 * n);
         for (n = 1; n <= 8; n++)
             for (j = 0; j < n; j++)
                 add_one(OUTPUT, 3, first + n);
@@ -4398,17 +4699,17 @@ static struct bytes make_all_positions(unsigned copies)
     return keep_source();
 }
 
-/* Each way to part the 11 prices into two; on longer sources each single position. */
+/* Each way to part the 13 prices into two; on longer sources each single position. */
 static void test_prices_parted(void)
 {
-    static const unsigned copies[] = { 1, 18, 19, 70 }; /* 54, 972, 1,026 and 3,780 records */
+    static const unsigned copies[] = { 1, 17, 18, 71 }; /* 57, 969, 1,026 and 4,047 records */
     uint8_t prices[PRICES];
     struct bytes source;
     unsigned set;
     size_t k;
     uint32_t s;
     begin("aqfp_map, price lists of two prices");
-    input_capacity = 14;
+    input_capacity = 24;
     for (k = 0; k < sizeof copies / sizeof copies[0]; k++) {
         source = make_all_positions(copies[k]);
         for (s = 2; s <= 4; s++) {
@@ -4430,27 +4731,30 @@ static void test_prices_parted(void)
  * ORs, whose other slot is on an input of its own. */
 static void test_prices_lines(void)
 {
-    static const uint8_t prices[PRICES] = { 3, 5, 7, 11, 13, 17, 199, 19, 101, 211, 223 };
+    static const uint8_t prices[PRICES] = { 3, 5, 7, 11, 13, 17, 199, 19, 101, 211, 223, 23, 29 };
+    static const unsigned kinds[] = { INPUT, AND, OR, MAJ, MAJ5 };
+    static const unsigned positions[] = { 0, 1, 3, 5, 12 }; /* of a gate that feeds one slot */
     unsigned kind, one, two, most, n, pairs, level, driver;
     uint32_t s, part_of, whole;
+    size_t k;
     begin("aqfp_map, prices of one and two sinks");
-    for (kind = INPUT; kind <= MAJ; kind++)
+    for (k = 0; k < sizeof kinds / sizeof kinds[0]; k++)
         for (one = 1; one <= 6; one++)
             for (two = 0; two <= 6; two++)
                 for (s = 2; s <= 4; s++)
                     for (input_capacity = 1; input_capacity <= 3; input_capacity++) {
+                        kind = kinds[k];
                         level = kind == INPUT ? 0 : 1;
-                        driver = kind == INPUT ? 0 : 3;
+                        driver = kind == INPUT ? 0 : SLOTS;
                         clear();
-                        add_input();
-                        add_input();
-                        add_input();
+                        while (next_record() < SLOTS)
+                            add_input();
                         if (kind != INPUT)
-                            add(kind, 0, 1, 0, 1, kind == MAJ ? 2 : UNUSED);
+                            add_rising(kind, 0, 1, 0);
                         for (n = 0; n < (two > 0 ? 2u : 1u); n++) {
                             add_input();
-                            add(OR, 0, level + (n == 0 ? one : two), driver,
-                                (unsigned)(netlist_len / RECORD) - 1, UNUSED);
+                            add(OR, 0, level + (n == 0 ? one : two), driver, next_record() - 1,
+                                UNUSED);
                         }
                         most = one > two ? one : two;
                         pairs = two > 0 && (one < two ? one : two) > 1;
@@ -4458,7 +4762,7 @@ static void test_prices_lines(void)
                                   + (level + one - 1) * prices[7]
                                   + (two > 0 ? level + two - 1 : 0) * prices[7];
                         whole = part_of + (two > 0 ? 2u : 1u) * prices[2]
-                                + (kind == INPUT ? 0 : prices[2 * (kind - 1) + 1]);
+                                + (kind == INPUT ? 0 : prices[positions[k]]);
                         do_map_priced(made(), s, part(prices, PRICES), fill(RECORD * 40));
                         if (two > 0 && (one == 1 || two == 1)
                             && (kind != INPUT || input_capacity == 1))
@@ -4471,12 +4775,47 @@ static void test_prices_lines(void)
     end();
 }
 
+/* Blocks of 60,000 records, s = 2. A block's gate feeds one slot, the last one none. Of the buffers
+ * of an input so many feed two others or two slots of the gate (9), all others feed one (8). */
+static void hold_block_prices(unsigned kind, uint32_t pairs)
+{
+    struct blocks b = blocks_of(kind, MAX_SOURCE, MAX_MAPPED, 2);
+    uint32_t buffers = MAX_MAPPED - MAX_SOURCE, gates = b.count + 1, cells = gates + buffers;
+    size_t none = kind == MAJ ? 4 : 11, k; /* the position of a gate that feeds no slot */
+    struct bytes source = block_source(b), area = fill(RECORD * MAX_MAPPED);
+    uint8_t prices[PRICES];
+    /* All prices alike, so that JJs are as many times the gates and buffers. */
+    for (k = 1; k <= 255; k += 127) {
+        memset(prices, (int)k, PRICES);
+        do_map_priced(source, 2, part(prices, PRICES), area);
+        check(is_answer(MAX_MAPPED, buffers, block_level(b) + 1 + b.line, (uint32_t)k * cells,
+                        percent(buffers, cells)), "gates and buffers at one price");
+        check(is_priced(answer, part(prices, PRICES)), "gates and buffers at one price");
+    }
+    do_map_priced(source, 2, rising_prices(), area);
+    check(answered(0, 0)
+          && answer[5] == rising_bytes[none + 1] * b.count + rising_bytes[none]
+                          + 9 * pairs * gates + 8 * (buffers - pairs * gates),
+          "gates, and buffers that feed one slot and two");
+    check(is_priced(answer, rising_prices()), "gates, and buffers that feed one slot and two");
+    /* The buffers' part is nearly all, or nearly nothing. */
+    memset(prices, 255, PRICES);
+    prices[none] = prices[none + 1] = 1;
+    do_map_priced(source, 2, part(prices, PRICES), area);
+    check(answered(0, 0) && answer[5] == gates + 255 * buffers
+          && answer[6] == percent(255 * (uint64_t)buffers, answer[5]),
+          "gates at 1, buffers at 255");
+    memset(prices, 1, PRICES);
+    prices[none] = prices[none + 1] = 255;
+    do_map_priced(source, 2, part(prices, PRICES), area);
+    check(answered(0, 0) && answer[5] == 255 * gates + buffers
+          && answer[6] == percent(buffers, answer[5]), "gates at 255, buffers at 1");
+}
+
 /* 60,000 records. */
 static void test_prices_most(void)
 {
-    struct blocks b = blocks_of(MAX_SOURCE, MAX_MAPPED, 2);
-    uint32_t buffers = MAX_MAPPED - MAX_SOURCE, gates = b.count + 1, cells = gates + buffers;
-    struct bytes source;
+    struct bytes area = fill(RECORD * MAX_MAPPED);
     uint8_t prices[PRICES];
     size_t k;
     begin("aqfp_map, prices of 60,000 records");
@@ -4487,66 +4826,40 @@ static void test_prices_most(void)
     for (k = 0; k < 15; k++)
         add_one(OUTPUT, 3999, (unsigned)k);
     memset(prices, 255, PRICES);
-    do_map_priced(made(), 2, part(prices, PRICES), fill(600000));
+    do_map_priced(made(), 2, part(prices, PRICES), area);
     check(is_answer(MAX_MAPPED, 59970, 3999, 15292350, 100), "59,970 buffers at 255");
-    do_map_priced(made(), 2, rising_prices(), fill(600000));
+    do_map_priced(made(), 2, rising_prices(), area);
     check(is_answer(MAX_MAPPED, 59970, 3999, 479760, 100), "59,970 buffers at 8");
     for (k = 0; k < PRICES; k++) {
         one_price(prices, k, 255);
-        do_map_priced(made(), 2, part(prices, PRICES), fill(600000));
+        do_map_priced(made(), 2, part(prices, PRICES), area);
         check(is_answer(MAX_MAPPED, 59970, 3999, k == 7 ? 15292350 : 59970, 100),
               "59,970 buffers that feed one slot");
     }
-    do_map_priced(made(), 2, rising_prices(), fill(599999));
+    do_map_priced(made(), 2, rising_prices(), fill(RECORD * MAX_MAPPED - 1));
     check(answered(10, 0), "an area one byte too short for 60,000 records");
     add_input();
-    do_map_priced(made(), 2, rising_prices(), fill(600010));
+    do_map_priced(made(), 2, rising_prices(), fill(RECORD * (MAX_MAPPED + 1)));
     check(answered(9, 0), "60,001 records");
-    /* Blocks: all prices alike, so that JJs are as many times the gates and buffers. */
-    source = block_source(b);
-    for (k = 1; k <= 255; k += 127) {
-        memset(prices, (int)k, PRICES);
-        do_map_priced(source, 2, part(prices, PRICES), fill(600000));
-        check(is_answer(MAX_MAPPED, buffers, 4 + b.line, (uint32_t)k * cells,
-                        percent(buffers, cells)), "gates and buffers at one price");
-        check(is_priced(answer, part(prices, PRICES)), "gates and buffers at one price");
-    }
-    /* Each majority of a block feeds one slot (6), the last one none (5). With s = 2 an input has
-     * a buffer that feeds two others (9), of which one feeds two slots of the majority (9) and the
-     * other one slot (8). The buffers of all lines feed one slot (8). */
-    check(b.ends == 2, "two buffers hold a majority's slots");
-    do_map_priced(source, 2, rising_prices(), fill(600000));
-    check(answered(0, 0)
-          && answer[5] == 6 * b.count + 5 + 9 * 2 * gates + 8 * (buffers - 2 * gates),
-          "majorities, and buffers that feed one slot and two");
-    check(is_priced(answer, rising_prices()), "majorities, and buffers that feed one slot and two");
-    /* The buffers' part is nearly all, or nearly nothing. */
-    memset(prices, 255, PRICES);
-    prices[4] = prices[5] = 1;
-    do_map_priced(source, 2, part(prices, PRICES), fill(600000));
-    check(answered(0, 0) && answer[5] == gates + 255 * buffers
-          && answer[6] == percent(255 * (uint64_t)buffers, answer[5]),
-          "gates at 1, buffers at 255");
-    memset(prices, 1, PRICES);
-    prices[4] = prices[5] = 255;
-    do_map_priced(source, 2, part(prices, PRICES), fill(600000));
-    check(answered(0, 0) && answer[5] == 255 * gates + buffers
-          && answer[6] == percent(buffers, answer[5]), "gates at 255, buffers at 1");
+    /* A MAJ's slots hang on buffers that feed 2 and 1 of them, these on one that feeds both. A
+     * MAJ5's hang on 2, 2 and 1, these on 2 and 1, these on one that feeds both. */
+    hold_block_prices(MAJ, 2);
+    hold_block_prices(MAJ5, 4);
     end();
 }
 
 /* Lengths that are refused; of some the low byte, or the low two, would pass. */
 static const size_t bad_lengths[] = {
-    1, 2, 3, 4, 5, 6, 7, 8, 9, 10, 12, 13, 14, 15, 16, 17, 18, 19, 20, 21, 22, 23, 24, 25, 26, 27,
-    28, 29, 30, 31, 32, 33, 34, 35, 36, 37, 38, 39, 40, 110, 121, 255, 256, 257, 267, 512, 523,
-    4096, 65535, 65536, 65547
+    1, 2, 3, 4, 5, 6, 7, 8, 9, 10, 11, 12, 14, 15, 16, 17, 18, 19, 20, 21, 22, 23, 24, 25, 26, 27,
+    28, 29, 30, 31, 32, 33, 34, 35, 36, 37, 38, 39, 40, 130, 143, 169, 255, 256, 257, 267, 269, 512,
+    525, 4096, 65535, 65536, 65547, 65549
 };
 
 enum { BAD_LENGTHS = sizeof bad_lengths / sizeof bad_lengths[0] };
 
 static void test_prices_lengths(void)
 {
-    static uint8_t bytes[65547];
+    static uint8_t bytes[65549];
     struct bytes source[2], prices;
     size_t k, j, i;
     begin("refusal 27");
@@ -4562,35 +4875,35 @@ static void test_prices_lengths(void)
                     bytes[0] = 0;
                 if (i == 2)
                     bytes[bad_lengths[k] - 1] = 0;
-                do_map_priced(source[j], 2 + (uint32_t)k % 3, prices, fill(80));
-                check(answered(27, 0), "a list neither empty nor 11 bytes long");
+                do_map_priced(source[j], 2 + (uint32_t)k % 3, prices, worked_area());
+                check(answered(27, 0), "a list neither empty nor 13 bytes long");
                 do_map_priced(source[j], 2 + (uint32_t)k % 3, prices, fill(0));
                 check(answered(27, 0), "an empty area too");
             }
     }
     memset(bytes, 1, sizeof bytes);
     for (k = 1; k <= 4200; k++) {
-        do_map_priced(worked, 2, part(bytes, k), fill(80));
+        do_map_priced(worked, 2, part(bytes, k), worked_area());
         check(k == PRICES ? answered(0, 0) : answered(27, 0), "each length");
     }
-    do_map_priced(worked, 2, part(bytes, PRICES), fill(80));
-    check(is_answer(8, 3, 3, 4, 75), "a list of 11 bytes");
-    do_map_priced(worked, 2, part(bytes, 0), fill(80));
+    do_map_priced(worked, 2, part(bytes, PRICES), worked_area());
+    check(is_answer(8, 3, 3, 4, 75), "a list of 13 bytes");
+    do_map_priced(worked, 2, part(bytes, 0), worked_area());
     check(is_worked_answer(), "an empty list");
     /* What stands behind an empty list is not read. */
     for (k = 0; k < 2; k++) {
         memset(bytes, (int)k, PRICES);
-        do_map_part(worked, 2, part(bytes, PRICES), 0, 0, fill(80));
-        check(is_worked_answer(), "an empty list before eleven bytes");
-        do_map_part(worked, 2, part(bytes, PRICES), PRICES, 0, fill(80));
-        check(is_worked_answer(), "an empty list behind eleven bytes");
+        do_map_part(worked, 2, part(bytes, PRICES), 0, 0, worked_area());
+        check(is_worked_answer(), "an empty list before thirteen bytes");
+        do_map_part(worked, 2, part(bytes, PRICES), PRICES, 0, worked_area());
+        check(is_worked_answer(), "an empty list behind thirteen bytes");
     }
     end();
 }
 
 static void test_prices_zeros(void)
 {
-    static const size_t lengths[] = { 80, 79, 0 };
+    static const size_t lengths[] = { sizeof worked_mapped, sizeof worked_mapped - 1, 0 };
     uint8_t prices[PRICES];
     size_t k, j, i;
     unsigned set;
@@ -4613,14 +4926,14 @@ static void test_prices_zeros(void)
             prices[k] = set >> k & 1 ? 0 : 255;
             first = set >> k & 1 ? (uint32_t)k : first;
         }
-        do_map_priced(worked, 2 + set % 3, part(prices, PRICES), fill(80));
+        do_map_priced(worked, 2 + set % 3, part(prices, PRICES), worked_area());
         check(answered(28, first), "the first price of 0");
     }
     /* Prices that are not 0. */
     for (k = 0; k < PRICES; k++)
         for (j = 1; j < 256; j++) {
             one_price(prices, k, (uint8_t)j);
-            do_map_priced(worked, 2, part(prices, PRICES), fill(80));
+            do_map_priced(worked, 2, part(prices, PRICES), worked_area());
             check(answered(0, 0) && is_priced(answer, part(prices, PRICES)),
                   "each price from 1 to 255");
         }
@@ -4661,7 +4974,7 @@ static void hold_prices_first(struct bytes source, uint32_t s, struct bytes pric
     check(answer[0] != 0 || is_priced(answer, prices), "JJs and share with any list");
 }
 
-/* A list of up to 40 bytes, most often of 11, with a 0 or without. */
+/* A list of up to 40 bytes, most often of 13, with a 0 or without. */
 static struct bytes random_prices(void)
 {
     static uint8_t bytes[40];
@@ -4703,9 +5016,10 @@ static void test_prices_order(void)
                         check(answer[0] == (i < 3 ? 26 : 1), "1 and 26 before 27 and 28");
                 }
     for (k = 0; k < 5000; k++) {
-        struct bytes any = random_bytes(source_bytes, 60);
+        struct bytes any = random_bytes(source_bytes, RECORD * 6);
         input_capacity = below(8) ? random_input_capacity() : bad_input_capacity();
-        hold_prices_first(any, below(8) ? 2 + below(3) : below(7), random_prices(), below(200));
+        hold_prices_first(any, below(8) ? 2 + below(3) : below(7), random_prices(),
+                          below(RECORD * 20));
         refused[answer[0] <= 28 ? answer[0] : 0]++;
     }
     for (n = 26; n <= 28; n++)
@@ -4713,16 +5027,16 @@ static void test_prices_order(void)
     end();
 }
 
-/* A source in which 11 bytes one after the other are not 0, and what stands around them: a majority
- * of inputs 257 to 259 and an AND of 260 and 261, both at level 257. */
+/* A source in which 13 bytes one after the other are not 0, and what stands around them: a MAJ5 of
+ * inputs 257 to 261 and a MAJ of 262 to 264, both at level 257. */
 static struct bytes make_dense(void)
 {
     unsigned k;
     clear();
-    for (k = 0; k < 262; k++)
+    for (k = 0; k < 265; k++)
         add_input();
-    add(MAJ, 5, 257, 257, 258, 259);
-    add(AND, 3, 257, 260, 261, UNUSED);
+    add_rising(MAJ5, 21, 257, 257);
+    add_rising(MAJ, 5, 257, 262);
     return keep_source();
 }
 
@@ -4730,41 +5044,664 @@ static struct bytes make_dense(void)
 static void test_prices_areas(void)
 {
     static uint8_t around[64];
-    struct bytes dense, prices;
+    struct bytes dense, prices, area = fill(RECORD * 3000);
     size_t k, len;
     uint32_t place, number, of_buffers, junctions, accepted_lists = 0;
     begin("aqfp_map, where the price list stands");
     for (k = 0; k + PRICES <= sizeof around; k++) {
         memset(around, 0, sizeof around);
         memcpy(around + k, rising_bytes, PRICES);
-        do_map_part(worked, 2, part(around, sizeof around), k, PRICES, fill(80));
+        do_map_part(worked, 2, part(around, sizeof around), k, PRICES, worked_area());
         check(is_answer(8, 3, 3, 27, 93), "a list between bytes of 0");
         memset(around, 255, sizeof around);
         memcpy(around + k, rising_bytes, PRICES);
-        do_map_part(worked, 2, part(around, sizeof around), k, PRICES, fill(80));
+        do_map_part(worked, 2, part(around, sizeof around), k, PRICES, worked_area());
         check(is_answer(8, 3, 3, 27, 93), "a list between bytes of 255");
     }
     dense = make_dense();
-    for (len = 10; len <= 12; len++)
+    for (len = PRICES - 1; len <= PRICES + 1; len++)
         for (k = RECORD * 255; k + len <= dense.len; k++) {
             prices = part(dense.at + k, len);
             number = prices_number(2, prices, &place);
-            do_map_within(dense, 2, k, len, fill(20000));
+            do_map_within(dense, 2, k, len, area);
             check(answered(number, place), "a list within the source");
             if (number != 0)
                 continue;
             accepted_lists++;
-            /* 5 lines of 256 buffers, each of which feeds one slot; both gates feed none. */
-            of_buffers = 1280u * prices.at[7];
-            junctions = of_buffers + prices.at[0] + prices.at[4];
-            check(is_answer(264 + 1280, 1280, 0, junctions, percent(of_buffers, junctions)),
+            /* 8 lines of 256 buffers, each of which feeds one slot; both gates feed none. */
+            of_buffers = 2048u * prices.at[7];
+            junctions = of_buffers + prices.at[11] + prices.at[4];
+            check(is_answer(267 + 2048, 2048, 0, junctions, percent(of_buffers, junctions)),
                   "JJs and share of a list within the source");
         }
     check(accepted_lists > 0, "some lists within the source have no 0");
-    do_map_within(dense, 2, 0, dense.len, fill(20000));
+    do_map_within(dense, 2, 0, dense.len, area);
     check(answered(27, 0), "the whole source as the list");
-    do_map_within(dense, 2, 0, 0, fill(20000));
-    check(is_answer(264 + 1280, 1280, 0, 2572, 100), "an empty list within the source");
+    do_map_within(dense, 2, 0, 0, area);
+    check(is_answer(267 + 2048, 2048, 0, 4112, 100), "an empty list within the source");
+    end();
+}
+
+/* ---- majority of five ---- */
+
+/* The value of a gate of each kind as a bit for each number whose bit j is slot j's value, after
+ * inversion. */
+static const uint32_t gate_values[GATES] = { 0x8, 0xE, 0xE8, 0xFEE8E880 };
+
+/* Inputs, a gate of a kind on them and an output: its own mapped netlist. */
+static struct bytes make_gate(unsigned kind, unsigned inversion)
+{
+    clear();
+    while (next_record() < used_slots(kind))
+        add_input();
+    add_rising(kind, inversion, 1, 0);
+    add_one(OUTPUT, 2, used_slots(kind));
+    return made();
+}
+
+/* The gate with each row of inputs, by the evaluator, by a step and by a run. */
+static void hold_gate_values(unsigned kind, unsigned inversion, uint32_t values)
+{
+    uint8_t rows[SLOTS << SLOTS], state[2 * (SLOTS + 2)], value;
+    unsigned used = used_slots(kind), all = 1u << used, m = used + 2, number, j;
+    struct bytes source = make_gate(kind, inversion), row;
+    for (number = 0; number < all; number++)
+        for (j = 0; j < used; j++)
+            rows[used * number + j] = (uint8_t)(number >> j & 1);
+    do_run(source, 2, source, all, part(rows, used * all), fill(2 * m), fill(all));
+    check(answered(0, 0), "a run of all rows");
+    for (number = 0; number < all; number++)
+        check(outputs_area.at[number] == (values >> (number ^ inversion) & 1), "each row of a run");
+    for (number = 0; number < all; number++) {
+        row = part(rows + used * number, used);
+        value = (uint8_t)(values >> (number ^ inversion) & 1);
+        do_evaluate(source, row, fill(m));
+        check(answered(0, 0) && memcmp(state_area.at, row.at, used) == 0
+              && state_area.at[used] == value && state_area.at[used + 1] == value, "plain logic");
+        /* The gate takes what the inputs held before the step, the output what the gate held. */
+        for (j = 0; j < 2 * m; j++)
+            state[j] = (uint8_t)below(256);
+        for (j = 0; j < used; j++)
+            state[j] = (uint8_t)(row.at[j] ? 1 + below(255) : 0);
+        state[used] = !value;
+        row = part(rows + used * (all - 1 - number), used);
+        do_step(source, 2, source, row, part(state, 2 * m));
+        check(answered(0, 0) && state_area.at[used] == value && state_area.at[used + 1] == !value,
+              "a step");
+    }
+}
+
+static void test_gate_values(void)
+{
+    size_t k;
+    unsigned inversion;
+    begin("AND, OR, MAJ and MAJ5, all values and inversions");
+    for (k = 0; k < GATES; k++)
+        for (inversion = 0; inversion < inversions(gate_kinds[k]); inversion++)
+            hold_gate_values(gate_kinds[k], inversion, gate_values[k]);
+    end();
+}
+
+/* Every MAJ5 over three inputs. */
+static void test_maj5_fanins(void)
+{
+    uint8_t row[3], bits;
+    unsigned slots[SLOTS], code, rest, value, inversion, j;
+    begin("MAJ5 that names drivers again, all values");
+    for (code = 0; code < 3 * 3 * 3 * 3 * 3; code++) {
+        for (j = 0, rest = code; j < SLOTS; j++, rest /= 3)
+            slots[j] = rest % 3;
+        inversion = below(1 << SLOTS);
+        clear();
+        add_input();
+        add_input();
+        add_input();
+        add_maj5(inversion, 1, slots[0], slots[1], slots[2], slots[3], slots[4]);
+        for (value = 0; value < 8; value++) {
+            for (j = 0; j < 3; j++)
+                row[j] = (uint8_t)(value >> j & 1);
+            for (j = 0, bits = 0; j < SLOTS; j++)
+                bits |= (uint8_t)(row[slots[j]] << j);
+            do_evaluate(made(), part(row, 3), fill(4));
+            check(answered(0, 0)
+                  && state_area.at[3] == (gate_values[GATES - 1] >> (bits ^ inversion) & 1),
+                  "the value of a MAJ5");
+        }
+    }
+    end();
+}
+
+/* All calls accept a source whose record 0 is a driver. */
+static void accepted_everywhere(struct bytes source, const char *what)
+{
+    uint32_t s, buffers;
+    struct bytes mapped;
+    for (s = 2; s <= 4; s++) {
+        hold_levels(source, s, source.len);
+        check(answered(0, 0), what);
+        hold_driver(source, s, 0);
+        do_map(source, s, fill(RECORD * 100));
+        check(answered(0, 0), what);
+        if (answer[0] != 0)
+            return;
+        buffers = answer[3];
+        mapped = part(mapped_bytes, RECORD * answer[2]);
+        memcpy(mapped_bytes, mapped_area.at, mapped.len);
+        do_verify(source, s, mapped);
+        check(accepted(buffers), what);
+        hold_foreign(source, s, mapped, what);
+        hold_waves(source, s, mapped);
+    }
+}
+
+/* An input and one record: refused by this number, or accepted if it is 0. */
+static void hold_form(unsigned kind, unsigned inversion, const unsigned slots[SLOTS],
+                      uint32_t number, const char *what)
+{
+    struct bytes source;
+    clear();
+    add_input();
+    put_slots(netlist + netlist_len, kind, inversion, kind == INPUT ? 0 : 4, slots);
+    netlist_len += RECORD;
+    source = keep_source();
+    if (number == 0)
+        accepted_everywhere(source, what);
+    else
+        refused_everywhere(source, number, 1, what);
+}
+
+/* Whether a kind may stand in a source: 0 to 4, and 6. */
+static int is_source_kind(unsigned kind)
+{
+    return kind <= 4 || kind == 6;
+}
+
+/* The first slots, so many, on record 0, the others not used. */
+static void name_first(unsigned slots[SLOTS], unsigned count)
+{
+    unsigned j;
+    for (j = 0; j < SLOTS; j++)
+        slots[j] = j < count ? 0 : UNUSED;
+}
+
+static void test_source_forms(void)
+{
+    static const unsigned kinds[] = { 0, 1, 2, 3, 4, 5, 6, 7, 8, 255 };
+    static const unsigned held[] = { 0, 1, 2, 255, 256, 32767, 65279, 65280, 65534, 65535 };
+    unsigned slots[SLOTS], kind, count, inversion, j;
+    size_t k, i;
+    begin("refusals 4 to 6, kinds, inversions and slots");
+    for (kind = 0; kind < 256; kind++)
+        for (count = 0; count <= SLOTS; count++) {
+            name_first(slots, count);
+            hold_form(kind, 0, slots,
+                      !is_source_kind(kind) ? 4 : count != used_slots(kind) ? 6 : 0,
+                      "each kind with each number of slots");
+        }
+    for (k = 0; k < sizeof kinds / sizeof kinds[0]; k++)
+        for (inversion = 0; inversion < 256; inversion++) {
+            name_first(slots, used_slots(kinds[k]));
+            hold_form(kinds[k], inversion, slots,
+                      !is_source_kind(kinds[k]) ? 4 : inversion >= inversions(kinds[k]) ? 5 : 0,
+                      "each kind with each inversion");
+        }
+    for (kind = 0; kind < KINDS; kind++)
+        for (j = 0; is_source_kind(kind) && j < SLOTS; j++)
+            for (i = 0; i < sizeof held / sizeof held[0]; i++) {
+                name_first(slots, used_slots(kind));
+                slots[j] = held[i];
+                hold_form(kind, 0, slots, held[i] == (j < used_slots(kind) ? 0 : UNUSED) ? 0 : 6,
+                          "each slot of each kind");
+            }
+    end();
+}
+
+/* One slot of a gate on an output (6), and on a gate that stands as high or higher (7). */
+static void test_source_slots(void)
+{
+    size_t k;
+    unsigned j, level;
+    begin("refusals 6 and 7, each slot of each gate");
+    for (k = 0; k < GATES; k++)
+        for (j = 0; j < used_slots(gate_kinds[k]); j++) {
+            two_records(OUTPUT, 0, 9, 0, UNUSED, UNUSED);
+            add_same(gate_kinds[k], 0, 9, 0);
+            set_slot(2, j, 1);
+            refused_everywhere(made(), 6, 2, "a slot that names an output");
+            for (level = 7; level <= 9; level++) {
+                two_records(AND, 0, 7, 0, 0, UNUSED);
+                add_same(gate_kinds[k], 0, level, 0);
+                set_slot(2, j, 1);
+                if (level == 7)
+                    refused_everywhere(made(), 7, 2, "a fanin at the same level");
+                else
+                    accepted_everywhere(keep_source(), "a fanin at a lower level");
+            }
+            two_records(AND, 0, 7, 0, 0, UNUSED);
+            add_same(gate_kinds[k], 0, 6, 0);
+            set_slot(2, j, 1);
+            refused_everywhere(made(), 7, 2, "a fanin at a higher level");
+        }
+    end();
+}
+
+/* Lengths by records of 14 bytes, and by ten bytes a record: 2, 10, 11, 23 and 25. */
+static void test_widths(void)
+{
+    static const size_t counts[] = { 1, 2, 3, 5, 7, 10, 14, 70, 1024, 1025, 2926, 4095, 4096 };
+    static const size_t ragged[] = { 40960, 40970, 57340, 57343, 57345, 57350, 57357, 57359,
+                                     57360 };
+    size_t k, len, n;
+    begin("refusals 2, 10, 11, 23 and 25, lengths");
+    make_lines(MAX_SOURCE + 2, MAX_SOURCE + 2);
+    for (k = 0; k < sizeof counts / sizeof counts[0]; k++) {
+        struct bytes source = part(netlist, RECORD * counts[k]);
+        n = counts[k];
+        refused_everywhere(part(netlist, source.len - 1), 2, 0, "a source one byte shorter");
+        refused_everywhere(part(netlist, source.len + 1), 2, 0, "a source one byte longer");
+        for (len = 10 * n; len <= source.len + 1; len += len < source.len - 1 ? 4 * n - 1 : 1) {
+            do_map(source, 2, fill(len));
+            check(answer[0] == (len < source.len ? 10 : 0), "areas of the mapper");
+            do_verify(source, 3, part(netlist, len));
+            check(answer[0] == (len == source.len ? 0 : 11), "mapped netlists");
+            do_levels(source, 4, fill(len));
+            check(answer[0] == (len == source.len ? 0 : 23), "areas of least levels");
+            do_strip(2, source, fill(len));
+            check(answer[0] == (len < source.len ? 25 : 0), "areas of stripping");
+        }
+    }
+    for (len = 10; len <= 1400; len += 10) {
+        if (len % RECORD == 0)
+            continue;
+        refused_everywhere(part(netlist, len), 2, 0, "multiples of 10 that are none of 14");
+        mapped_refused(part(netlist, RECORD), 2, part(netlist, len), 11, 0,
+                       "multiples of 10 that are none of 14");
+        hold_no_source(part(netlist, len), 2, "multiples of 10 that are none of 14");
+    }
+    for (k = 0; k < sizeof ragged / sizeof ragged[0]; k++)
+        refused_everywhere(part(netlist, ragged[k]), 2, 0, "long sources, not of whole records");
+    refused_everywhere(part(netlist, 57358), 3, 0, "57,358 bytes, 4,097 records");
+    refused_everywhere(part(netlist, 57372), 3, 0, "57,372 bytes, 4,098 records");
+    end();
+}
+
+/* A mapped netlist with records of every kind, the last a buffer that feeds nothing; its source is
+ * all records before that. */
+static struct bytes make_kinds(void)
+{
+    struct bytes source;
+    unsigned gate;
+    clear();
+    while (next_record() < 13)
+        add_input();
+    add_rising(AND, 1, 1, 0);
+    add_rising(OR, 2, 1, 2);
+    add_rising(MAJ, 5, 1, 4);
+    add_rising(MAJ5, 21, 1, 7);
+    for (gate = 13; gate <= 16; gate++)
+        add_one(OUTPUT, 2, gate);
+    source = keep_source();
+    add_one(BUFFER, 1, 12);
+    return source;
+}
+
+/* Every bit of every record that no used slot has, and every unused slot on every record. */
+static void test_mapped_forms(void)
+{
+    struct bytes source = make_kinds();
+    size_t k, j, at, other, last = source.len / RECORD;
+    unsigned bit, level;
+    begin("refusals 12 and 13, every kind");
+    do_verify(source, 2, made());
+    check(accepted(1), "a record of every kind");
+    hold_foreign(source, 2, made(), "a record of every kind");
+    for (k = 0; k <= last; k++) {
+        for (at = 0; at < RECORD; at++)
+            for (bit = 0; bit < 8; bit++) {
+                if (at >= FIRST_SLOT && at < FIRST_SLOT + 2 * used_slots(*byte_of(k, 0)))
+                    continue;
+                *byte_of(k, at) ^= 1 << bit;
+                level = level_of(byte_of(k, 0));
+                if (k == last && level != 1 && level <= MAX_LEVEL)
+                    mapped_refused(source, 2, made(), 15, (uint32_t)k, "a buffer's level");
+                else
+                    mapped_refused(source, 2, made(), k < last ? 12 : 13, (uint32_t)k,
+                                   "a bit of no used slot");
+                *byte_of(k, at) ^= 1 << bit;
+            }
+        for (j = used_slots(*byte_of(k, 0)); j < SLOTS; j++)
+            for (other = 0; other <= last; other++) {
+                set_slot(k, j, other);
+                mapped_refused(source, 2, made(), k < last ? 12 : 13, (uint32_t)k,
+                               "an unused slot that names a record");
+                set_slot(k, j, UNUSED);
+            }
+    }
+    end();
+}
+
+/* Inputs 0 to 4, a MAJ5 of all of them from the last to the first, an output of it and one of input
+ * 0; and what the mapper writes for it with any capacities. */
+static uint8_t five_source[8 * RECORD], five_mapped[14 * RECORD];
+static struct bytes five, five_out;
+
+static void make_fives(void)
+{
+    unsigned k;
+    clear();
+    while (next_record() < SLOTS)
+        add_input();
+    add_maj5(22, 2, 4, 3, 2, 1, 0);
+    add_one(OUTPUT, 3, 5);
+    add_one(OUTPUT, 3, 0);
+    memcpy(five_source, netlist, netlist_len);
+    add_one(BUFFER, 1, 0);
+    add_one(BUFFER, 2, 8);
+    for (k = 1; k < SLOTS; k++)
+        add_one(BUFFER, 1, k);
+    set_slot(5, 0, 13);
+    set_slot(5, 1, 12);
+    set_slot(5, 2, 11);
+    set_slot(5, 3, 10);
+    set_slot(5, 4, 8);
+    set_slot(7, 0, 9);
+    memcpy(five_mapped, netlist, netlist_len);
+    five = part(five_source, sizeof five_source);
+    five_out = part(five_mapped, sizeof five_mapped);
+}
+
+static void start_from_five(void)
+{
+    memcpy(netlist, five_mapped, sizeof five_mapped);
+    netlist_len = sizeof five_mapped;
+}
+
+static void five_refused(uint32_t number, uint32_t place, const char *what)
+{
+    mapped_refused(five, 2, made(), number, place, what);
+    start_from_five();
+}
+
+static void test_maj5_written(void)
+{
+    static const uint32_t input_capacities[] = { 1, 2, 4095 };
+    uint32_t s;
+    size_t k;
+    begin("MAJ5, a netlist written by hand");
+    make_fives();
+    for (k = 0; k < sizeof input_capacities / sizeof input_capacities[0]; k++) {
+        input_capacity = input_capacities[k];
+        for (s = 2; s <= 4; s++) {
+            start_from_five();
+            do_map_priced(five, s, fill(0), fill(five_out.len));
+            check(is_answer(14, 6, 3, 22, 55), "the seven numbers");
+            check(memcmp(mapped_area.at, five_out.at, five_out.len) == 0, "the mapped netlist");
+            /* The MAJ5 feeds one slot (13), buffer 8 two (9), five buffers one each (8). */
+            hold_rising(five, s, 3, 62, 79, "the prices");
+            do_map(five, s, fill(five_out.len - 1));
+            check(answered(10, 0), "an area of 195 bytes");
+            do_verify(five, s, five_out);
+            check(accepted(6), "the verifier");
+            hold_foreign(five, s, five_out, "there and back");
+            hold_waves(five, s, five_out);
+            hold_copy(five, s, five_out.len, 0);
+            check(memcmp(levelled_area.at, five.at, five.len) == 0, "its levels are the least");
+        }
+    }
+    end();
+}
+
+static void test_maj5_mapped(void)
+{
+    size_t k, at, j, other;
+    unsigned bit;
+    begin("MAJ5, refusals 12 to 17");
+    make_fives();
+    start_from_five();
+    for (bit = 0; bit < 8; bit++) {
+        for (at = 0; at < FIRST_SLOT; at++) {
+            *byte_of(5, at) ^= 1 << bit;
+            five_refused(12, 5, "another kind, inversion or level");
+        }
+        for (k = 0; k < 14; k++)
+            for (at = FIRST_SLOT + 2 * used_slots(*byte_of(k, 0)); at < RECORD; at++) {
+                *byte_of(k, at) ^= 1 << bit;
+                five_refused(k < 8 ? 12 : 13, (uint32_t)k, "an unused slot");
+            }
+    }
+    for (k = 0; k < 14; k++)
+        for (j = used_slots(five_mapped[RECORD * k]); j < SLOTS; j++)
+            for (other = 0; other < 14; other++) {
+                set_slot(k, j, other);
+                five_refused(k < 8 ? 12 : 13, (uint32_t)k, "an unused slot that names a record");
+            }
+    for (j = 0; j < SLOTS; j++) {
+        for (k = 0; k < 14; k++) {
+            if (k == slot_of(five_mapped + RECORD * 5, j))
+                continue;
+            set_slot(5, j, k);
+            /* Outputs 6 and 7; records at level 1, of another driver; all others. */
+            if (k == 6 || k == 7)
+                five_refused(14, 5, "a slot that names an output");
+            else if (k == 8 || k > 9)
+                five_refused(16, 5, "a slot traced to another driver");
+            else
+                five_refused(15, 5, "a fanin at another level");
+        }
+        set_slot(5, j, 14);
+        five_refused(14, 5, "a slot that names record M");
+        set_slot(5, j, UNUSED);
+        five_refused(14, 5, "a used slot of 65,535");
+        set_slot(5, j, slot_of(five_mapped + RECORD * 5, (j + 1) % SLOTS));
+        set_slot(5, (j + 1) % SLOTS, slot_of(five_mapped + RECORD * 5, j));
+        five_refused(16, 5, "two slots in the other order");
+    }
+    add_one(BUFFER, 3, 5);
+    five_refused(17, 5, "a MAJ5 that feeds two slots");
+    for (input_capacity = 2; input_capacity <= MAX_INPUT_CAPACITY; input_capacity *= 3) {
+        add_one(BUFFER, 3, 5);
+        five_refused(17, 5, "a MAJ5 that feeds two slots, where an input may");
+    }
+    end();
+}
+
+/* Two inputs and a MAJ5 at a level, whose slot j names input 1 if bit j of a number is 1, else 0;
+ * as a mapped netlist with a buffer on each input if the level is 2. */
+static struct bytes make_shared(unsigned level, unsigned source_bits, unsigned mapped_bits)
+{
+    struct bytes source;
+    unsigned j;
+    clear();
+    add_input();
+    add_input();
+    add_same(MAJ5, 0, level, 0);
+    for (j = 0; j < SLOTS; j++)
+        set_slot(2, j, source_bits >> j & 1);
+    source = keep_source();
+    for (j = 0; j < SLOTS; j++)
+        set_slot(2, j, (mapped_bits >> j & 1) + (level == 2 ? 3 : 0));
+    if (level == 2) {
+        add_one(BUFFER, 1, 0);
+        add_one(BUFFER, 1, 1);
+    }
+    return source;
+}
+
+/* How many of five bits are 1. */
+static unsigned ones_of(unsigned bits)
+{
+    return (bits & 1) + (bits >> 1 & 1) + (bits >> 2 & 1) + (bits >> 3 & 1) + (bits >> 4 & 1);
+}
+
+/* The two records named by a MAJ5, `first` and the one after it, may feed so many slots each: the
+ * netlist is legal, or refused at the first of them that feeds more. */
+static void hold_shared(struct bytes source, uint32_t s, unsigned bits, uint32_t most,
+                        uint32_t first)
+{
+    unsigned ones = ones_of(bits);
+    if (SLOTS - ones > most)
+        mapped_refused(source, s, made(), 17, first, "too many slots of a MAJ5");
+    else if (ones > most)
+        mapped_refused(source, s, made(), 17, first + 1, "too many slots of a MAJ5");
+    else
+        hold_foreign(source, s, made(), "slots of a MAJ5");
+}
+
+static void test_maj5_shared(void)
+{
+    unsigned bits, other, level;
+    uint32_t s;
+    begin("MAJ5, refusals 16 and 17, all slots on two drivers");
+    for (bits = 0; bits < 1 << SLOTS; bits++) {
+        for (s = 2; s <= 4; s++) {
+            input_capacity = 1;
+            hold_shared(make_shared(2, bits, bits), s, bits, s, 3);
+            for (input_capacity = 1; input_capacity <= SLOTS; input_capacity++)
+                hold_shared(make_shared(1, bits, bits), s, bits, input_capacity, 0);
+        }
+        for (other = 0; other < 1 << SLOTS; other++)
+            for (level = 1; other != bits && level <= 2; level++) {
+                struct bytes source = make_shared(level, bits, other);
+                input_capacity = 1 + other % SLOTS;
+                mapped_refused(source, 4, made(), 16, 2, "another driver");
+            }
+    }
+    end();
+}
+
+/* Five sinks at one distance: the buffers, and the nodes at distance 1. */
+static void test_maj5_sinks(void)
+{
+    static const struct {
+        uint32_t s;
+        unsigned distance;
+        uint32_t buffers, nodes;
+    } rows[] = {
+        { 2, 1, 0, 5 }, { 2, 2, 3, 3 }, { 2, 3, 5, 2 }, { 2, 4, 6, 1 }, { 2, 5, 7, 1 },
+        { 3, 1, 0, 5 }, { 3, 2, 2, 2 }, { 3, 3, 3, 1 }, { 3, 4, 4, 1 },
+        { 4, 1, 0, 5 }, { 4, 2, 2, 2 }, { 4, 3, 3, 1 }, { 4, 4, 4, 1 }
+    };
+    struct bytes source;
+    size_t k;
+    uint32_t b;
+    begin("MAJ5 that names one driver five times");
+    for (k = 0; k < sizeof rows / sizeof rows[0]; k++)
+        for (b = 1; b <= SLOTS + 1; b++) {
+            input_capacity = b;
+            clear();
+            add_input();
+            add_same(MAJ5, b, rows[k].distance, 0);
+            source = keep_source();
+            hold_driver(source, rows[k].s, 0);
+            check(accepted(b < rows[k].nodes ? NO_TREE : rows[k].buffers),
+                  "five sinks of an input");
+            do_map(source, rows[k].s, fill(RECORD * 20));
+            if (b < rows[k].nodes) {
+                check(answered(8, 0), "five sinks of an input");
+            } else {
+                check(is_answer(2 + rows[k].buffers, rows[k].buffers, 0, 10 + 2 * rows[k].buffers,
+                                percent(2 * rows[k].buffers, 10 + 2 * rows[k].buffers)),
+                      "five sinks of an input");
+                memcpy(mapped_bytes, mapped_area.at, RECORD * answer[2]);
+                hold_foreign(source, rows[k].s, part(mapped_bytes, RECORD * answer[2]),
+                             "five sinks of an input");
+            }
+            /* Of a MAJ5, which feeds one slot with any b. */
+            clear();
+            while (next_record() < SLOTS)
+                add_input();
+            add_rising(MAJ5, 0, 1, 0);
+            add_same(MAJ5, 0, 1 + rows[k].distance, SLOTS);
+            hold_driver(made(), rows[k].s, SLOTS);
+            check(accepted(rows[k].nodes > 1 ? NO_TREE : rows[k].buffers), "five sinks of a gate");
+            do_map(made(), rows[k].s, fill(RECORD * 20));
+            check(rows[k].nodes > 1 ? answered(8, SLOTS)
+                                    : answered(0, 0) && answer[3] == rows[k].buffers,
+                  "five sinks of a gate");
+        }
+    /* At the highest level, and above it. */
+    input_capacity = 1;
+    for (b = 2; b <= 4; b++) {
+        clear();
+        add_input();
+        add_same(MAJ5, 31, MAX_LEVEL, 0);
+        source = keep_source();
+        do_map(source, b, fill(RECORD * MAX_SOURCE * 2));
+        check(answered(0, 0) && answer[3] == (b == 2 ? 4097u : 4095u), "a MAJ5 at level 4,095");
+        memcpy(mapped_bytes, mapped_area.at, RECORD * answer[2]);
+        hold_foreign(source, b, part(mapped_bytes, RECORD * answer[2]), "a MAJ5 at level 4,095");
+        set_field(netlist + RECORD + LEVEL, MAX_LEVEL + 1);
+        refused_everywhere(made(), 7, 1, "a MAJ5 at level 4,096");
+    }
+    end();
+}
+
+/* Two inputs, a MAJ5 at level 1 or 2 whose slots name each of the four records, and a buffer. */
+static void test_maj5_strips(void)
+{
+    unsigned code, rest, j, on;
+    unsigned long kept = 0;
+    begin("stripping of all MAJ5 over two inputs and a buffer");
+    for (code = 0; code < 4 * 4 * 4 * 4 * 4 * 2; code++)
+        for (on = 0; on < 2; on++) {
+            clear();
+            add_input();
+            add_input();
+            add_same(MAJ5, code % 32, 1 + code % 2, 0);
+            for (j = 0, rest = code / 2; j < SLOTS; j++, rest /= 4)
+                set_slot(2, j, rest % 4);
+            add_one(BUFFER, 1, on);
+            input_capacity = 1 + code % 7;
+            hold_strip(made(), 4, RECORD * 3 - (on & code >> 1 & 1));
+            kept += answer[0] == 0;
+        }
+    check(kept > 0, "some have a source");
+    end();
+}
+
+/* Lists of each length and each price of a MAJ5 that feeds one slot and of one that feeds none. */
+static void test_maj5_prices(void)
+{
+    uint8_t prices[2 * PRICES];
+    struct bytes alone;
+    uint32_t whole;
+    size_t len, k;
+    unsigned price;
+    begin("MAJ5, prices");
+    make_fives();
+    memset(prices, 1, sizeof prices);
+    for (len = 0; len <= sizeof prices; len++) {
+        do_map_priced(five, 2, part(prices, len), fill(five_out.len));
+        if (len == 0)
+            check(is_answer(14, 6, 3, 22, 55), "an empty list: a MAJ5 at 10, a buffer at 2");
+        else if (len == PRICES)
+            check(is_answer(14, 6, 3, 7, 86), "a list of 13 bytes");
+        else
+            check(answered(27, 0), "a list neither empty nor 13 bytes long");
+    }
+    for (k = 0; k < PRICES; k++) {
+        one_price(prices, k, 0);
+        do_map_priced(five, 2, part(prices, PRICES), fill(five_out.len));
+        check(answered(28, (uint32_t)k), "a price of 0 at each position");
+    }
+    clear();
+    while (next_record() < SLOTS)
+        add_input();
+    add_rising(MAJ5, 31, 1, 0);
+    alone = keep_source();
+    do_map_priced(alone, 2, fill(0), fill(alone.len));
+    check(is_answer(6, 0, 0, 10, 0), "a MAJ5 that feeds nothing, an empty list");
+    for (k = 0; k < PRICES; k++)
+        for (price = 1; price < 256; price++) {
+            one_price(prices, k, (uint8_t)price);
+            do_map_priced(alone, 2, part(prices, PRICES), fill(alone.len));
+            check(is_answer(6, 0, 0, k == 11 ? price : 1, 0), "a MAJ5 that feeds nothing");
+            /* Five buffers feed one slot and one feeds two. */
+            do_map_priced(five, 2, part(prices, PRICES), fill(five_out.len));
+            whole = (k == 12 ? price : 1) + 5 * (k == 7 ? price : 1) + (k == 8 ? price : 1);
+            check(is_answer(14, 6, 3, whole, percent(whole - (k == 12 ? price : 1), whole)),
+                  "a MAJ5 that feeds one slot");
+        }
     end();
 }
 
@@ -4791,7 +5728,10 @@ static void test_all(void)
         test_branches_most, test_branches_wide, test_branches_sizes, test_branches_random,
         test_branches_levels, test_prices_worked, test_prices_written, test_prices_shares,
         test_prices_shapes, test_prices_parted, test_prices_lines, test_prices_most,
-        test_prices_lengths, test_prices_zeros, test_prices_order, test_prices_areas
+        test_prices_lengths, test_prices_zeros, test_prices_order, test_prices_areas,
+        test_gate_values, test_maj5_fanins, test_source_forms, test_source_slots, test_widths,
+        test_mapped_forms, test_maj5_written, test_maj5_mapped, test_maj5_shared, test_maj5_sinks,
+        test_maj5_strips, test_maj5_prices
     };
     size_t k;
     for (k = 0; k < sizeof tests / sizeof tests[0]; k++) {

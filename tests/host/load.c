@@ -10,6 +10,9 @@
 
 #include "aqfp.h"
 
+/* s and b before the source in FILE; a record; a price list. */
+enum { HEAD = 3, RECORD = 14, PRICES = 13 };
+
 static void *opened(const char *path)
 {
     void *object = dlopen(path, RTLD_NOW | RTLD_LOCAL);
@@ -28,13 +31,13 @@ static void hold(int holds, const char *what)
     exit(1);
 }
 
-/* The worked case through the library, with an empty price list and with 1, 2, 3, .., 11: the
+/* The worked case through the library, with an empty price list and with 1, 2, 3, .., 13: the
  * mapper's seven numbers, each below 256. */
 static void map_worked(void *library, const char *path)
 {
     static const uint8_t expected[2][7] = { { 0, 0, 8, 3, 3, 12, 50 }, { 0, 0, 8, 3, 3, 27, 93 } };
-    static const uint8_t prices[11] = { 1, 2, 3, 4, 5, 6, 7, 8, 9, 10, 11 };
-    uint8_t bytes[53], mapped[80], answer[28], numbers[28] = { 0 };
+    static const uint8_t prices[PRICES] = { 1, 2, 3, 4, 5, 6, 7, 8, 9, 10, 11, 12, 13 };
+    uint8_t bytes[HEAD + 5 * RECORD], mapped[8 * RECORD], answer[28], numbers[28] = { 0 };
     uint32_t (*map)(const uint8_t *, size_t, uint32_t, uint32_t, const uint8_t *, size_t, uint8_t *,
                     size_t, uint8_t *);
     FILE *in = fopen(path, "rb");
@@ -45,7 +48,7 @@ static void map_worked(void *library, const char *path)
     for (n = 0; n < 2; n++) {
         for (k = 0; k < 7; k++)
             numbers[4 * k] = expected[n][k];
-        map(bytes + 3, sizeof bytes - 3, bytes[0], bytes[1] | (uint32_t)bytes[2] << 8, prices,
+        map(bytes + HEAD, sizeof bytes - HEAD, bytes[0], bytes[1] | (uint32_t)bytes[2] << 8, prices,
             n == 0 ? 0 : sizeof prices, mapped, sizeof mapped, answer);
         hold(memcmp(answer, numbers, sizeof numbers) == 0,
              "the library maps the worked case otherwise");

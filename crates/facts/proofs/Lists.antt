@@ -1,17 +1,20 @@
--- Laws of lists by index: entries within the length and past it, one entry raised, lists made of a function's values, and parts joined.
+-- Laws of lists by index: entries within the length and past it, one entry raised, tables, lists made of a function's values, and parts joined.
 use Prim.Native.Nat.{ℕ, zero, suc, ◌+◌, ◌*◌, ◌<◌, ◌≤◌}
 use mathlib.Core.Path.{◌≡◌, refl, sym, ap, subst, ◌∙◌}
+use mathlib.Core.Bool.{Bool, true, false, not, ◌&&◌}
 use mathlib.Core.List.{List, [], ◌∷◌, ◌++◌, append-nil, append_assoc}
 use native.Mathlib.Numerals.{add-one}
 use native.Mathlib.Omega.{arith}
 use native.Mathlib.Nat.{add-zero, add-suc, mul-zero, mul-suc, mul-le-mul_left}
 use native.Mathlib.Decide.{dec_lt, ℕ_discrete}
-use lib.ListN.{length, get_or, take, drop, set, replicate, length-append, length-drop, length-replicate, get_or-append, get_or-eq_default}
+use lib.ListN.{length, get_or, take, drop, set, replicate, length-append, length-set, length-drop, length-replicate, get_or-append, get_or-eq_default}
 use lib.Seq.{get_or_at, take-append-le, drop-append-le, drop_at, take_all, take-add, get_or-drop, get_or-take, get_or-set_same, get_or-set_other, ext_get_or}
-use lib.Dec.{eqb}
-use borrow.Author.Tests.{eq-eqb, ne_eqb}
+use lib.Dec.{leb, eqb}
+use borrow.Author.Tests.{le-leb, eq-eqb, ne_eqb, eqb-true}
 use Rattle.facts.specs.Lists.{tabulate, joined}
-use Rattle.facts.specs.Sums.{bit}
+use Rattle.facts.specs.Sums.{bit, any}
+use Rattle.facts.proofs.Bools.{true_false}
+use Rattle.facts.proofs.Sums.{any_none}
 
 -- an entry below the length does not depend on the default
 pub get_d_any : (l : List ℕ) (i d e : ℕ) → i < length l → get_or l i d ≡ get_or l i e
@@ -22,6 +25,15 @@ get_d_any (x ∷ l) (suc i) d e h = get_d_any l i d e (omega arith)
 -- past its end a list gives the default
 pub get_d_past : (l : List ℕ) (n i d : ℕ) → length l ≡ n → n ≤ i → d ≡ get_or l i d
 get_d_past l n i d e h = sym (get_or-eq_default l d (omega arith))
+
+-- the entry of i in a table, if all from the first place on, below the end, are v: one computed test
+pub table_range : (table : List ℕ) (default first end v i : ℕ) → any (λ k. leb first k && not (eqb (get_or table k default) v)) end ≡ false →
+    first ≤ i → i < end → v ≡ get_or table i default
+table_range table default first end v i e l h = go (eqb (get_or table i default) v) refl
+  where
+    go : (b : Bool) → eqb (get_or table i default) v ≡ b → v ≡ get_or table i default
+    go true f = sym (eqb-true (get_or table i default) v f)
+    go false f = absurd (true_false (leb first i && not (eqb (get_or table i default) v)) (rw (le-leb first i l, f) refl) ((any_none _ end).0 e i h))
 
 -- a list of one value holds it everywhere, its end included
 pub get_or_replicated : (n i v : ℕ) → get_or (replicate n v) i v ≡ v
@@ -64,6 +76,33 @@ get_d_tabulate f (suc n) i d l =
 pub tabulate_cong : (f g : ℕ → ℕ) (n : ℕ) → ((i : ℕ) → i < n → f i ≡ g i) → tabulate f n ≡ tabulate g n
 tabulate_cong f g zero h = refl
 tabulate_cong f g (suc n) h = cc (tabulate_cong f g n (λ i l. h i (omega arith)), h n (omega arith))
+
+-- the first j entries of an array are a function's values
+pub record Tabulating (f : ℕ → ℕ) (n : ℕ) (l : List ℕ) (j : ℕ) : Type 0 where
+  pub within : j ≤ n
+  pub long : length l ≡ n
+  pub so_far : (i : ℕ) → i < j → get_or l i 0 ≡ f i
+
+module _ (f : ℕ → ℕ) (n : ℕ) (l : List ℕ) where
+  pub tabulating_start : length l ≡ n → Tabulating f n l 0
+  tabulating_start e = record { within = omega arith; long = e; so_far = λ i h. absurd (omega arith) }
+
+  module _ (j : ℕ) (t : Tabulating f n l j) where
+    pub tabulating_more : (x : ℕ) → j < n → x ≡ f j → Tabulating f n (set l j x) (j + 1)
+    tabulating_more x h e =
+        record {
+          within = omega arith;
+          long = length-set l j x ∙ t.long;
+          so_far = λ i b. elim (ℕ_discrete i j) [
+            | yes g ↦ rw (g, get_or-set_same l j x 0 (omega (arith, t.long))) e
+            | no g ↦ get_or-set_other l j i x 0 g ∙ t.so_far i (omega arith)
+          ];
+        }
+
+    pub tabulating_end : n ≤ j → l ≡ tabulate f n
+    tabulating_end h =
+        ext_get_or 0 l (tabulate f n) (t.long ∙ sym (length_tabulate f n))
+        (λ i b. t.so_far i (omega (arith, t.long)) ∙ sym (get_d_tabulate f n i 0 (omega (arith, t.long))))
 
 -- a function's values below n, and the k after them
 pub tabulate_append : (f : ℕ → ℕ) (n k : ℕ) → tabulate f (n + k) ≡ tabulate f n ++ tabulate (λ j. f (n + j)) k

@@ -10,16 +10,16 @@ use lib.Seq.{ext_get_or}
 use native.Mathlib.Numerals.{add-one}
 use lib.Dec.{ltb, eqb}
 use borrow.Author.Tests.{eq-eqb, ne_eqb, lt-ltb, le-ltb, ltb-true, ltb-false, eqb-true}
-use Rattle.facts.proofs.Bools.{and_i}
+use Rattle.facts.proofs.Bools.{and_i, and_l}
 use Rattle.facts.proofs.Lists.{zeros_at, added_at}
 use Rattle.facts.specs.Sums.{bit, sum, count, count₂}
-use Rattle.facts.proofs.Sums.{count_suc, count_false, count_le, count₂_le}
+use Rattle.facts.proofs.Sums.{count_suc, count_false, count_stop, count_le, count₂_le}
 use Rattle.fanout.specs.PrivateWalk.{Filled}
 use Rattle.fanout.proofs.Nets.{row_length, row_at_lem}
 use Rattle.fanout.proofs.Rows.{level_test, sink_above}
 use Rattle.netlist.specs.declared.Record.{Record}
 use Rattle.netlist.specs.Kinds.{slots, top_level, arity}
-use Rattle.netlist.specs.Records.{Netlist, slot, used, fanin}
+use Rattle.netlist.specs.Records.{Netlist, slot, used, fanin, names}
 use Rattle.netlist.specs.Source.{IsSource}
 use Rattle.fanout.specs.Nets.{sink_at, sinks, added}
 use Rattle.fanout.specs.PrivateFilling.{sinks_so_far, RowSoFar, RowAtRecord, Empty, SinkRoom, Slot, farther, row_with, far_with}
@@ -190,15 +190,25 @@ module _ (m : Netlist) (d below i : ℕ) (r : Record) where
               (filled_more m d i j h.is_source h.present h.inside l row far h.filled);
         }
 
-    pub slots_end : slots ≤ j → RowSoFar m d (suc i) 0 row far
-    slots_end l =
-        let e : j ≡ slots = omega (arith, h.within) in
+    -- all used slots: the rest is no sink
+    pub slots_end : (count : ℕ) → count ≤ j → arity r.kind ≤ count → RowSoFar m d (suc i) 0 row far
+    slots_end c l a =
         record {
           long = h.filled.long;
-          entry = λ x b. h.filled.entry x b ∙ ap (λ (j : ℕ). sinks_so_far m d i j x) e ∙ sym (next_record m d i x);
+          entry = λ x b. h.filled.entry x b ∙ omega (arith, rest x, next_record m d i x);
           within = h.filled.within;
           past = h.filled.past;
         }
+      where
+        rest : (x : ℕ) → count (sink_at m d x i) slots ≡ count (sink_at m d x i) j
+        rest x =
+            count_stop (sink_at m d x i) j slots h.within
+            (λ y b e.
+            omega (
+              arith,
+              ltb-true y (arity (m.at i).kind) (and_l _ _ (and_l (names m d i y) _ e)),
+              ap (λ (r : Record). arity r.kind) h.read,
+            ))
 
 -- all records: those below k are counted
 pub record Records (m : Netlist) (d below n : ℕ) (row : List ℕ) (far k : ℕ) : Type 0 where

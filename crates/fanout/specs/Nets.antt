@@ -15,7 +15,7 @@ sink_at m d x i j = names m d i j && eqb (m.at i).level ((m.at d).level + x)
 unfoldable pub sinks : Netlist → ℕ → ℕ → ℕ
 sinks m d x = count₂ (sink_at m d x) slots m.size
 
--- the most sinks of a net
+-- the slots of the largest source: no net has more sinks
 abbrev pub sink_limit : ℕ
 sink_limit = slots * source_limit
 

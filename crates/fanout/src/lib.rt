@@ -1,7 +1,7 @@
 // One net: its sinks by distance and the fewest buffers of a tree.
 ghost use Rattle.std.specs.Prelude.{◌≡◌, suc, ◌/◌, ◌<◌, ◌≤◌, cond};
 ghost use Rattle.netlist.specs.Records.{netlist, record_count};
-ghost use Rattle.netlist.specs.Kinds.{top_level};
+ghost use Rattle.netlist.specs.Kinds.{slots, top_level, arity};
 ghost use Rattle.netlist.specs.PrivateInput.{Input};
 ghost use Rattle.fanout.specs.Nets.{added};
 ghost use Rattle.fanout.specs.Nets;
@@ -74,7 +74,32 @@ fn add_slot(
     if far < distance { distance } else { far }
 }
 
-// The sinks among the slots of record k. Answers the largest distance so far.
+// The first slots of r, which is record k and uses no others, counted.
+fn add_slots(
+    source: &[u8],
+    row: &mut [u32; DISTANCES],
+    far: usize,
+    driver: usize,
+    below: u16,
+    k: usize,
+    r: Record,
+    count: usize,
+) -> usize
+    requires row_at_record { RowAtRecord (netlist source.now) driver below k row.old far }
+    requires r_value { r ≡ (netlist source.now).at k }
+    requires kind_bound { (arity r.kind ≤ count) × (count ≤ slots) }
+    ensures { RowSoFar (netlist source.now) driver (suc k) 0 row.new result }
+{
+    let mut most = far;
+    let mut j: usize = 0;
+    while j < count {
+        most = add_slot(row, most, driver, below, r, j);
+        j += 1;
+    }
+    most
+}
+
+// The sinks among the slots of record k: of a MAJ5 all, of any other as many as a MAJ uses. Answers the largest distance so far.
 fn add_record(
     source: &[u8],
     row: &mut [u32; DISTANCES],
@@ -87,13 +112,19 @@ fn add_record(
     ensures { RowSoFar (netlist source.now) driver (suc k) 0 row.new result }
 {
     let r = netlist::record_at(source, k);
-    let mut most = far;
-    let mut j: usize = 0;
-    while j < SLOTS {
-        most = add_slot(row, most, driver, below, r, j);
-        j += 1;
+    if r.kind == netlist::MAJORITY5 {
+        return add_slots(source, row, far, driver, below, k, r, SLOTS);
     }
-    most
+    add_slots(
+        source,
+        row,
+        far,
+        driver,
+        below,
+        k,
+        r,
+        netlist::arity(netlist::MAJORITY),
+    )
 }
 
 // The row of the driver's net. Answers the largest distance.

@@ -17,7 +17,7 @@ use Rattle.facts.proofs.Bools.{and_r, and_true}
 use Rattle.facts.proofs.Reflect.{unlike_none}
 use Rattle.facts.proofs.Sums.{fibres₁, le_largest, largest_some, sum_zero, sum_add, sum_const, sum_cong, term_le, count_none, any_none}
 use Rattle.netlist.specs.declared.Capacities.{Capacities}
-use Rattle.netlist.specs.Kinds.{width, input, output, buffer, arity, is_gate}
+use Rattle.netlist.specs.Kinds.{width, input, output, buffer, kinds, arity, is_gate}
 use Rattle.netlist.specs.Records.{Netlist, netlist, record_at, fanin}
 use Rattle.netlist.specs.Balance.{Named, PathBalanced}
 use Rattle.netlist.specs.Counts.{count_kind, gates, buffer_count}
@@ -74,9 +74,9 @@ abbrev sorts_of : ℕ → ℕ
 sorts_of kind = bit (eqb kind input) + bit (is_gate kind) + bit (eqb kind buffer) + bit (eqb kind output)
 
 -- every kind is of one sort
-one_sort : (kind : ℕ) → kind ≤ buffer → sorts_of kind ≡ 1
+one_sort : (kind : ℕ) → kind < kinds → sorts_of kind ≡ 1
 unfolding any
-one_sort kind l = (unlike_none _ _).0 ((any_none (λ k. not (eqb (sorts_of k) 1)) (suc buffer)).0 refl kind (omega arith))
+one_sort kind l = (unlike_none _ _).0 ((any_none (λ k. not (eqb (sorts_of k) 1)) kinds).0 refl kind l)
 
 pub all_counted : AllCounted
 unfolding count sum gates buffer_count

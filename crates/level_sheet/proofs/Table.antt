@@ -16,7 +16,7 @@ use Rattle.facts.proofs.Lists.{zeros_at, added_at, length_joined, get_or_joined}
 use Rattle.facts.proofs.Loops.{LargestSoFar, largest_start, largest_more, largest_end}
 use Rattle.facts.proofs.Sums.{count_cong, count_le, count_suc, any_none}
 use Rattle.netlist.specs.declared.Record.{Record}
-use Rattle.netlist.specs.Kinds.{top_level, mapped_limit, input, output, buffer, is_gate}
+use Rattle.netlist.specs.Kinds.{top_level, mapped_limit, input, output, buffer, kinds, is_gate}
 use Rattle.netlist.specs.Records.{Netlist, netlist, record_count, record_at}
 use Rattle.netlist.specs.Counts.{count_kind, count_of, gates, buffer_count}
 use Rattle.level_sheet.specs.Counts.{columns, count_at, counts_at, totals, line_count}
@@ -33,8 +33,8 @@ agree false true e = sym e
 agree false false e = refl
 
 -- two tests of a kind that agree on all kinds
-by_kind : (p q : ℕ → Bool) (kind : ℕ) → kind ≤ buffer → any (λ k. differ (p k) (q k)) (suc buffer) ≡ false → p kind ≡ q kind
-by_kind p q kind l e = agree (p kind) (q kind) ((any_none (λ k. differ (p k) (q k)) (suc buffer)).0 e kind (omega arith))
+by_kind : (p q : ℕ → Bool) (kind : ℕ) → kind < kinds → any (λ k. differ (p k) (q k)) kinds ≡ false → p kind ≡ q kind
+by_kind p q kind l e = agree (p kind) (q kind) ((any_none (λ k. differ (p k) (q k)) kinds).0 e kind l)
 
 column_inside : (kind : ℕ) → column_of kind < columns
 column_inside kind = go (eqb kind input) (is_gate kind) (eqb kind buffer)
@@ -82,7 +82,7 @@ same_index level column k j a b =
 module _ (m : Netlist) (c : Countable m) where
   -- the records of one sort at a level are those counted in its entry
   module _ (test : ℕ → Bool) (j level : ℕ) (h : j < columns) where
-    sort_counts : any (λ kind. differ (test kind) (eqb (column_of kind) j)) (suc buffer) ≡ false →
+    sort_counts : any (λ kind. differ (test kind) (eqb (column_of kind) j)) kinds ≡ false →
         count_at m test level ≡ count (λ i. eqb (table_index (m.at i)) (columns * level + j)) m.size
     unfolding count_at
     sort_counts e =

@@ -30,7 +30,7 @@ table_of m = joined (counts_at m) levels
 -- a netlist that the table has room for
 pub record Countable (m : Netlist) : Type 0 where
   pub few : m.size ≤ mapped_limit
-  pub kinds : (k : ℕ) → k < m.size → (m.at k).kind ≤ buffer
+  pub kinds : (k : ℕ) → k < m.size → (m.at k).kind < Rattle.netlist.specs.Kinds.kinds
   pub low : (k : ℕ) → k < m.size → (m.at k).level ≤ top_level
 
 -- the line of a level, from a table

@@ -16,10 +16,10 @@ use Rattle.facts.specs.Sums.{largest}
 use Rattle.facts.proofs.Bools.{and_l, and_r}
 use Rattle.facts.proofs.Sums.{count₂_none, largest_cong, largest_used}
 use Rattle.netlist.specs.declared.Record.{Record}
-use Rattle.netlist.specs.Kinds.{slots, unused, output, arity}
+use Rattle.netlist.specs.Kinds.{slots, unused, majority, output, majority5, arity}
 use Rattle.netlist.specs.Records.{Netlist, netlist, record_count, record_at, slot, used, fanin, names, feeds, is_output}
 use Rattle.netlist.specs.Source.{Structured, Unlevelled}
-use Rattle.netlist.proofs.Checks.{arity_slots}
+use Rattle.netlist.proofs.Checks.{arity_slots, three_arity}
 use Rattle.fanout.specs.Nets.{sink_limit}
 use Rattle.levels.specs.Levels.{height, sink_level, lowest, output_lowest, least_level}
 use Rattle.levels.specs.HeightTable.{heights, height_row, height_in}
@@ -37,6 +37,13 @@ module _ (reach : List ℕ) (n : ℕ) (r : Record) (i : EntriesInside reach n r)
 
   pub entry_is : get_or reach y 0 ≡ fanin_entry reach n r j
   entry_is = ap (entries reach) (q ∙ ap (entry_place n) p)
+
+-- all but a MAJ5 use no more slots than a MAJ
+pub small_level : (reach : List ℕ) (n : ℕ) (r : Record) (a l : ℕ) → EntriesInside reach n r → (r.kind ≡ majority5 → ⊥) → a ≡ arity majority →
+    l ≡ largest (fanin_entry reach n r) a → l ≡ largest (fanin_entry reach n r) slots
+small_level reach n r a l i o e f =
+    f ∙ ap (largest (fanin_entry reach n r)) e
+    ∙ sym (largest_used (fanin_entry reach n r) 3 slots (omega arith) (λ j b c. i.zero j (omega (arith, three_arity r.kind o)) c))
 
 -- an output has one used slot
 pub output_level_lem : (reach : List ℕ) (n : ℕ) (r : Record) (x y : ℕ) → EntriesInside reach n r → r.kind ≡ output → x ≡ slot r 0 → y ≡ entry_place n x →

@@ -17,10 +17,10 @@ use Rattle.facts.proofs.Reflect.{then_go, then_stop}
 use Rattle.facts.proofs.Refusals.{passed_refused}
 use Rattle.facts.proofs.Sums.{count_suc, count_le, count_used, count₂_le}
 use Rattle.netlist.specs.declared.Record.{Record}
-use Rattle.netlist.specs.Kinds.{slots, source_limit, arity}
+use Rattle.netlist.specs.Kinds.{slots, source_limit, input, and, or, majority, output, majority5, arity}
 use Rattle.netlist.specs.Records.{netlist, record_count, record_at, slot, names}
 use Rattle.netlist.specs.Checks.{size_checks, structure_of, structure_at, structure_checks}
-use Rattle.netlist.proofs.Checks.{arity_slots, slots_good, fanin_inside}
+use Rattle.netlist.proofs.Checks.{arity_slots, slots_good, fanin_inside, kind_none}
 use Rattle.netlist.proofs.Source.{size_passed}
 use Rattle.levels.specs.PrivateSinks.{SlotsFit, SinksAdded, SinksSoFar, Counting, RecordCounted, Uncounted, RecordsCounted, Zeros, SourceCounted}
 
@@ -108,6 +108,12 @@ module _ (source : List ℕ) (k : ℕ) (sinks : List ℕ) (c : Counting source k
   pub record_refused : (number place : ℕ) → a ≡ Refused number place → RecordCounted source k (Refused number place) sinks sinks
   record_refused number place p =
       record { answer = sym p ∙ answer_is; long = refl; counted = λ h. absurd (passed_refused number place (sym h)) }
+
+-- a kind without an arm is refused
+pub record_none : (source : List ℕ) (k kind : ℕ) (sinks : List ℕ) → kind ≡ (record_at source k).kind → (kind ≡ input → ⊥) → (kind ≡ and → ⊥) →
+    (kind ≡ or → ⊥) → (kind ≡ majority → ⊥) → (kind ≡ output → ⊥) → (kind ≡ majority5 → ⊥) → RecordCounted source k (Refused 4 k) sinks sinks
+record_none source k kind sinks e i a o j p f =
+    record { answer = kind_none (netlist source) k kind e i a o j p f; long = refl; counted = λ h. absurd (passed_refused 4 k (sym h)) }
 
 -- the records below k are checked and counted
 pub record CountedBelow (source : List ℕ) (n k : ℕ) (before sinks : List ℕ) : Type 0 where

@@ -5,9 +5,9 @@ use Rattle.facts.specs.Lists.{tabulate}
 use Rattle.fanout.specs.Nets.{sink_limit}
 use Rattle.levels.specs.Levels.{height}
 
--- how many heights the table has: 0 to 14
+-- how many heights the table has: 0 to 15
 abbrev pub heights : ℕ
-heights = 15
+heights = 16
 
 -- the largest number of sinks of height at most h: s to the power h, capped at the slots of the largest source
 abbrev pub most_sinks : ℕ → ℕ → ℕ
@@ -17,7 +17,7 @@ most_sinks s h = min (s ^ h) sink_limit
 abbrev pub height_row : ℕ → List ℕ
 height_row s = tabulate (most_sinks s) heights
 
--- the height of n sinks by a row: the first whose entry is at least n, or 15 where none is
+-- the height of n sinks by a row: the first whose entry is at least n, or 16 where none is
 unfoldable pub height_in : List ℕ → ℕ → ℕ
 height_in row n = seek (λ h. leb n (get_or row h 0)) 0 heights
 

@@ -2,9 +2,8 @@
 use Rattle.std.specs.Prelude.{ℕ, suc, ◌%◌, ◌≤◌, ◌<◌, ◌≡◌, ◌↔◌, ◌≢◌, List, length, get_or}
 use Rattle.facts.specs.declared.Checked.TheVariants.{Passed, Refused}
 use Rattle.facts.specs.Refusals.{Conditions, Fails, ◌or◌, Each, Exact}
-use Rattle.netlist.specs.Kinds.{width, top_level}
+use Rattle.netlist.specs.Kinds.{width, level_place, top_level}
 use Rattle.netlist.specs.Records.{Netlist, netlist, record_count, record_at}
-use Rattle.netlist.specs.Bytes.{level_place}
 use Rattle.netlist.specs.Source.{Source, Unlevelled}
 use Rattle.netlist.specs.Refusals.{BadCapacity, StructuresFail}
 use Rattle.fanout.specs.Trees.{Tree, Legal, net_of}

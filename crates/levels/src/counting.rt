@@ -5,7 +5,7 @@ ghost use Rattle.netlist.specs.Records.{record_at};
 ghost use Rattle.levels.specs.PrivateSinks.{SlotsFit, SinksAdded, Counting, RecordCounted, Uncounted, RecordsCounted, Zeros, SourceCounted};
 
 use facts::Checked;
-use netlist::{AND, INPUT, MAJORITY, OR, OUTPUT, Record};
+use netlist::{AND, INPUT, MAJORITY, MAJORITY5, OR, OUTPUT, Record};
 
 // One more sink for each of the first slots, at the record that it names.
 fn add_sinks(r: Record, used: usize, sinks: &mut [u16])
@@ -20,13 +20,13 @@ fn add_sinks(r: Record, used: usize, sinks: &mut [u16])
     }
 }
 
-// Checks 4 to 6 of record k, whose kind uses so many slots; where they pass, its slots are counted.
-fn check_used(source: &[u8], k: u32, r: Record, used: usize, sinks: &mut [u16]) -> Checked
+// Checks 4 to 6 of record k, whose kind uses so many slots; where they pass, its slots are counted. The record is read here, in each arm of `check_record`, which then reads only what it looks at.
+fn check_used(source: &[u8], k: u32, used: usize, sinks: &mut [u16]) -> Checked
     requires counting { Counting source.now k sinks.old }
-    requires r_value { r ≡ record_at source.now k }
-    requires used_value { used ≡ Kinds.arity r.kind }
+    requires used_value { used ≡ Kinds.arity (record_at source.now k).kind }
     ensures { RecordCounted source.now k result sinks.old sinks.new }
 {
+    let r = netlist::record_reader::read_at(source, k as usize);
     let checked = netlist::source_reader::check_structure(source, k, r, used);
     match checked {
         Checked::Passed => {
@@ -38,19 +38,19 @@ fn check_used(source: &[u8], k: u32, r: Record, used: usize, sinks: &mut [u16]) 
 }
 
 // Checks 4 to 6 of record k; an arm for each kind, so that the compiler knows its slots.
-fn check_record(source: &[u8], k: u32, r: Record, sinks: &mut [u16]) -> Checked
+fn check_record(source: &[u8], k: u32, kind: u8, sinks: &mut [u16]) -> Checked
     requires counting { Counting source.now k sinks.old }
-    requires r_value { r ≡ record_at source.now k }
+    requires kind_value { kind ≡ (record_at source.now k).kind }
     ensures { RecordCounted source.now k result sinks.old sinks.new }
 {
-    let kind = r.kind;
     match kind {
-        INPUT => check_used(source, k, r, netlist::arity(INPUT), sinks),
-        AND => check_used(source, k, r, netlist::arity(AND), sinks),
-        OR => check_used(source, k, r, netlist::arity(OR), sinks),
-        MAJORITY => check_used(source, k, r, netlist::arity(MAJORITY), sinks),
-        OUTPUT => check_used(source, k, r, netlist::arity(OUTPUT), sinks),
-        _ => check_used(source, k, r, netlist::arity(kind), sinks),
+        INPUT => check_used(source, k, netlist::arity(INPUT), sinks),
+        AND => check_used(source, k, netlist::arity(AND), sinks),
+        OR => check_used(source, k, netlist::arity(OR), sinks),
+        MAJORITY => check_used(source, k, netlist::arity(MAJORITY), sinks),
+        OUTPUT => check_used(source, k, netlist::arity(OUTPUT), sinks),
+        MAJORITY5 => check_used(source, k, netlist::arity(MAJORITY5), sinks),
+        _ => Checked::Refused(4, k),
     }
 }
 
@@ -61,8 +61,8 @@ fn check_records(source: &[u8], n: u32, sinks: &mut [u16]) -> Checked
 {
     let mut k: u32 = 0;
     while k < n {
-        let r = netlist::record_reader::read_at(source, k as usize);
-        let checked = check_record(source, k, r, sinks);
+        let kind = netlist::record_reader::kind_within(source, k as usize);
+        let checked = check_record(source, k, kind, sinks);
         match checked {
             Checked::Passed => {}
             Checked::Refused(number, place) => {

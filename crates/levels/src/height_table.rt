@@ -10,21 +10,21 @@ const SINK_LIMIT: u16 = (SLOTS * SOURCE_LIMIT) as u16;
 // Rows of the table: one for each capacity, from the least on.
 const ROWS: usize = (MOST_CAPACITY - LEAST_CAPACITY) as usize + 1;
 
-// Entries of a row: heights 0 to 14.
-pub(crate) const HEIGHTS: usize = 15;
+// Entries of a row: heights 0 to 15.
+pub(crate) const HEIGHTS: usize = 16;
 
 // For each height the largest number of sinks that has it or less: the capacity to the power of the height, capped at the slots of the largest source.
 const HEIGHT_TABLE: [[u16; HEIGHTS]; ROWS] = [
     [
-        1, 2, 4, 8, 16, 32, 64, 128, 256, 512, 1024, 2048, 4096, 8192, SINK_LIMIT,
+        1, 2, 4, 8, 16, 32, 64, 128, 256, 512, 1024, 2048, 4096, 8192, 16384, SINK_LIMIT,
     ],
     [
-        1, 3, 9, 27, 81, 243, 729, 2187, 6561, SINK_LIMIT, SINK_LIMIT, SINK_LIMIT, SINK_LIMIT,
-        SINK_LIMIT, SINK_LIMIT,
-    ],
-    [
-        1, 4, 16, 64, 256, 1024, 4096, SINK_LIMIT, SINK_LIMIT, SINK_LIMIT, SINK_LIMIT, SINK_LIMIT,
+        1, 3, 9, 27, 81, 243, 729, 2187, 6561, 19683, SINK_LIMIT, SINK_LIMIT, SINK_LIMIT,
         SINK_LIMIT, SINK_LIMIT, SINK_LIMIT,
+    ],
+    [
+        1, 4, 16, 64, 256, 1024, 4096, 16384, SINK_LIMIT, SINK_LIMIT, SINK_LIMIT, SINK_LIMIT,
+        SINK_LIMIT, SINK_LIMIT, SINK_LIMIT, SINK_LIMIT,
     ],
 ];
 

@@ -8,7 +8,7 @@ ghost use Rattle.levels.specs.PrivateLevels.{entry_place, fanin_entry, EntriesIn
 
 use crate::height_table;
 use crate::height_table::HEIGHTS;
-use netlist::{OUTPUT, Record, SLOTS, UNUSED};
+use netlist::{MAJORITY, MAJORITY5, OUTPUT, Record, SLOTS, UNUSED};
 
 // The larger of two levels.
 pub(crate) fn larger(a: u16, b: u16) -> u16
@@ -33,21 +33,22 @@ fn entry_of(slot: u16, n: usize) -> usize
     if slot == UNUSED { n } else { slot as usize }
 }
 
-// The largest entry of a record's slots.
-fn over_fanins(reach: &[u16], n: usize, r: Record) -> u16
-    requires { EntriesInside reach.now n r }
-    ensures { result ≡ largest (fanin_entry reach.now n r) slots }
+// The largest entry of a record's first slots.
+fn over_fanins(reach: &[u16], n: usize, r: Record, count: usize) -> u16
+    requires entries_inside { EntriesInside reach.now n r }
+    requires count_le_slots { count ≤ slots }
+    ensures { result ≡ largest (fanin_entry reach.now n r) count }
 {
     let mut level: u16 = 0;
     let mut j: usize = 0;
-    while j < SLOTS {
+    while j < count {
         level = larger(level, reach[entry_of(netlist::slot(r, j), n)]);
         j += 1;
     }
     level
 }
 
-// The same, of an output by its one used slot.
+// The largest entry of a record's slots: of an output by its one used slot, of a MAJ5 by all, of any other by as many as a MAJ uses.
 fn level_of(reach: &[u16], n: usize, r: Record) -> u16
     requires { EntriesInside reach.now n r }
     ensures { result ≡ largest (fanin_entry reach.now n r) slots }
@@ -55,7 +56,10 @@ fn level_of(reach: &[u16], n: usize, r: Record) -> u16
     if r.kind == OUTPUT {
         return reach[entry_of(netlist::slot(r, 0), n)];
     }
-    over_fanins(reach, n, r)
+    if r.kind == MAJORITY5 {
+        return over_fanins(reach, n, r, SLOTS);
+    }
+    over_fanins(reach, n, r, netlist::arity(MAJORITY))
 }
 
 // One of two levels: the first for an output.

@@ -11,7 +11,6 @@ use lib.Seq.{get_or-drop}
 use lib.Dec.{ltb, leb, eqb}
 use borrow.Author.Tests.{lt-ltb, le-ltb, leb-true, eq-eqb, ne_eqb}
 use Rattle.facts.specs.Sums.{bit, sum, count}
-use Rattle.facts.proofs.Bools.{and_l, and_r}
 use Rattle.facts.proofs.Sums.{sum_cong, sum_mono, sum_const, sum_scale, sum_none, sum_append, sum_first, sum_last, count_full, count_rest}
 use Rattle.netlist.specs.declared.Capacities.{Capacities}
 use Rattle.netlist.specs.declared.Record.{Record}
@@ -29,7 +28,7 @@ use Rattle.nets.proofs.OneChain.{named_above, sinks_unnamed}
 use Rattle.nets.proofs.TreeCounts.{measured_none}
 use Rattle.prices.specs.Prices.{price_count, price_of, price_at, junctions, buffer_junctions}
 use Rattle.prices.specs.PrivatePrices.{applied, AppliedPrices}
-use Rattle.prices.proofs.Lists.{gate_count, applied_price, no_price, price_most}
+use Rattle.prices.proofs.Lists.{gate_prices, applied_price, no_price, price_most}
 use Rattle.mapper.specs.Mapped.{buffers_of, mapped_size, place, buffer_record, mapped_at, mapped}
 use Rattle.mapper.specs.PrivateWriting.{Ready}
 use Rattle.mapper.specs.PrivatePricing.{rest_price, level_price, tree_price, driver_price}
@@ -207,7 +206,7 @@ module _ (list : List ℕ) (n : Netlist) (caps : Capacities) (r : Ready n caps) 
             arith,
             driver_branches n caps r x l,
             capacity_gate caps kind g,
-            gate_count kind (leb-true 1 kind (and_l (leb 1 kind) _ g)) (omega (arith, leb-true kind 3 (and_r (leb 1 kind) _ g))),
+            gate_prices kind g,
           ))
       go false g =
           let none : eqb (mapped_at n caps x).kind buffer ≡ false = ne_eqb _ buffer (no_buffer_lem n r.source x l (kind_kept n caps r x l)) in

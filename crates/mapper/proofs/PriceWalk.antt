@@ -17,11 +17,12 @@ use Rattle.facts.specs.Sums.{bit, sum, count}
 use Rattle.facts.proofs.Sums.{sum_cong, sum_add, sum_const, sum_scale, sum_none, sum_last, sum_stop, sum_more, term_le, bit_le, bit_other, count_cong, count_one, count_none, count_le}
 use Rattle.facts.proofs.Bools.{and_l, and_r}
 use Rattle.facts.proofs.Blocks.{block_before}
+use Rattle.facts.proofs.Reflect.{or_none}
 use Rattle.netlist.specs.declared.Capacities.{Capacities}
-use Rattle.netlist.specs.Kinds.{top_level, source_limit, mapped_limit, and, or, buffer, is_gate}
+use Rattle.netlist.specs.Kinds.{top_level, source_limit, mapped_limit, and, or, majority, buffer, majority5, among}
 use Rattle.netlist.specs.Records.{Netlist}
 use Rattle.netlist.specs.Source.{IsSource}
-use Rattle.netlist.specs.Counts.{gates}
+use Rattle.netlist.specs.Counts.{count_kind, count_of}
 use Rattle.netlist.proofs.Source.{no_buffer_lem}
 use Rattle.fanout.specs.Nets.{up, row, sinks, nodes_at, buffers_at, tree_size}
 use Rattle.fanout.proofs.Nets.{up_whole, up_part, le_up, fewest_sum, nodes_at_lem, nodes_none, row_length}
@@ -341,54 +342,76 @@ unfolding driver_price
 driver_is prices n first next end d p kind fed x h l e f g k =
     k ∙ ap₂ (price_of prices) g (f ∙ ap₂ (λ (a b : ℕ). bit (ltb a b)) (e ∙ h.firsts d l) h.stop)
 
--- where all gates cost the same, a source's records cost that for each gate
-module _ (prices : List ℕ) (p : ℕ) (h : same_gates prices p ≡ true) where
-  both_prices : (kind fed : ℕ) → both_are prices p kind ≡ true → fed ≤ 1 → price_of prices kind fed ≡ p
-  unfolding both_are
-  both_prices kind zero b l = sym (eqb-true _ _ (and_l (eqb p (price_of prices kind 0)) _ b))
-  both_prices kind (suc zero) b l = sym (eqb-true _ _ (and_r (eqb p (price_of prices kind 0)) _ b))
-  both_prices kind (suc (suc fed)) b l = absurd (omega arith)
+-- both prices of a kind
+both_prices : (prices : List ℕ) (p kind fed : ℕ) → both_are prices p kind ≡ true → fed ≤ 1 → price_of prices kind fed ≡ p
+unfolding both_are
+both_prices prices p kind zero b l = sym (eqb-true _ _ (and_l (eqb p (price_of prices kind 0)) _ b))
+both_prices prices p kind (suc zero) b l = sym (eqb-true _ _ (and_r (eqb p (price_of prices kind 0)) _ b))
+both_prices prices p kind (suc (suc fed)) b l = absurd (omega arith)
 
-  gate_both : (kind : ℕ) → 1 ≤ kind → kind ≤ 3 → both_are prices p kind ≡ true
+-- where AND, OR and MAJ cost the same and MAJ5 has one price, a source's records cost that for each gate
+module _ (prices : List ℕ) (p q : ℕ) (h : same_gates prices p q ≡ true) where
+  small_both : (kind : ℕ) → 1 ≤ kind → kind ≤ 3 → both_are prices p kind ≡ true
   unfolding same_gates
-  gate_both zero a b = absurd (omega arith)
-  gate_both (suc zero) a b = and_l (both_are prices p and) _ h
-  gate_both (suc (suc zero)) a b = and_l (both_are prices p or) _ (and_r (both_are prices p and) _ h)
-  gate_both (suc (suc (suc zero))) a b = and_r (both_are prices p or) _ (and_r (both_are prices p and) _ h)
-  gate_both (suc (suc (suc (suc kind)))) a b = absurd (omega arith)
+  small_both zero a b = absurd (omega arith)
+  small_both (suc zero) a b = and_l (both_are prices p and) _ h
+  small_both (suc (suc zero)) a b = and_l (both_are prices p or) _ (and_r (both_are prices p and) _ h)
+  small_both (suc (suc (suc zero))) a b = and_l (both_are prices p majority) _ (and_r (both_are prices p or) _ (and_r (both_are prices p and) _ h))
+  small_both (suc (suc (suc (suc kind)))) a b = absurd (omega arith)
 
-  same_driver : (n : Netlist) (d : ℕ) → IsSource n → d < n.size → driver_price prices n d ≡ p * bit (is_gate (n.at d).kind)
-  unfolding driver_price
-  same_driver n d s l = go (is_gate (n.at d).kind) refl
+  five_both : both_are prices q majority5 ≡ true
+  unfolding same_gates
+  five_both = and_r (both_are prices p majority) _ (and_r (both_are prices p or) _ (and_r (both_are prices p and) _ h))
+
+  -- the price of a kind that feeds at most one slot, and is no buffer
+  same_kind : (kind fed : ℕ) → fed ≤ 1 → (kind ≡ buffer → ⊥) → price_of prices kind fed ≡ p * bit (among and majority kind) + q * bit (eqb kind majority5)
+  same_kind kind fed l n = go (among and majority kind) (eqb kind majority5) refl refl
     where
-      kind : ℕ
-      kind = (n.at d).kind
+      go : (a b : Bool) → among and majority kind ≡ a → eqb kind majority5 ≡ b → price_of prices kind fed ≡ p * bit a + q * bit b
+      go true true e f = absurd (omega (arith, leb-true kind 3 (and_r (leb 1 kind) _ e), eqb-true kind majority5 f))
+      go true false e f =
+          both_prices prices p kind fed (small_both kind (leb-true 1 kind (and_l (leb 1 kind) _ e)) (leb-true kind 3 (and_r (leb 1 kind) _ e))) l
+          ∙ omega (arith, mul-zero q)
+      go false true e f =
+          both_prices prices q kind fed (ap (both_are prices q) (eqb-true kind majority5 f) ∙ five_both) l ∙ omega (arith, mul-zero p)
+      go false false e f =
+          no_price prices kind fed ((or_none _ _).1 (e, f)) (ne_eqb kind buffer n) ∙ omega (arith, mul-zero p, mul-zero q)
 
-      go : (b : Bool) → is_gate kind ≡ b → price_of prices kind (bit (ltb (next_sink n d 0) (slot_end n))) ≡ p * bit b
-      go true g =
-          both_prices kind _ (gate_both kind (leb-true 1 kind (and_l (leb 1 kind) _ g)) (leb-true kind 3 (and_r (leb 1 kind) _ g))) (bit_le (ltb (next_sink n d 0) (slot_end n))) ∙ omega arith
-      go false g = no_price prices kind _ g (ne_eqb kind buffer (no_buffer_lem n s d l refl)) ∙ omega (arith, mul-zero p)
+  same_driver : (n : Netlist) (d : ℕ) → IsSource n → d < n.size →
+      driver_price prices n d ≡ p * bit (among and majority (n.at d).kind) + q * bit (eqb (n.at d).kind majority5)
+  unfolding driver_price
+  same_driver n d s l = same_kind (n.at d).kind _ (bit_le (ltb (next_sink n d 0) (slot_end n))) (no_buffer_lem n s d l refl)
 
-pub gates_same : (prices : List ℕ) (n : Netlist) (N p g : ℕ) (b : Bool) → IsSource n → N ≡ n.size → b ≡ same_gates prices p → b ≡ true →
-    g ≡ gates n → g * p ≡ sum (driver_price prices n) N
-unfolding gates count
-gates_same prices n N p g b s e f t k =
-    ap (λ (x : ℕ). x * p) k
-    ∙ mul_comm _ p
-    ∙ sym (sum_scale p (λ d. bit (is_gate (n.at d).kind)) n.size)
-    ∙ sym (sum_cong _ _ n.size (λ d l. same_driver prices p (sym f ∙ t) n d s l))
+pub gates_same : (prices : List ℕ) (n : Netlist) (N p q small five : ℕ) (b : Bool) → IsSource n → N ≡ n.size → b ≡ same_gates prices p q → b ≡ true →
+    small ≡ count_kind n (among and majority) → five ≡ count_of n majority5 → small * p + five * q ≡ sum (driver_price prices n) N
+unfolding count
+gates_same prices n N p q small five b s e f t k m =
+    ap₂ ◌+◌ (ap (λ (x : ℕ). x * p) k ∙ mul_comm _ p) (ap (λ (x : ℕ). x * q) m ∙ mul_comm _ q)
+    ∙ sym (
+    sum_cong _ _ n.size (λ d l. same_driver prices p q (sym f ∙ t) n d s l)
+    ∙ sum_add (λ d. p * bit (among and majority (n.at d).kind)) (λ d. q * bit (eqb (n.at d).kind majority5)) n.size
+    ∙ ap₂ ◌+◌ (sum_scale p _ n.size) (sum_scale q _ n.size)
+    )
     ∙ ap (sum (driver_price prices n)) (sym e)
 
-module _ (n : Netlist) (s : IsSource n) (g : ℕ) (e : g ≡ gates n) where
-  few_gates : g ≤ source_limit
-  unfolding gates
-  few_gates = omega (arith, count_le (λ k. is_gate (n.at k).kind) n.size, s.few)
+-- a source has few records of some kinds, and their price is small
+module _ (n : Netlist) (s : IsSource n) (test : ℕ → Bool) (g : ℕ) (e : g ≡ count_kind n test) where
+  few_kinds : g ≤ source_limit
+  few_kinds = omega (arith, count_le (λ k. test (n.at k).kind) n.size, s.few)
 
-  pub gates_cast : Fits w32 g
-  gates_cast = omega (arith, few_gates)
+  pub kinds_cast : Fits w32 g
+  kinds_cast = omega (arith, few_kinds)
 
-  pub gates_fits : (p : ℕ) → p ≤ 255 → Fits w32 (g * p)
-  gates_fits p l = omega (arith, few_gates, mul-le-mul_left {m = p} {n = 255} g l, mul_comm g 255)
+  most_price : (p : ℕ) → p ≤ 255 → g * p ≤ 255 * source_limit
+  most_price p l = omega (arith, few_kinds, mul-le-mul_left {m = p} {n = 255} g l, mul_comm g 255)
+
+  pub kinds_fit : (p : ℕ) → p ≤ 255 → Fits w32 (g * p)
+  kinds_fit p l = omega (arith, most_price p l)
+
+pub gates_fit : (n : Netlist) (p q small five : ℕ) → IsSource n → small ≡ count_kind n (among and majority) → five ≡ count_of n majority5 → p ≤ 255 → q ≤ 255 →
+    Fits w32 (small * p + five * q)
+gates_fit n p q small five s k m a b =
+    omega (arith, most_price n s (among and majority) small k p a, most_price n s (λ x. eqb x majority5) five m q b)
 
 -- the drivers below d are priced
 pub record DriversPriced (prices : List ℕ) (n : Netlist) (total d : ℕ) : Type 0 where

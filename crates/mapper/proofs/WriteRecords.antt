@@ -1,21 +1,22 @@
 -- Laws of the records that are written: buffers on what they hang on, and the source's with other slots.
 use Prim.Native.Nat.{ℕ, zero, suc, ◌+◌, ◌-◌, ◌*◌, ◌≤◌, ◌<◌, ◌/◌}
 use mathlib.Core.Path.{◌≡◌, refl, sym, ◌∙◌, ap, ap₂}
-use mathlib.Core.List.{List, [], ◌∷◌}
+use mathlib.Core.List.{List}
 use native.Mathlib.Omega.{arith}
 use native.Mathlib.Nat.{add-zero, zero-add, div-le_self}
 use native.Mathlib.Numerals.{add-one}
 use mir.Val.{Fits}
 use mir.Syntax.{w16}
-use lib.ListN.{length, get_or}
+use lib.ListN.{length}
 use Rattle.facts.specs.Areas.{put}
+use Rattle.facts.specs.Lists.{tabulate}
 use Rattle.netlist.specs.declared.Record.{Record}
 use Rattle.netlist.specs.Kinds.{width, slots}
 use Rattle.netlist.specs.Records.{record_at}
 use Rattle.netlist.specs.Bytes.{encode, encoded}
 use Rattle.netlist.proofs.Bytes.{RecordsSoFar, written_more, written_end}
 use Rattle.mapper.specs.Mapped.{buffer_of}
-use Rattle.mapper.specs.PrivateWriting.{behind, level_record, line_parent, line_record, relinked, relinked_at}
+use Rattle.mapper.specs.PrivateWriting.{behind, level_record, line_parent, line_record, parent_at, relinked, relinked_at}
 
 -- what node q of distance k hangs on, by distance
 pub behind_near : (s k q base : ℕ) → k < 2 → base ≡ base + behind s k q
@@ -74,12 +75,11 @@ line_more area₀ d start low n area j h fanin r after room l e f g =
     written_more area₀ start (line_record d start low) n area j h r after room l
     (f ∙ ap₂ buffer_of (ap (λ (k : ℕ). low + k) (add-one j)) (e ∙ ap (line_parent d start) (add-one j))) g
 
--- the slots of a record, read from the array of parents one by one
-pub relinked_is : (r : Record) (parents : List ℕ) (i : ℕ) (area after : List ℕ) (a b c : ℕ) → a ≡ get_or parents (slots * i) 0 →
-    b ≡ get_or parents (slots * i + 1) 0 → c ≡ get_or parents (slots * i + 2) 0 →
-    after ≡ put area (width * i) (encode (record { kind = r.kind; inversion = r.inversion; level = r.level; slots = a ∷ b ∷ c ∷ [] })) →
+-- a record with the slots of the array of parents
+pub relinked_is : (r : Record) (parents : List ℕ) (i : ℕ) (area after read : List ℕ) → read ≡ tabulate (parent_at parents i) slots →
+    after ≡ put area (width * i) (encode (record { kind = r.kind; inversion = r.inversion; level = r.level; slots = read })) →
     after ≡ put area (width * i) (encode (relinked r parents i))
-relinked_is r parents i area after a b c e f g h = h ∙ rw (e, f, g, add-zero (slots * i)) refl
+relinked_is r parents i area after read e h = h ∙ rw e
 
 -- record i of the source: read, then written with its slots anew
 module _ (bytes parents area₀ : List ℕ) (n : ℕ) (area : List ℕ) (i : ℕ) (h : RecordsSoFar area₀ 0 (relinked_at bytes parents) n area i) where

@@ -2,7 +2,7 @@
 use Rattle.std.specs.Prelude.{ℕ, suc, ◌+◌, ◌-◌, ◌*◌, ◌/◌, ◌%◌, ◌≤◌, ◌<◌, ◌≡◌, Bool, cond, ◌&&◌, List, ltb, eqb}
 use Rattle.facts.specs.Sums.{bit, sum}
 use Rattle.netlist.specs.declared.Capacities.{Capacities}
-use Rattle.netlist.specs.Kinds.{top_level, and, or, majority, buffer}
+use Rattle.netlist.specs.Kinds.{top_level, and, or, majority, buffer, majority5}
 use Rattle.netlist.specs.Records.{Netlist}
 use Rattle.fanout.specs.Nets.{row, nodes_at}
 use Rattle.nets.specs.PrivateChains.{slot_end, next_sink}
@@ -44,9 +44,9 @@ same_buffers prices =
 unfoldable pub both_are : List ℕ → ℕ → ℕ → Bool
 both_are prices p kind = eqb p (price_of prices kind 0) && eqb p (price_of prices kind 1)
 
--- every gate costs p
-unfoldable pub same_gates : List ℕ → ℕ → Bool
-same_gates prices p = both_are prices p and && (both_are prices p or && both_are prices p majority)
+-- every AND, OR and MAJ costs p, and every MAJ5 q
+unfoldable pub same_gates : List ℕ → ℕ → ℕ → Bool
+same_gates prices p q = both_are prices p and && (both_are prices p or && (both_are prices p majority && both_are prices q majority5))
 
 -- d's tree to be priced: the row holds its nodes, none of them beyond top
 pub record NodesCounted (n : Netlist) (caps : Capacities) (d : ℕ) (counts : List ℕ) (top : ℕ) : Type 0 where

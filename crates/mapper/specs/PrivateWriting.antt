@@ -118,6 +118,10 @@ pub record Wrote (n : Netlist) (caps : Capacities) (d at : ℕ) (first next : Li
   pub parents : ParentsSet n caps first next (d + 1) end
   pub bytes : area ≡ with_records (mapped n caps) at (tree_size n caps d) area₀
 
+-- what the array of parents has for slot j of record i
+abbrev pub parent_at : List ℕ → ℕ → ℕ → ℕ
+parent_at parents i j = get_or parents (slots * i + j) 0
+
 -- record r of index i, its slots as the array of parents has them
 abbrev pub relinked : Record → List ℕ → ℕ → Record
 relinked r parents i =
@@ -125,7 +129,7 @@ relinked r parents i =
       kind = r.kind;
       inversion = r.inversion;
       level = r.level;
-      slots = tabulate (λ j. get_or parents (slots * i + j) 0) slots;
+      slots = tabulate (parent_at parents i) slots;
     }
 
 -- record i of the source so

@@ -9,7 +9,7 @@ ghost use Rattle.prices.specs.PrivatePrices.{AppliedPrices};
 ghost use Rattle.mapper.specs.PrivatePricing.{rest_price, level_price, tree_price, line_price, driver_price, same_buffers, both_are, same_gates, NodesCounted};
 
 use fanout::DISTANCES;
-use netlist::{AND, BUFFER, Capacities, MAJORITY, OR};
+use netlist::{AND, BUFFER, Capacities, MAJORITY, MAJORITY5, OR};
 use nets::numbers;
 use prices::LIST_LENGTH;
 
@@ -127,15 +127,16 @@ fn both_are(prices: &[u32; LIST_LENGTH], p: u32, kind: u8) -> bool
     none & one
 }
 
-// Whether all gates cost p.
-fn same_gates(prices: &[u32; LIST_LENGTH], p: u32) -> bool
+// Whether every AND, OR and MAJ costs p, and every MAJ5 q.
+fn same_gates(prices: &[u32; LIST_LENGTH], p: u32, q: u32) -> bool
     requires { AppliedPrices prices.now }
-    ensures { result ≡ same_gates prices.now p }
+    ensures { result ≡ same_gates prices.now p q }
 {
     let a = both_are(prices, p, AND);
     let b = both_are(prices, p, OR);
     let c = both_are(prices, p, MAJORITY);
-    a & (b & c)
+    let d = both_are(prices, q, MAJORITY5);
+    a & (b & (c & d))
 }
 
 // The price of all records of a source, one by one.
@@ -161,7 +162,7 @@ fn price_drivers(
     total
 }
 
-// The price of a source's gates: where all cost the same, their sinks are not looked at.
+// The price of a source's gates: where AND, OR and MAJ cost the same and MAJ5 has one price, their sinks are not looked at.
 pub(crate) fn price_gates(
     source: &[u8],
     n: usize,
@@ -176,8 +177,11 @@ pub(crate) fn price_gates(
     ensures { result ≡ sum (driver_price prices.now (netlist source.now)) n }
 {
     let p = prices::price_of(prices, AND, 0);
-    if same_gates(prices, p) {
-        return netlist::count_gates(source) as u32 * p;
+    let q = prices::price_of(prices, MAJORITY5, 0);
+    if same_gates(prices, p, q) {
+        let small = netlist::count_kinds(source, AND, MAJORITY) as u32;
+        let five = netlist::count_kind(source, MAJORITY5) as u32;
+        return small * p + five * q;
     }
     price_drivers(source, n, end, first, next, prices)
 }

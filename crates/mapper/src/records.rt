@@ -3,9 +3,10 @@ ghost use Rattle.std.specs.Prelude.{◌≡◌, ◌+◌, ◌*◌, ◌≤◌, leng
 ghost use Rattle.netlist.specs.Kinds.{width, slots};
 ghost use Rattle.netlist.specs.Records.{record_count};
 ghost use Rattle.facts.specs.Areas.{put};
+ghost use Rattle.facts.specs.Lists.{tabulate};
 ghost use Rattle.netlist.specs.Bytes.{encode, encoded};
 ghost use Rattle.mapper.specs.Mapped.{buffer_of};
-ghost use Rattle.mapper.specs.PrivateWriting.{relinked, relinked_at};
+ghost use Rattle.mapper.specs.PrivateWriting.{parent_at, relinked, relinked_at};
 
 use netlist::{BUFFER, Record, SLOTS, UNUSED, record_writer};
 
@@ -23,16 +24,25 @@ pub(crate) fn buffer_of(level: u16, fanin: u16) -> Record
     }
 }
 
+// The slots of record i as the array of parents has them.
+fn parents_of(parents: &[u16], i: usize) -> [u16; SLOTS]
+    requires { slots * i + slots ≤ length parents.now }
+    ensures { result ≡ tabulate (parent_at parents.now i) slots }
+{
+    let mut slots = [UNUSED; SLOTS];
+    let mut j: usize = 0;
+    while j < SLOTS {
+        slots[j] = parents[SLOTS * i + j];
+        j += 1;
+    }
+    slots
+}
+
 // Record r at its place i in the area, its slots as the array of parents has them.
 fn write_relinked(area: &mut [u8], i: usize, r: Record, parents: &[u16])
     requires { (width * i + width ≤ length area.old) × (slots * i + slots ≤ length parents.now) }
     ensures { area.new ≡ put area.old (width * i) (encode (relinked r parents.now i)) }
 {
-    let at = SLOTS * i;
-    let a = parents[at];
-    let b = parents[at + 1];
-    let c = parents[at + 2];
-    let slots = [a, b, c];
     record_writer::write_record(
         area,
         i,
@@ -40,7 +50,7 @@ fn write_relinked(area: &mut [u8], i: usize, r: Record, parents: &[u16])
             kind: r.kind,
             inversion: r.inversion,
             level: r.level,
-            slots,
+            slots: parents_of(parents, i),
         },
     );
 }

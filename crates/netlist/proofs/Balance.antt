@@ -1,12 +1,12 @@
 -- Laws of balanced and branched netlists: what a record may feed, what a buffer's slot names, and that records which feed no more than they may are properly branched.
 use Prim.Native.Nat.{ℕ, suc, ◌≤◌, ◌<◌}
-use mathlib.Core.Path.{◌≡◌, sym}
+use mathlib.Core.Path.{◌≡◌, refl, sym}
 use mathlib.Core.Bool.{Bool, true, false, cond}
 use lib.Dec.{lit<, leb, eqb}
 use native.Mathlib.Omega.{arith}
-use borrow.Author.Tests.{leb-true, le-leb, ne_eqb}
-use Rattle.facts.proofs.Reflect.{both}
-use Rattle.netlist.specs.Kinds.{input, and, majority, buffer, arity, is_gate}
+use borrow.Author.Tests.{le-leb, ne_eqb}
+use Rattle.facts.proofs.Bools.{true_false}
+use Rattle.netlist.specs.Kinds.{input, buffer, arity, is_gate}
 use Rattle.netlist.specs.Records.{Netlist, fanin, feeds}
 use Rattle.netlist.specs.declared.Capacities.{Capacities}
 use Rattle.netlist.specs.Capacities.{gate_capacity, most_input_capacity, capacity_of, Allowed}
@@ -32,10 +32,9 @@ module _ (caps : Capacities) (kind : ℕ) (a : Allowed caps) where
 -- a gate may feed one slot
 pub capacity_gate : (caps : Capacities) (kind : ℕ) → is_gate kind ≡ true → capacity_of caps kind ≡ gate_capacity
 capacity_gate caps kind e =
-    let h = (both (leb and kind) (leb kind majority)).0 e in
     rw (
-      ne_eqb kind buffer (λ b. omega (arith, leb-true kind majority h.1)),
-      ne_eqb kind input (λ i. omega (arith, leb-true and kind h.0)),
+      ne_eqb kind buffer (λ b. true_false false (rw b at e) refl),
+      ne_eqb kind input (λ i. true_false false (rw i at e) refl),
     )
 
 module _ (m : Netlist) where

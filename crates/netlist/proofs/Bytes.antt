@@ -7,18 +7,18 @@ use native.Mathlib.Omega.{arith}
 use native.Mathlib.Nat.{add-zero, add-suc, add_assoc, zero-add}
 use native.Mathlib.Numerals.{add-one}
 use native.Mathlib.Decide.{dec_lt}
-use lib.ListN.{length, get_or, drop}
-use lib.Seq.{sets, take_all, get_or-append-add, ext_get_or}
+use lib.ListN.{length, get_or, set, drop, drop_of_length-le}
+use lib.Seq.{take_all, get_or-append-add, ext_get_or}
 use Rattle.facts.specs.Bytes.{AreBytes, two_bytes}
 use Rattle.facts.specs.Lists.{tabulate, joined}
 use Rattle.facts.specs.Areas.{put, onto}
-use Rattle.facts.proofs.Lists.{length_tabulate, get_d_tabulate, length_joined, part_joined, get_or_joined, joined_cong, parts_joined}
+use Rattle.facts.proofs.Lists.{length_tabulate, get_d_tabulate, length_joined, part_joined, get_or_joined, joined_last, joined_cong, parts_joined}
 use Rattle.facts.proofs.Bytes.{two_back, two_from, two_below}
-use Rattle.facts.proofs.Areas.{put_none, length_put, put_behind, put_before, stored_whole}
+use Rattle.facts.proofs.Areas.{put_none, put_start, length_put, put_behind, put_before, sets_put}
 use Rattle.netlist.specs.declared.Record.{Record}
-use Rattle.netlist.specs.Kinds.{width, slots, unused}
-use Rattle.netlist.specs.Records.{Netlist, netlist, field, decode, slot, blank, record_count, record_bytes, record_at}
-use Rattle.netlist.specs.Bytes.{encode, encoded, recs, bytes_of}
+use Rattle.netlist.specs.Kinds.{width, level_place, slot_place, slots, unused}
+use Rattle.netlist.specs.Records.{Netlist, netlist, field, slot_field, decode, slot, blank, record_count, record_bytes, record_at}
+use Rattle.netlist.specs.Bytes.{slot_bytes, encode, encoded, recs, bytes_of}
 use Rattle.netlist.specs.PrivateBytes.{with_records, Fits}
 use Rattle.netlist.proofs.Records.{record_byte, record_inside, record_past, part_length}
 
@@ -34,28 +34,28 @@ pub length_recs : (m : Netlist) (i c : ℕ) → length (recs m i c) ≡ width * 
 length_recs m i c = length_encoded (λ k. m.at (i + k)) c
 
 -- the bytes of slot j
-slot_byte : (r : Record) (j c : ℕ) → j < slots → c < 2 → get_or (encode r) (4 + (2 * j + c)) 0 ≡ get_or (two_bytes (slot r j)) c 0
+slot_byte : (r : Record) (j c : ℕ) → j < slots → c < 2 → get_or (encode r) (slot_place + (2 * j + c)) 0 ≡ get_or (two_bytes (slot r j)) c 0
 unfolding encode
 slot_byte r j c l h =
-    get_or-append-add (r.kind ∷ r.inversion ∷ two_bytes r.level) (joined (λ j. two_bytes (slot r j)) slots) (2 * j + c) 0
+    get_or-append-add (r.kind ∷ r.inversion ∷ two_bytes r.level) (slot_bytes r slots) (2 * j + c) 0
     ∙ get_or_joined (λ j. two_bytes (slot r j)) 2 (λ i. refl) slots j c 0 l h
 
 -- slot j from its bytes
-slot_back : (r : Record) (j : ℕ) → Fits r → j < slots → field (encode r) (4 + 2 * j) ≡ slot r j
+slot_back : (r : Record) (j : ℕ) → Fits r → j < slots → slot_field (encode r) j ≡ slot r j
 slot_back r j h l =
     ap₂ (λ (a b : ℕ). a + 256 * b)
-    (ap (λ (y : ℕ). get_or (encode r) (4 + y) 0) (sym (add-zero (2 * j))) ∙ slot_byte r j 0 l (omega arith))
-    (ap (λ (y : ℕ). get_or (encode r) y 0) (add_assoc 4 (2 * j) 1) ∙ slot_byte r j 1 l (omega arith))
+    (ap (λ (y : ℕ). get_or (encode r) (slot_place + y) 0) (sym (add-zero (2 * j))) ∙ slot_byte r j 0 l (omega arith))
+    (ap (λ (y : ℕ). get_or (encode r) y 0) (add_assoc slot_place (2 * j) 1) ∙ slot_byte r j 1 l (omega arith))
     ∙ two_back (slot r j) (h.slots j)
 
 -- what holds of kind, inversion, both bytes of the level and those of every slot holds of each byte of a record
-each_byte : (P : ℕ → Type 0) → P 0 → P 1 → P 2 → P 3 → ((j c : ℕ) → j < slots → c < 2 → P (4 + (2 * j + c))) → (b : ℕ) → b < width → P b
+each_byte : (P : ℕ → Type 0) → P 0 → P 1 → P 2 → P 3 → ((j c : ℕ) → j < slots → c < 2 → P (slot_place + (2 * j + c))) → (b : ℕ) → b < width → P b
 each_byte P kind inversion low high slot zero l = kind
 each_byte P kind inversion low high slot (suc zero) l = inversion
 each_byte P kind inversion low high slot (suc (suc zero)) l = low
 each_byte P kind inversion low high slot (suc (suc (suc zero))) l = high
 each_byte P kind inversion low high slot (suc (suc (suc (suc b)))) l =
-    let e : 4 + (2 * (b / 2) + b % 2) ≡ suc (suc (suc (suc b))) = omega arith in
+    let e : slot_place + (2 * (b / 2) + b % 2) ≡ suc (suc (suc (suc b))) = omega arith in
     subst P e (slot (b / 2) (b % 2) (omega arith) (omega arith))
 
 -- the bytes of a record are bytes, if kind and inversion are
@@ -65,19 +65,19 @@ encode_below r kind inversion =
     each_byte (λ b. get_or (encode r) b 0 < 256) kind inversion (two_below r.level 0 (omega arith)) (two_below r.level 1 (omega arith))
     (λ j c l h. rw (slot_byte r j c l h) (two_below (slot r j) c h))
 
--- ten bytes are those of the record that they hold
+-- a record's bytes are those of the record that they hold
 encode_decode : (part : List ℕ) → length part ≡ width → ((b : ℕ) → b < width → get_or part b 0 < 256) → encode (decode part) ≡ part
 unfolding encode
 encode_decode part long below =
     ext_get_or 0 (encode (decode part)) part (length_encode (decode part) ∙ sym long)
     (λ b l.
-    each_byte (λ b. get_or (encode (decode part)) b 0 ≡ get_or part b 0) refl refl (field_byte 2 (omega arith) 0) (field_byte 2 (omega arith) 1)
+    each_byte (λ b. get_or (encode (decode part)) b 0 ≡ get_or part b 0) refl refl (field_byte level_place (omega arith) 0) (field_byte level_place (omega arith) 1)
     (λ j c l h.
     slot_byte (decode part) j c l h
-    ∙ ap (λ (v : ℕ). get_or (two_bytes v) c 0) (get_d_tabulate (λ j. field part (4 + 2 * j)) slots j unused l)
-    ∙ field_byte (4 + 2 * j) (omega arith) c
-    ∙ pair c (4 + 2 * j) h
-    ∙ ap (λ (i : ℕ). get_or part i 0) (add_assoc 4 (2 * j) c))
+    ∙ ap (λ (v : ℕ). get_or (two_bytes v) c 0) (get_d_tabulate (slot_field part) slots j unused l)
+    ∙ field_byte (slot_place + 2 * j) (omega arith) c
+    ∙ pair c (slot_place + 2 * j) h
+    ∙ ap (λ (i : ℕ). get_or part i 0) (add_assoc slot_place (2 * j) c))
     b (omega (arith, length_encode (decode part))))
   where
     field_byte : (at : ℕ) → at + 1 < width → (c : ℕ) → get_or (two_bytes (field part at)) c 0 ≡ get_or (get_or part at 0 ∷ get_or part (at + 1) 0 ∷ []) c 0
@@ -94,7 +94,7 @@ decode_encode r h =
     λ i. record { kind = r.kind; inversion = r.inversion; level = two_back r.level h.level i; slots = back i }
   where
     f : ℕ → ℕ
-    f j = field (encode r) (4 + 2 * j)
+    f = slot_field (encode r)
 
     back : tabulate f slots ≡ r.slots
     back =
@@ -217,14 +217,67 @@ module _ (area₀ : List ℕ) (at : ℕ) (f : ℕ → Record) (n : ℕ) where
         place : width * (at + j) ≡ width * at + length (encoded f j)
         place = omega (arith, length_encoded f j)
 
--- the ten bytes of a record, stored one by one
-pub stored : (part : List ℕ) (r : Record) (x y z l₁ l₂ x₁ x₂ y₁ y₂ z₁ z₂ : ℕ) → length part ≡ width →
-    x ≡ slot r 0 → y ≡ slot r 1 → z ≡ slot r 2 →
-    l₁ ≡ r.level % 256 → l₂ ≡ r.level / 256 % 256 → x₁ ≡ x % 256 → x₂ ≡ x / 256 % 256 →
-    y₁ ≡ y % 256 → y₂ ≡ y / 256 % 256 → z₁ ≡ z % 256 → z₂ ≡ z / 256 % 256 →
-    sets part 0 (r.kind ∷ r.inversion ∷ l₁ ∷ l₂ ∷ x₁ ∷ x₂ ∷ y₁ ∷ y₂ ∷ z₁ ∷ z₂ ∷ []) ≡ encode r
-unfolding encode joined
-stored part r x y z l₁ l₂ x₁ x₂ y₁ y₂ z₁ z₂ p a b c d e f g h i j k =
-    let bytes : List ℕ = r.kind ∷ r.inversion ∷ l₁ ∷ l₂ ∷ x₁ ∷ x₂ ∷ y₁ ∷ y₂ ∷ z₁ ∷ z₂ ∷ [] in
-    let same : bytes ≡ encode r = cc in
-    stored_whole part bytes width p refl ∙ same
+-- the first j slots of a record are stored
+pub record SlotsStored (part₀ : List ℕ) (r : Record) (part : List ℕ) (j : ℕ) : Type 0 where
+  pub within : j ≤ slots
+  pub whole : length part₀ ≡ width
+  pub long : length part ≡ width
+  pub bytes : part ≡ put part₀ slot_place (slot_bytes r j)
+
+length_slots : (r : Record) (j : ℕ) → length (slot_bytes r j) ≡ 2 * j
+length_slots r j = length_joined (λ j. two_bytes (slot r j)) 2 (λ j. refl) j
+
+module _ (part₀ : List ℕ) (r : Record) where
+  pub storing_start : length part₀ ≡ width → SlotsStored part₀ r part₀ 0
+  unfolding joined
+  storing_start e = record { within = omega arith; whole = e; long = e; bytes = sym (put_none part₀ slot_place) }
+
+  module _ (part : List ℕ) (j : ℕ) (h : SlotsStored part₀ r part j) where
+    pub storing_room : j < slots → slot_place + 2 * j + 1 < length part
+    storing_room l = omega (arith, h.long)
+
+    pub storing_more : (v : ℕ) (after : List ℕ) → j < slots → v ≡ slot r j → after ≡ put part (slot_place + 2 * j) (two_bytes v) →
+        SlotsStored part₀ r after (j + 1)
+    storing_more v after l e g =
+        record {
+          within = omega arith;
+          whole = h.whole;
+          long = ap length g ∙ length_put part (slot_place + 2 * j) (two_bytes v) (omega (arith, h.long)) ∙ h.long;
+          bytes =
+              rw (g, e, h.bytes, place, joined_last (λ j. two_bytes (slot r j)) j)
+              (put_behind part₀ slot_place (slot_bytes r j) (two_bytes (slot r j)) (omega (arith, h.whole, length_slots r j)));
+        }
+      where
+        place : slot_place + 2 * j ≡ slot_place + length (slot_bytes r j)
+        place = omega (arith, length_slots r j)
+
+    pub storing_end : slots ≤ j → part ≡ put part₀ slot_place (slot_bytes r slots)
+    storing_end l = let e : slots ≡ j = omega (arith, h.within) in rw e h.bytes
+
+-- kind, inversion and level stored, then the slots: the whole record
+module _ (part levelled : List ℕ) (r : Record) (p : length part ≡ width)
+    (e : levelled ≡ put (set (set part 0 r.kind) 1 r.inversion) level_place (two_bytes r.level)) where
+  abbrev two : List ℕ
+  two = r.kind ∷ r.inversion ∷ []
+
+  header : levelled ≡ put part 0 (two ++ two_bytes r.level)
+  header =
+      e
+      ∙ ap (λ (l : List ℕ). put l level_place (two_bytes r.level)) (sets_put two part 0 (omega arith))
+      ∙ put_behind part 0 two (two_bytes r.level) (omega arith)
+
+  pub levelled_long : length levelled ≡ width
+  levelled_long = ap length header ∙ length_put part 0 (two ++ two_bytes r.level) (omega arith) ∙ p
+
+  pub stored : (after : List ℕ) → after ≡ put levelled slot_place (slot_bytes r slots) → after ≡ encode r
+  unfolding encode
+  stored after f =
+      f
+      ∙ ap (λ (l : List ℕ). put l slot_place (slot_bytes r slots)) header
+      ∙ put_behind part 0 (two ++ two_bytes r.level) (slot_bytes r slots) (omega arith)
+      ∙ put_start part (encode r)
+      ∙ ap (λ (l : List ℕ). encode r ++ l) (drop_of_length-le part {i = length (encode r)} (omega (arith, length_encode r)))
+      ∙ append-nil (encode r)
+
+  pub stored_long : (after : List ℕ) → after ≡ put levelled slot_place (slot_bytes r slots) → length after ≡ length part
+  stored_long after f = ap length (stored after f) ∙ length_encode r ∙ sym p

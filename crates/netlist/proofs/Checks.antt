@@ -1,14 +1,13 @@
 -- Laws of checks 2 to 7, with premises as the code has them: what each test gives of the check's answer.
 use Prim.Native.Nat.{ℕ, zero, suc, ◌+◌, ◌*◌, ◌%◌, ◌^◌, ◌<◌, ◌≤◌}
-use native.Mathlib.Decide.{dec_lt}
+use native.Mathlib.Decide.{dec_lt, ℕ_discrete}
 use native.Mathlib.Nat.{one-mul, mod-eq_of_lt}
 use native.Mathlib.Numerals.{add-one}
 use native.Mathlib.Omega.{arith}
 use mathlib.Core.Path.{◌≡◌, refl, sym, ap, ◌∙◌}
-use mathlib.Core.Logic.{◌≢◌}
 use mathlib.Core.Bool.{Bool, true, false, cond, not, ◌&&◌, ◌||◌}
 use mathlib.Core.List.{List, []}
-use lib.ListN.{length, get_or-eq_default}
+use lib.ListN.{length}
 use lib.Pow.{pow-lt}
 use mir.Syntax.{w8}
 use mir.Val.{Fits}
@@ -18,16 +17,16 @@ use Rattle.facts.specs.declared.Checked.{Checked}
 use Rattle.facts.specs.declared.Checked.TheVariants.{Passed, Refused}
 use Rattle.facts.specs.Checks.{check, ◌and_then◌, scan}
 use Rattle.facts.specs.Sums.{any, seek}
-use Rattle.facts.proofs.Bools.{and_r, or_false, or_r}
+use Rattle.facts.proofs.Bools.{true_false, or_false, or_r}
 use Rattle.facts.proofs.Sums.{any_none}
 use Rattle.facts.proofs.Reflect.{check_passed, then_passed, or_none, most_none, side_is}
 use Rattle.facts.proofs.Loops.{Seeking, seek_start, seek_more, seek_here, seek_end}
 use Rattle.netlist.specs.declared.Record.{Record}
-use Rattle.netlist.specs.Kinds.{width, slots, unused, top_level, source_limit, input, and, majority, output, buffer, arities, arity, is_gate, invertible}
+use Rattle.netlist.specs.Kinds.{width, slots, unused, top_level, source_limit, buffer, input, and, or, majority, output, majority5, kinds, arity, among, is_gate, is_driver, invertible}
 use Rattle.netlist.specs.Records.{Netlist, netlist, record_count, record_bytes, record_at, slot, is_output, depth}
 use Rattle.netlist.specs.Checks.{ragged, too_many, bad_level, size_checks, bad_kind, bad_inversion, bad_slot, bad_slots, not_below, misplaced, structure_of, level_of, record_checks, source_checks}
 use Rattle.netlist.specs.View.{view_of}
-use Rattle.netlist.proofs.Records.{record_past}
+use Rattle.netlist.proofs.Records.{no_arity, record_past}
 
 wide : ℕ → Bool
 wide kind = ltb slots (arity kind)
@@ -36,9 +35,9 @@ wide kind = ltb slots (arity kind)
 pub arity_slots : (kind : ℕ) → arity kind ≤ slots
 unfolding any wide
 arity_slots kind =
-    elim (dec_lt kind 6) [
-      | yes l ↦ ltb-false slots (arity kind) ((any_none wide 6).0 refl kind l)
-      | no g ↦ omega (arith, get_or-eq_default arities 0 (let h : 6 ≤ kind = omega arith in h))
+    elim (dec_lt kind kinds) [
+      | yes l ↦ ltb-false slots (arity kind) ((any_none wide kinds).0 refl kind l)
+      | no g ↦ omega (arith, no_arity kind (omega arith))
     ]
 
 -- nor does any invert more
@@ -49,6 +48,28 @@ invertible_slots kind = go (is_gate kind)
     go true = arity_slots kind
     go false = omega arith
 
+-- gates and drivers, by the tests of the code
+module _ (kind : ℕ) (b : Bool) where
+  pub gate_range : b ≡ among and majority kind → b ≡ true → true ≡ is_gate kind
+  gate_range e t = rw (← e, t)
+
+  pub gate_five : b ≡ among and majority kind → b ≡ false → eqb kind majority5 ≡ is_gate kind
+  gate_five e f = rw (← e, f)
+
+  pub driver_gate : (kind ≡ input → ⊥) → b ≡ is_gate kind → b ≡ is_driver kind
+  driver_gate n e = e ∙ rw (ne_eqb kind input n)
+
+pub driver_input : (kind : ℕ) → kind ≡ input → true ≡ is_driver kind
+driver_input kind e = rw (eq-eqb kind input e)
+
+-- a gate is a kind of the table
+pub gate_kind : (kind : ℕ) → is_gate kind ≡ true → kind < kinds
+gate_kind kind g =
+    elim (dec_lt kind kinds) [
+      | yes l ↦ l
+      | no h ↦ absurd (true_false (is_gate kind) g (rw (le-leb and kind (omega arith), lt-leb kind majority (omega arith)) (ne_eqb kind majority5 (λ e. h (omega arith)))))
+    ]
+
 -- a kind that is no gate uses at most one slot, a gate at least two, and a kind that is no input at least one
 several : ℕ → Bool
 several kind = not (is_gate kind) && ltb 1 (arity kind)
@@ -56,33 +77,51 @@ several kind = not (is_gate kind) && ltb 1 (arity kind)
 single : ℕ → Bool
 single kind = is_gate kind && ltb (arity kind) 2
 
+many : ℕ → Bool
+many kind = not (eqb kind majority5) && ltb 3 (arity kind)
+
 none : ℕ → Bool
 none kind = not (eqb kind input) && ltb (arity kind) 1
 
 pub other_arity : (kind : ℕ) (g : Bool) → g ≡ is_gate kind → not g ≡ true → arity kind ≤ 1
 unfolding any several
 other_arity kind g is f =
-    elim (dec_lt kind 6) [
-      | yes l ↦ let h = (any_none several 6).0 refl kind l in ltb-false 1 (arity kind) (rw (← is, f) at h)
-      | no h ↦ omega (arith, get_or-eq_default arities 0 (let h : 6 ≤ kind = omega arith in h))
+    elim (dec_lt kind kinds) [
+      | yes l ↦ let h = (any_none several kinds).0 refl kind l in ltb-false 1 (arity kind) (rw (← is, f) at h)
+      | no h ↦ omega (arith, no_arity kind (omega arith))
     ]
+
+-- all but a MAJ5 use at most three
+pub three_arity : (kind : ℕ) → (kind ≡ majority5 → ⊥) → arity kind ≤ 3
+unfolding any many
+three_arity kind n =
+    elim (dec_lt kind kinds) [
+      | yes l ↦ (let h = (any_none many kinds).0 refl kind l in ltb-false 3 (arity kind) (rw (ne_eqb kind majority5 n) at h))
+      | no h ↦ omega (arith, no_arity kind (omega arith))
+    ]
+
+-- so as many as a MAJ uses are enough
+pub few_used : (kind a : ℕ) → (kind ≡ majority5 → ⊥) → a ≡ arity majority → arity kind ≤ a
+few_used kind a n e = omega (arith, three_arity kind n)
+
+pub few_slots : (a : ℕ) → a ≡ arity majority → a ≤ slots
+few_slots a e = omega arith
+
+-- one of the first slots is a slot
+pub counted_slot : (j count : ℕ) → j < count → count ≤ slots → j < slots
+counted_slot j count l h = omega arith
 
 pub gate_arity : (kind : ℕ) (g : Bool) → g ≡ is_gate kind → g ≡ true → 1 < arity kind
 unfolding any single
 gate_arity kind g is f =
-    let top : kind ≤ majority = leb-true kind majority (and_r (leb and kind) (leb kind majority) (sym is ∙ f)) in
-    let h = (any_none single 6).0 refl kind (omega arith) in
+    let h = (any_none single kinds).0 refl kind (gate_kind kind (sym is ∙ f)) in
     omega (arith, ltb-false (arity kind) 2 (rw (← is, f) at h))
 
-pub fanin_arity : (kind : ℕ) → (kind ≡ input → ⊥) → kind ≤ buffer → 0 < arity kind
+pub fanin_arity : (kind : ℕ) → (kind ≡ input → ⊥) → kind < kinds → 0 < arity kind
 unfolding any none
 fanin_arity kind o l =
-    let h = (any_none none 6).0 refl kind (omega arith) in
+    let h = (any_none none kinds).0 refl kind l in
     omega (arith, ltb-false (arity kind) 1 (rw (ne_eqb kind input o) at h))
-
--- not 0, 1 or 2 slots: all
-pub all_used : (kind used : ℕ) → used ≡ arity kind → used ≢ 0 → used ≢ 1 → used ≢ 2 → used ≡ slots
-all_used kind used e o p q = omega (arith, arity_slots kind)
 
 -- how many values an inversion byte may have: a gate one bit for each slot, the others none
 module _ (kind : ℕ) (g : Bool) (is : g ≡ is_gate kind) where
@@ -202,29 +241,99 @@ module _ (bytes : List ℕ) where
           go false false p q = refl
 
       -- the level met so far serves record k as D: it is D where the record is an output, and no other record is held to it
-      pub met_serves : misplaced x r ≡ misplaced (depth (netlist bytes)) r
+      pub met_serves : misplaced x (record_at bytes k) ≡ misplaced (depth (netlist bytes)) (record_at bytes k)
       unfolding any
-      met_serves = rw e (go (is_output (netlist bytes) k) refl)
+      met_serves = go (is_output (netlist bytes) k) refl
         where
           go : (b : Bool) → is_output (netlist bytes) k ≡ b → misplaced x (record_at bytes k) ≡ misplaced (depth (netlist bytes)) (record_at bytes k)
           go true o = ap (λ (y : ℕ). misplaced y (record_at bytes k)) ((met_more (seen || eqb r.kind output) refl).level_met ∙ rw (add-one k, o, or_r (met k) true refl))
           go false o = rw o
 
-    pub record_checked : (a : Checked) → a ≡ (structure_of (netlist bytes) k r and_then level_of (netlist bytes) k r) → a ≡ record_checks (netlist bytes) k
-    record_checked a f = f ∙ ap (λ (x : Record). structure_of (netlist bytes) k x and_then level_of (netlist bytes) k x) e
+    -- its checks one after the other
+    pub structure_stops : (a : Checked) (number place : ℕ) → a ≡ structure_of (netlist bytes) k r → a ≡ Refused number place → Refused number place ≡ record_checks (netlist bytes) k
+    structure_stops a number place f h = rw (← e, ← f, h)
 
-module _ (m : Netlist) (k : ℕ) (r : Record) where
-  module _ (l : r.kind ≤ output) (x : ℕ) (e : x ≡ 2 ^ invertible r.kind) where
+    pub structure_passes : (a b : Checked) → a ≡ structure_of (netlist bytes) k r → a ≡ Passed → b ≡ level_of (netlist bytes) k r → b ≡ record_checks (netlist bytes) k
+    structure_passes a b f h g = g ∙ rw (← e, ← f, h)
+
+-- a kind of a source, by the tests of check 4
+pub kind_buffer : (r : Record) → r.kind ≡ buffer → true ≡ bad_kind r
+kind_buffer r e = rw (eq-eqb r.kind buffer e)
+
+pub kind_high : (r : Record) → (r.kind ≡ buffer → ⊥) → ltb majority5 r.kind ≡ bad_kind r
+kind_high r n = rw (ne_eqb r.kind buffer n)
+
+-- a kind of the table that is no buffer is one of a source's six: one test
+unnamed : ℕ → Bool
+unnamed kind =
+    not (eqb kind buffer)
+    && (not (eqb kind input) && (not (eqb kind and) && (not (eqb kind or) && (not (eqb kind majority) && (not (eqb kind output) && not (eqb kind majority5))))))
+
+-- a kind that no arm of the code names is refused
+module _ (m : Netlist) (k kind : ℕ) (e : kind ≡ (m.at k).kind) (i : kind ≡ input → ⊥) (a : kind ≡ and → ⊥) (o : kind ≡ or → ⊥) (j : kind ≡ majority → ⊥)
+    (p : kind ≡ output → ⊥) (f : kind ≡ majority5 → ⊥) where
+  none_named : (kind ≡ buffer → ⊥) → majority5 < kind
+  unfolding any unnamed
+  none_named b =
+      elim (dec_lt majority5 kind) [
+        | yes l ↦ l
+        | no l ↦
+            absurd (
+            true_false (unnamed kind)
+            (rw (
+              ne_eqb kind buffer b,
+              ne_eqb kind input i,
+              ne_eqb kind and a,
+              ne_eqb kind or o,
+              ne_eqb kind majority j,
+              ne_eqb kind output p,
+              ne_eqb kind majority5 f,
+            ) refl)
+            ((any_none unnamed kinds).0 refl kind (omega arith))
+            )
+      ]
+
+  pub kind_none : Refused 4 k ≡ structure_of m k (m.at k)
+  kind_none =
+      elim (ℕ_discrete kind buffer) [
+        | yes b ↦ rw (← e, eq-eqb kind buffer b)
+        | no n ↦ rw (← e, ne_eqb kind buffer n, lt-ltb majority5 kind (none_named n))
+      ]
+
+  pub record_unnamed : Refused 4 k ≡ record_checks m k
+  record_unnamed = ap (λ (x : Checked). x and_then level_of m k (m.at k)) kind_none
+
+-- a record that was read: its kind, its number of slots, and D for it
+module _ (q r : Record) (e : r ≡ q) where
+  pub kind_read : r.kind ≡ q.kind
+  kind_read = ap (λ (r : Record). r.kind) e
+
+  pub used_read : (a : ℕ) → a ≡ arity q.kind → a ≡ arity r.kind
+  used_read a f = f ∙ ap (λ (r : Record). arity r.kind) (sym e)
+
+  pub misplaced_read : (x y : ℕ) → misplaced x q ≡ misplaced y q → misplaced x r ≡ misplaced y r
+  misplaced_read x y f = rw e f
+
+-- the slots of the kind that an arm names
+pub arm_used : (kind named a : ℕ) (q : Record) → kind ≡ q.kind → kind ≡ named → a ≡ arity named → a ≡ arity q.kind
+arm_used kind named a q e f g = g ∙ ap arity (sym f ∙ e)
+
+module _ (m : Netlist) (k : ℕ) (r : Record) (a : Bool) (l : a ≡ bad_kind r) where
+  pub kind_bad : a ≡ true → Refused 4 k ≡ structure_of m k r
+  kind_bad t = rw (← l, t)
+
+  module _ (z : a ≡ false) (x : ℕ) (e : x ≡ 2 ^ invertible r.kind) where
     pub inversion_bad : x ≤ r.inversion → Refused 5 k ≡ structure_of m k r
-    inversion_bad h = rw (le-ltb output r.kind l, ← e, le-leb x r.inversion h)
+    inversion_bad h = rw (← l, z, ← e, le-leb x r.inversion h)
 
     module _ (h : r.inversion < x) (b : Bool) (g : b ≡ bad_slots m k r) where
       pub slots_bad : b ≡ true → Refused 6 k ≡ structure_of m k r
-      slots_bad t = rw (← g, t, le-ltb output r.kind l, ← e, lt-leb x r.inversion h)
+      slots_bad t = rw (← g, t, ← l, z, ← e, lt-leb x r.inversion h)
 
       pub structure_good : b ≡ false → Passed ≡ structure_of m k r
-      structure_good t = rw (← g, t, le-ltb output r.kind l, ← e, lt-leb x r.inversion h)
+      structure_good t = rw (← g, t, ← l, z, ← e, lt-leb x r.inversion h)
 
+module _ (m : Netlist) (k : ℕ) (r : Record) where
   module _ (deep : ℕ) (d : misplaced deep r ≡ misplaced (depth m) r) (b : Bool) (e : b ≡ misplaced deep r) where
     pub misplaced_bad : b ≡ true → true ≡ bad_level m r
     misplaced_bad t = rw (← d, ← e, t)

@@ -1,15 +1,19 @@
 -- Laws of counts by kind: the loop that counts, one kind as a range of one, and the gates as a range.
 use Prim.Native.Nat.{ℕ, ◌+◌, ◌^◌, ◌<◌, ◌≤◌}
+use native.Mathlib.Decide.{ℕ_discrete}
+use native.Mathlib.Nat.{add-zero}
 use native.Mathlib.Numerals.{add-one}
 use native.Mathlib.Omega.{arith}
-use mathlib.Core.Path.{◌≡◌, refl, ◌∙◌, ap}
+use mathlib.Core.Path.{◌≡◌, refl, sym, ◌∙◌, ap, ap₂}
 use mathlib.Core.Bool.{Bool, true, false}
+use mir.Val.{Fits}
+use mir.Syntax.{w64}
 use lib.Dec.{leb, eqb}
-use borrow.Author.Tests.{leb-true, le-leb, eqb-true, eqb-false}
+use borrow.Author.Tests.{leb-true, le-leb, eqb-true, eqb-false, ne_eqb}
 use Rattle.facts.specs.Sums.{bit, sum, count}
-use Rattle.facts.proofs.Bools.{and_l, and_r, not_true}
-use Rattle.facts.proofs.Sums.{bit_le, count_cong}
-use Rattle.netlist.specs.Kinds.{and, majority, among}
+use Rattle.facts.proofs.Bools.{and_l, and_r, or_false, not_true}
+use Rattle.facts.proofs.Sums.{bit_le, count_cong, count_le, sum_add, sum_cong}
+use Rattle.netlist.specs.Kinds.{mapped_limit, and, majority, majority5, among, is_gate}
 use Rattle.netlist.specs.Records.{Netlist}
 use Rattle.netlist.specs.Counts.{count_kind, count_of, gates}
 
@@ -53,6 +57,23 @@ among_one a k = go (eqb k a) refl
 pub one_kind : (m : Netlist) (kind x : ℕ) → x ≡ count_kind m (among kind kind) → x ≡ count_of m kind
 one_kind m kind x e = e ∙ count_cong _ _ m.size (λ i l. among_one kind (m.at i).kind)
 
-pub gates_counted : (m : Netlist) (x : ℕ) → x ≡ count_kind m (among and majority) → x ≡ gates m
-unfolding gates
-gates_counted m x e = e
+-- a gate is of the range from AND to MAJ or a MAJ5, and of one of both
+gate_bits : (kind : ℕ) → bit (is_gate kind) ≡ bit (among and majority kind) + bit (eqb kind majority5)
+gate_bits kind =
+    elim (ℕ_discrete kind majority5) [
+      | yes e ↦ rw e refl
+      | no n ↦ rw (ne_eqb kind majority5 n, or_false (among and majority kind)) (sym (add-zero (bit (among and majority kind))))
+    ]
+
+pub gates_sum : (m : Netlist) → gates m ≡ count_kind m (among and majority) + count_of m majority5
+unfolding gates count
+gates_sum m =
+    sum_cong _ _ m.size (λ k l. gate_bits (m.at k).kind)
+    ∙ sum_add (λ k. bit (among and majority (m.at k).kind)) (λ k. bit (eqb (m.at k).kind majority5)) m.size
+
+pub gates_counted : (m : Netlist) (x y : ℕ) → x ≡ count_kind m (among and majority) → y ≡ count_of m majority5 → x + y ≡ gates m
+gates_counted m x y e f = ap₂ ◌+◌ e f ∙ sym (gates_sum m)
+
+pub gates_fit : (m : Netlist) (x y : ℕ) → m.size ≤ mapped_limit → x ≡ count_kind m (among and majority) → y ≡ count_of m majority5 → Fits w64 (x + y)
+gates_fit m x y l e f =
+    omega (arith, count_le (λ k. among and majority (m.at k).kind) m.size, count_le (λ k. eqb (m.at k).kind majority5) m.size)

@@ -7,14 +7,15 @@ use mathlib.Core.Logic.{◌≢◌}
 use mathlib.Core.List.{List}
 use lib.ListN.{length, get_or, set, length-set}
 use lib.Seq.{get_or-set_same, get_or-set_other}
+use Rattle.facts.specs.Areas.{put}
 use Rattle.facts.specs.Bytes.{two_bytes}
 use Rattle.facts.proofs.Areas.{length_put}
 use Rattle.facts.proofs.Bytes.{two_back, stores_two}
 use Rattle.facts.proofs.Lists.{tabulate_cong}
 use Rattle.netlist.specs.declared.Record.{Record}
-use Rattle.netlist.specs.Kinds.{width, slots}
+use Rattle.netlist.specs.Kinds.{width, level_place, slots}
 use Rattle.netlist.specs.Records.{field, record_bytes, record_at}
-use Rattle.netlist.specs.Bytes.{level_place, with_level, with_levels}
+use Rattle.netlist.specs.Bytes.{with_level, with_levels}
 use Rattle.netlist.proofs.Records.{record_byte, record_inside}
 
 -- the level of one record set
@@ -22,16 +23,18 @@ module _ (bytes : List ℕ) (k v : ℕ) (room : width * k + width ≤ length byt
   abbrev place : ℕ
   place = width * k + level_place
 
-  -- its two bytes, stored one by one
-  pub second_inside : (a : ℕ) → place + 1 < length (set bytes place a)
+  -- its two bytes put at their place
+  pub level_put : (after : List ℕ) → after ≡ put bytes place (two_bytes v) → after ≡ with_level bytes k v
+  unfolding with_level
+  level_put after e = e
+
+  -- stored one by one
+  second_inside : (a : ℕ) → place + 1 < length (set bytes place a)
   second_inside a = omega (arith, length-set bytes place a)
 
-  pub level_stored : (a b : ℕ) → a ≡ v % 256 → b ≡ v / 256 % 256 → set (set bytes place a) (place + 1) b ≡ with_level bytes k v
-  unfolding with_level
-  level_stored a b = stores_two bytes place v a b (omega arith)
-
   stored : set (set bytes place (v % 256)) (place + 1) (v / 256 % 256) ≡ with_level bytes k v
-  stored = level_stored (v % 256) (v / 256 % 256) refl refl
+  unfolding with_level
+  stored = stores_two bytes place v (v % 256) (v / 256 % 256) (omega arith) refl refl
 
   length_level : length (with_level bytes k v) ≡ length bytes
   unfolding with_level

@@ -1,30 +1,32 @@
--- Laws of records read off bytes: within the end a record is its ten bytes, from the end on it is blank.
-use Prim.Native.Nat.{ℕ, ◌+◌, ◌-◌, ◌*◌, ◌<◌, ◌≤◌}
+-- Laws of records read off bytes: within the end a record is its bytes, from the end on it is blank.
+use Prim.Native.Nat.{ℕ, suc, ◌+◌, ◌-◌, ◌*◌, ◌<◌, ◌≤◌}
 use native.Mathlib.Nat.{add-sub_cancel_left}
-use native.Mathlib.Decide.{ℕ_discrete, dec_lt}
+use native.Mathlib.Decide.{dec_lt}
 use native.Mathlib.Omega.{arith}
 use mathlib.Core.Path.{◌≡◌, sym, ap, ◌∙◌}
+use mathlib.Core.Bool.{false, not, ◌&&◌}
 use mathlib.Core.List.{List}
 use lib.ListN.{length, get_or, take, drop, length-take, length-drop, get_or-eq_default}
 use lib.Seq.{get_or-take, get_or-drop}
+use lib.Dec.{leb, eqb}
 use borrow.Author.Tests.{lt-ltb, le-ltb}
+use Rattle.facts.specs.Sums.{any}
+use Rattle.facts.proofs.Lists.{table_range}
 use Rattle.netlist.specs.declared.Record.{Record}
-use Rattle.netlist.specs.Kinds.{width, slots, arities, arity}
+use Rattle.netlist.specs.Kinds.{width, slots, arities, kinds, arity}
 use Rattle.netlist.specs.Records.{decode, blank, record_count, record_bytes, record_at}
 
+-- the slots of the kinds from the first to before the last, if all have as many
+pub arity_range : (first end v kind : ℕ) → any (λ k. leb first k && not (eqb (arity k) v)) end ≡ false → first ≤ kind → kind < end → v ≡ arity kind
+arity_range first end v kind = table_range arities 0 first end v kind
+
+-- a kind that is at least another, and not that one
+pub past_kind : (kind other : ℕ) → other ≤ kind → (kind ≡ other → ⊥) → suc other ≤ kind
+past_kind kind other l n = omega arith
+
 -- a kind past the table uses no slot
-pub no_arity : (kind : ℕ) → 6 ≤ kind → 0 ≡ arity kind
+pub no_arity : (kind : ℕ) → kinds ≤ kind → 0 ≡ arity kind
 no_arity kind h = sym (get_or-eq_default arities 0 h)
-
--- the kinds that use two slots, one, or none
-pub two_slots : (kind : ℕ) → 1 ≤ kind → kind < 3 → 2 ≡ arity kind
-two_slots kind l h = elim (ℕ_discrete kind 1) [ yes e ↦ rw e | no n ↦ (let e : kind ≡ 2 = omega arith in rw e) ]
-
-pub one_slot : (kind : ℕ) → 3 ≤ kind → (kind ≡ 3 → ⊥) → kind < 6 → 1 ≡ arity kind
-one_slot kind l n h = elim (ℕ_discrete kind 4) [ yes e ↦ rw e | no m ↦ (let e : kind ≡ 5 = omega arith in rw e) ]
-
-pub no_slot : (kind : ℕ) → kind < 1 → 0 ≡ arity kind
-no_slot kind h = let e : kind ≡ 0 = omega arith in rw e
 
 module _ (bytes : List ℕ) (k : ℕ) where
   -- a part as code cuts it, as the definition has it
@@ -51,7 +53,7 @@ module _ (bytes : List ℕ) (k : ℕ) where
         | no h ↦ ap (λ (r : Record). length r.slots) (record_past (omega arith))
       ]
 
-  -- the ten bytes of a record within the end, and what the reader gives of them
+  -- the bytes of a record within the end, and what the reader gives of them
   module _ (h : k < record_count bytes) (part : List ℕ) (p : part ≡ record_bytes bytes k) where
     pub part_length : length part ≡ width
     part_length = ap length p ∙ simp (length-take, length-drop) (omega arith)

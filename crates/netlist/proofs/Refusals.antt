@@ -17,12 +17,12 @@ use Rattle.facts.proofs.Reflect.{iff_sum, iff_pair, iff_trans, iff_some, less, m
 use Rattle.facts.proofs.Refusals.{InRow, UpTo, After, Within, rows_before, one_row, within_one, within_or, within_before, first_check, first_then, first_scan, scan_rows, exact}
 use Rattle.netlist.specs.declared.Capacities.{Capacities}
 use Rattle.netlist.specs.declared.Record.{Record}
-use Rattle.netlist.specs.Kinds.{width, slots, unused, source_limit, top_level, arity, input, output, invertible}
+use Rattle.netlist.specs.Kinds.{width, slots, unused, source_limit, top_level, arity, input, output, buffer, majority5, invertible}
 use Rattle.netlist.specs.Capacities.{most_input_capacity}
 use Rattle.netlist.specs.Records.{Netlist, netlist, record_count, slot, depth}
-use Rattle.netlist.specs.Checks.{outside, bad_inversion, bad_slot, bad_slots, not_below, misplaced, bad_level, capacity_check, capacity_checks, size_checks, structure_at, record_checks, source_checks, structure_checks, input_checks}
+use Rattle.netlist.specs.Checks.{outside, bad_kind, bad_inversion, bad_slot, bad_slots, not_below, misplaced, bad_level, capacity_check, capacity_checks, size_checks, structure_at, record_checks, source_checks, structure_checks, input_checks}
 use Rattle.netlist.proofs.Checks.{arity_slots}
-use Rattle.netlist.specs.Refusals.{Outside, BadCapacity, BadInputCapacity, CapacityFails, Ragged, TooMany, BadInversion, BadSlots, Misplaced, BadLevel, SizeFails, StructureFails, RecordFails, SourceFails, StructuresFail, InputFails, SourceExact, StructureExact, InputExact}
+use Rattle.netlist.specs.Refusals.{Outside, BadCapacity, BadInputCapacity, CapacityFails, Ragged, TooMany, BadKind, BadInversion, BadSlots, Misplaced, BadLevel, SizeFails, StructureFails, RecordFails, SourceFails, StructuresFail, InputFails, SourceExact, StructureExact, InputExact}
 
 outside_is : (least most x : ℕ) → (outside least most x ≡ true) ↔ Outside least most x
 outside_is least most x = either_is (less x least) (less most x)
@@ -43,6 +43,9 @@ capacities_first caps =
     (rows_before (row_of 1) (λ n p f. omega (arith, one_row 1 0 (BadCapacity caps.buffer) n p f)) (λ n p f. omega (arith, one_row 26 0 (BadInputCapacity caps.input) n p f)))
     (capacity_first caps.buffer)
     (first_check 26 0 (outside_is 1 most_input_capacity caps.input))
+
+kind_is : (r : Record) → (bad_kind r ≡ true) ↔ BadKind r
+kind_is r = either_is (same r.kind buffer) (less majority5 r.kind)
 
 inversion_is : (r : Record) → (bad_inversion r ≡ true) ↔ BadInversion r
 inversion_is r = iff_trans (most (2 ^ invertible r.kind) r.inversion) (bit_from (invertible r.kind) r.inversion)
@@ -88,7 +91,7 @@ record_within m k = within_or (row_of 7) k 4 6 7 7 (structure_within m k) (withi
 structure_first : (m : Netlist) (k : ℕ) → First (StructureFails m k) (structure_at m k)
 structure_first m k =
     first_then (within_before (row_of 7) k 4 4 5 6 (within_one 4 k _) (later_within m k) (omega arith))
-    (first_check 4 k (less output (m.at k).kind))
+    (first_check 4 k (kind_is (m.at k)))
     (first_then (within_before (row_of 7) k 5 5 6 6 (within_one 5 k _) (within_one 6 k _) (omega arith))
     (first_check 5 k (inversion_is (m.at k)))
     (first_check 6 k (slots_are m k (m.at k))))

@@ -5,19 +5,20 @@ use native.Mathlib.Nat.{pow-le-pow_right}
 use native.Mathlib.Omega.{arith}
 use mathlib.Core.Path.{◌≡◌, refl, sym, ap, ◌∙◌}
 use mathlib.Core.Logic.{◌↔◌, ◌≢◌}
-use mathlib.Core.Bool.{Bool, true, false}
+use mathlib.Core.Bool.{Bool, true, false, not, ◌&&◌}
 use mathlib.Core.List.{List}
 use lib.ListN.{length}
 use Rattle.facts.specs.declared.Checked.TheVariants.{Passed}
 use Rattle.facts.specs.Checks.{◌and_then◌}
-use borrow.Author.Tests.{leb-false, eqb-true, eq-eqb, ne_eqb}
+use lib.Dec.{eqb}
+use borrow.Author.Tests.{eqb-true, eq-eqb, ne_eqb, not-false}
 use Rattle.facts.specs.Sums.{any, seek}
 use Rattle.facts.proofs.Bools.{true_false}
 use Rattle.facts.proofs.Loops.{seek_none}
 use Rattle.facts.proofs.Sums.{any_some, any_none}
 use Rattle.facts.proofs.Reflect.{reflect, then_passed}
 use Rattle.netlist.specs.declared.Record.{Record}
-use Rattle.netlist.specs.Kinds.{width, slots, source_limit, majority, output, buffer, arity, is_driver}
+use Rattle.netlist.specs.Kinds.{width, slots, source_limit, output, buffer, kinds, arity, is_driver}
 use Rattle.netlist.specs.Records.{Netlist, netlist, record_count, record_at, is_output, depth}
 use Rattle.netlist.specs.declared.Capacities.{Capacities}
 use Rattle.netlist.specs.Checks.{capacity_check, capacity_checks, size_checks, source_checks, structure_checks, input_checks}
@@ -122,15 +123,25 @@ input_passed source caps e =
     let h = (then_passed (capacity_checks caps) (source_checks source)).0 e in
     record { is_source = (source_passed source).0 h.1; allowed = (capacities_passed caps).0 h.0 }
 
+-- a kind that is neither a driver nor a buffer is an output: one test over the kinds
+other : ℕ → Bool
+other kind = not (is_driver kind) && (not (eqb kind buffer) && not (eqb kind output))
+
+undriven : (kind : ℕ) → kind < kinds → is_driver kind ≡ false → kind ≢ buffer → kind ≡ output
+unfolding any other
+undriven kind l e n =
+    let h = (any_none other kinds).0 refl kind l in
+    eqb-true kind output (not-false _ (rw (e, ne_eqb kind buffer n) at h))
+
 -- the kinds of a source's records
 module _ (n : Netlist) (source : IsSource n) (k : ℕ) (l : k < n.size) where
   -- what has the kind of one is no buffer
   pub no_buffer_lem : {kind : ℕ} → kind ≡ (n.at k).kind → kind ≢ buffer
-  no_buffer_lem e b = omega (arith, source.kinds k l)
+  no_buffer_lem e b = (source.kinds k l).0 (sym e ∙ b)
 
   -- what does not drive is an output
   pub is_output_lem : is_driver (n.at k).kind ≡ false → (n.at k).kind ≡ output
-  is_output_lem e = omega (arith, leb-false (n.at k).kind majority e, source.kinds k l)
+  is_output_lem e = undriven (n.at k).kind (omega (arith, (source.kinds k l).1)) e (source.kinds k l).0
 
   -- a kind is a byte, and so is an inversion
   pub kind_byte : (n.at k).kind < 256

@@ -4,12 +4,16 @@ use Rattle.facts.specs.Areas.{put}
 use Rattle.facts.specs.Bytes.{two_bytes}
 use Rattle.facts.specs.Lists.{joined}
 use Rattle.netlist.specs.declared.Record.{Record}
-use Rattle.netlist.specs.Kinds.{width, slots}
+use Rattle.netlist.specs.Kinds.{width, level_place, slots}
 use Rattle.netlist.specs.Records.{Netlist, slot}
+
+-- the bytes of a record's first n slots
+abbrev pub slot_bytes : Record → ℕ → List ℕ
+slot_bytes r n = joined (λ j. two_bytes (slot r j)) n
 
 -- the bytes of a record: kind, inversion, level, slots
 unfoldable pub encode : Record → List ℕ
-encode r = r.kind ∷ r.inversion ∷ two_bytes r.level ++ joined (λ j. two_bytes (slot r j)) slots
+encode r = r.kind ∷ r.inversion ∷ two_bytes r.level ++ slot_bytes r slots
 
 -- the bytes of records f 0, .., f (n - 1)
 unfoldable pub encoded : (ℕ → Record) → ℕ → List ℕ
@@ -22,10 +26,6 @@ recs m i n = encoded (λ k. m.at (i + k)) n
 -- the bytes of a netlist
 abbrev pub bytes_of : Netlist → List ℕ
 bytes_of m = recs m 0 m.size
-
--- where a record's two bytes of level begin
-abbrev pub level_place : ℕ
-level_place = 2
 
 -- bytes in which record k has another level
 unfoldable pub with_level : List ℕ → ℕ → ℕ → List ℕ

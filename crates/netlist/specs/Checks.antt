@@ -5,7 +5,7 @@ use Rattle.facts.specs.Checks.{check, ◌and_then◌, scan}
 use Rattle.facts.specs.Sums.{any}
 use Rattle.netlist.specs.declared.Capacities.{Capacities}
 use Rattle.netlist.specs.declared.Record.{Record}
-use Rattle.netlist.specs.Kinds.{width, slots, unused, top_level, source_limit, input, output, arity, invertible}
+use Rattle.netlist.specs.Kinds.{width, slots, unused, top_level, source_limit, input, output, buffer, majority5, arity, invertible}
 use Rattle.netlist.specs.Capacities.{most_input_capacity}
 use Rattle.netlist.specs.Records.{Netlist, netlist, record_count, slot, depth}
 
@@ -29,9 +29,9 @@ ragged bytes = not (eqb (length bytes % width) 0)
 abbrev pub too_many : List ℕ → Bool
 too_many bytes = ltb source_limit (record_count bytes)
 
--- 4: no kind of a source
+-- 4: no kind of a source: a buffer, or no kind at all
 abbrev pub bad_kind : Record → Bool
-bad_kind r = ltb output r.kind
+bad_kind r = eqb r.kind buffer || ltb majority5 r.kind
 
 -- 5: an inversion bit beyond those that the kind may set
 abbrev pub bad_inversion : Record → Bool

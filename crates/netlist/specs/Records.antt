@@ -1,13 +1,17 @@
--- Specification 1.1: a record from its ten bytes, and a netlist by index from a byte list.
+-- Specification 1.1: a record from its bytes, and a netlist by index from a byte list.
 use Rattle.std.specs.Prelude.{ℕ, ◌+◌, ◌*◌, ◌/◌, Bool, cond, ◌&&◌, List, length, get_or, take, drop, replicate, ltb, eqb}
 use Rattle.facts.specs.Lists.{tabulate}
 use Rattle.facts.specs.Sums.{count₂, seek}
 use Rattle.netlist.specs.declared.Record.{Record}
-use Rattle.netlist.specs.Kinds.{width, slots, unused, absent, arity, output}
+use Rattle.netlist.specs.Kinds.{width, level_place, slot_place, slots, unused, absent, arity, output}
 
 -- the two-byte field at a place, low byte first
 abbrev pub field : List ℕ → ℕ → ℕ
 field bytes at = get_or bytes at 0 + 256 * get_or bytes (at + 1) 0
+
+-- slot j from a record's bytes
+abbrev pub slot_field : List ℕ → ℕ → ℕ
+slot_field bytes j = field bytes (slot_place + 2 * j)
 
 -- a record from its bytes: kind, inversion, level, slots
 abbrev pub decode : List ℕ → Record
@@ -15,8 +19,8 @@ decode bytes =
     record {
       kind = get_or bytes 0 0;
       inversion = get_or bytes 1 0;
-      level = field bytes 2;
-      slots = tabulate (λ j. field bytes (4 + 2 * j)) slots;
+      level = field bytes level_place;
+      slots = tabulate (slot_field bytes) slots;
     }
 
 -- what stands past the end
@@ -31,7 +35,7 @@ slot r j = get_or r.slots j unused
 abbrev pub record_count : List ℕ → ℕ
 record_count bytes = length bytes / width
 
--- the ten bytes of record k
+-- the bytes of record k
 abbrev pub record_bytes : List ℕ → ℕ → List ℕ
 record_bytes bytes k = take width (drop (width * k) bytes)
 

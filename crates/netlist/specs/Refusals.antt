@@ -3,7 +3,7 @@ use Rattle.std.specs.Prelude.{ℕ, ◌/◌, ◌%◌, ◌^◌, ◌<◌, ◌≤◌
 use Rattle.facts.specs.Refusals.{Conditions, Fails, ◌or◌, Each, Exact}
 use Rattle.netlist.specs.declared.Capacities.{Capacities}
 use Rattle.netlist.specs.declared.Record.{Record}
-use Rattle.netlist.specs.Kinds.{width, slots, unused, top_level, source_limit, input, output, arity, invertible}
+use Rattle.netlist.specs.Kinds.{width, slots, unused, top_level, source_limit, input, output, buffer, majority5, arity, invertible}
 use Rattle.netlist.specs.Capacities.{most_input_capacity}
 use Rattle.netlist.specs.Records.{Netlist, netlist, record_count, slot, depth}
 use Rattle.netlist.specs.Checks.{source_checks, structure_checks, input_checks}
@@ -20,7 +20,7 @@ BadCapacity s = Outside 2 4 s
 abbrev pub BadInputCapacity : ℕ → Type 0
 BadInputCapacity b = Outside 1 most_input_capacity b
 
--- 2: the length is no multiple of 10
+-- 2: the length is no multiple of 14
 abbrev pub Ragged : List ℕ → Type 0
 Ragged bytes = length bytes % width ≢ 0
 
@@ -28,9 +28,9 @@ Ragged bytes = length bytes % width ≢ 0
 abbrev pub TooMany : List ℕ → Type 0
 TooMany bytes = source_limit < record_count bytes
 
--- 4: kind above 4
+-- 4: kind 5 or above 6
 abbrev pub BadKind : Record → Type 0
-BadKind r = output < r.kind
+BadKind r = (r.kind ≡ buffer) ⊎ (majority5 < r.kind)
 
 -- 5: an inversion bit is set that no slot of the kind may have
 abbrev pub BadInversion : Record → Type 0

@@ -1,6 +1,6 @@
 -- What a source is, as facts: what passing checks 2 to 7 means (specification 1, 3.3).
 use Rattle.std.specs.Prelude.{ℕ, ◌≤◌, ◌<◌, ◌%◌, ◌^◌, ◌≡◌, ◌≢◌, List, length}
-use Rattle.netlist.specs.Kinds.{width, slots, unused, top_level, source_limit, input, output, arity, invertible}
+use Rattle.netlist.specs.Kinds.{width, slots, unused, top_level, source_limit, input, output, buffer, majority5, arity, invertible}
 use Rattle.netlist.specs.Records.{Netlist, netlist, fanin, depth}
 
 -- a netlist whose levels are chosen, with no buffer in it
@@ -8,7 +8,7 @@ pub record IsSource (m : Netlist) : Type 0 where
   -- at most 4,096 records
   pub few : m.size ≤ source_limit
   -- inputs, gates and outputs only
-  pub kinds : (k : ℕ) → k < m.size → (m.at k).kind ≤ output
+  pub kinds : (k : ℕ) → k < m.size → ((m.at k).kind ≢ buffer) × ((m.at k).kind ≤ majority5)
   -- only used slots of gates are inverted
   pub inversions : (k : ℕ) → k < m.size → (m.at k).inversion < 2 ^ invertible (m.at k).kind
   -- a used slot names an earlier record
@@ -29,7 +29,7 @@ pub record IsSource (m : Netlist) : Type 0 where
 -- a source but for its levels, of which nothing is said: the first six facts above
 pub record Structured (m : Netlist) : Type 0 where
   pub few : m.size ≤ source_limit
-  pub kinds : (k : ℕ) → k < m.size → (m.at k).kind ≤ output
+  pub kinds : (k : ℕ) → k < m.size → ((m.at k).kind ≢ buffer) × ((m.at k).kind ≤ majority5)
   pub inversions : (k : ℕ) → k < m.size → (m.at k).inversion < 2 ^ invertible (m.at k).kind
   pub earlier : (k j : ℕ) → k < m.size → j < arity (m.at k).kind → fanin m k j < k
   pub no_output : (k j : ℕ) → k < m.size → j < arity (m.at k).kind → (m.at (fanin m k j)).kind ≢ output

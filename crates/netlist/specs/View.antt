@@ -2,7 +2,7 @@
 use Rattle.std.specs.Prelude.{ℕ, cond, List, [], ltb}
 use Rattle.netlist.specs.Records.{record_count, record_bytes}
 
--- the ten bytes of record k, none from M on
+-- the bytes of record k, none from M on
 abbrev pub view_of : List ℕ → List ℕ → ℕ → List ℕ
 view_of source mapped k =
     cond (ltb k (record_count mapped))

@@ -1,6 +1,6 @@
-// Records of ten bytes, capacities (checks 1 and 26), the source reader (2 to 7) and the record view.
-ghost use Rattle.std.specs.Prelude.{◌≡◌, leb};
-ghost use Rattle.netlist.specs.Kinds.{among, is_gate, is_driver};
+// Records, capacities (checks 1 and 26), the source reader (2 to 7) and the record view.
+ghost use Rattle.std.specs.Prelude.{◌≡◌, leb, ◌≤◌};
+ghost use Rattle.netlist.specs.Kinds.{mapped_limit, among, is_gate, is_driver};
 ghost use Rattle.netlist.specs.Kinds;
 ghost use Rattle.netlist.specs.Records.{record_at, record_count, netlist};
 ghost use Rattle.netlist.specs.Records;
@@ -16,12 +16,14 @@ pub mod record_reader;
 pub mod record_writer;
 pub mod source_reader;
 
-pub const WIDTH: usize = 10;
+pub const SLOTS: usize = 5;
 
-pub const SLOTS: usize = 3;
-
-// Where a record's two bytes of level begin.
+// Where a record's two bytes of level begin, and its slots.
 pub const LEVEL_PLACE: usize = 2;
+
+pub const SLOT_PLACE: usize = 4;
+
+pub const WIDTH: usize = SLOT_PLACE + 2 * SLOTS;
 
 pub const UNUSED: u16 = 65535;
 
@@ -53,6 +55,8 @@ pub const MAJORITY: u8 = 3;
 pub const OUTPUT: u8 = 4;
 
 pub const BUFFER: u8 = 5;
+
+pub const MAJORITY5: u8 = 6;
 
 pub const ABSENT: u8 = 255;
 
@@ -93,6 +97,7 @@ pub fn arity(kind: u8) -> usize
         AND | OR => 2,
         MAJORITY => 3,
         OUTPUT | BUFFER => 1,
+        MAJORITY5 => 5,
         _ => 0,
     }
 }
@@ -104,18 +109,24 @@ fn is_among(kind: u8, first: u8, last: u8) -> bool
     if first <= kind { kind <= last } else { false }
 }
 
-// AND, OR and MAJ.
+// AND, OR, MAJ and MAJ5.
 pub fn is_gate(kind: u8) -> bool
     ensures { result ≡ is_gate kind }
 {
-    is_among(kind, AND, MAJORITY)
+    if is_among(kind, AND, MAJORITY) {
+        return true;
+    }
+    kind == MAJORITY5
 }
 
 // Inputs and gates drive nets.
 pub fn is_driver(kind: u8) -> bool
     ensures { result ≡ is_driver kind }
 {
-    kind <= MAJORITY
+    if kind == INPUT {
+        return true;
+    }
+    is_gate(kind)
 }
 
 // What stands past the end.
@@ -178,7 +189,7 @@ pub fn slot_at(bytes: &[u8], k: usize, j: usize) -> u16
 }
 
 // How many records are of the kinds from the first to the last of a range.
-fn count_kinds(bytes: &[u8], first: u8, last: u8) -> usize
+pub fn count_kinds(bytes: &[u8], first: u8, last: u8) -> usize
     ensures { result ≡ count_kind (netlist bytes.now) (among first last) }
 {
     let n = record_count(bytes);
@@ -200,9 +211,10 @@ pub fn count_kind(bytes: &[u8], kind: u8) -> usize
 
 // How many records are gates.
 pub fn count_gates(bytes: &[u8]) -> usize
+    requires { record_count bytes.now ≤ mapped_limit }
     ensures { result ≡ gates (netlist bytes.now) }
 {
-    count_kinds(bytes, AND, MAJORITY)
+    count_kinds(bytes, AND, MAJORITY) + count_kind(bytes, MAJORITY5)
 }
 
 // Whether record k may feed so many slots: one in any case, more as its kind says.

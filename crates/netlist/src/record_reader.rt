@@ -1,9 +1,10 @@
-// The record reader: a record from its ten bytes, and the ten bytes of one record.
+// The record reader: a record from its bytes, and the bytes of one record.
 ghost use Rattle.std.specs.Prelude.{◌≡◌, ◌+◌, ◌<◌, length};
-ghost use Rattle.netlist.specs.Kinds.{width};
-ghost use Rattle.netlist.specs.Records.{field, decode, record_at, record_count, record_bytes};
+ghost use Rattle.facts.specs.Lists.{tabulate};
+ghost use Rattle.netlist.specs.Kinds.{width, slots};
+ghost use Rattle.netlist.specs.Records.{field, slot_field, decode, record_at, record_count, record_bytes};
 
-use crate::{Record, WIDTH};
+use crate::{LEVEL_PLACE, Record, SLOT_PLACE, SLOTS, UNUSED, WIDTH};
 
 // The two-byte field at a place, low byte first.
 pub fn two_bytes(bytes: &[u8], at: usize) -> u16
@@ -13,7 +14,21 @@ pub fn two_bytes(bytes: &[u8], at: usize) -> u16
     facts::wide(bytes[at]) + 256 * facts::wide(bytes[at + 1])
 }
 
-// A record from its ten bytes.
+// The slots of a record, from its bytes.
+fn read_slots(part: &[u8]) -> [u16; SLOTS]
+    requires { length part.now ≡ width }
+    ensures { result ≡ tabulate (slot_field part.now) slots }
+{
+    let mut slots = [UNUSED; SLOTS];
+    let mut j: usize = 0;
+    while j < SLOTS {
+        slots[j] = two_bytes(part, SLOT_PLACE + 2 * j);
+        j += 1;
+    }
+    slots
+}
+
+// A record from its bytes.
 fn read_record(part: &[u8]) -> Record
     requires { length part.now ≡ width }
     ensures { result ≡ decode part.now }
@@ -21,12 +36,12 @@ fn read_record(part: &[u8]) -> Record
     Record {
         kind: part[0],
         inversion: part[1],
-        level: two_bytes(part, 2),
-        slots: [two_bytes(part, 4), two_bytes(part, 6), two_bytes(part, 8)],
+        level: two_bytes(part, LEVEL_PLACE),
+        slots: read_slots(part),
     }
 }
 
-// The ten bytes of record k.
+// The bytes of record k.
 pub(crate) fn record_part<'a>(bytes: &'a [u8], k: usize) -> &'a [u8]
     requires { k < record_count bytes.now }
     ensures { result.now ≡ record_bytes bytes.now k }

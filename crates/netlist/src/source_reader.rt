@@ -1,18 +1,28 @@
 // The source reader: checks 2 to 7.
 ghost use Rattle.std.specs.Prelude.{◌≡◌, false, cond, ◌||◌, ◌^◌, ◌<◌, eqb};
-ghost use Rattle.facts.specs.Checks.{◌and_then◌, scan};
+ghost use Rattle.facts.specs.Checks.{scan};
 ghost use Rattle.facts.specs.Sums.{any};
 ghost use Rattle.netlist.specs.Kinds.{slots, output, invertible};
 ghost use Rattle.netlist.specs.Kinds;
-ghost use Rattle.netlist.specs.Records.{record_count, netlist};
+ghost use Rattle.netlist.specs.Records.{record_count, record_at, netlist};
 ghost use Rattle.netlist.specs.Records;
-ghost use Rattle.netlist.specs.Checks.{bad_slot, bad_slots, not_below, misplaced, bad_level, size_checks, structure_of, level_of, record_checks};
+ghost use Rattle.netlist.specs.Checks.{bad_kind, bad_slot, bad_slots, not_below, misplaced, bad_level, size_checks, structure_of, level_of, record_checks};
 
 use crate::{
-    AND, INPUT, MAJORITY, OR, OUTPUT, Record, SLOTS, SOURCE_LIMIT, TOP_LEVEL, UNUSED, WIDTH, arity,
-    is_gate, record_count, record_reader, slot,
+    AND, BUFFER, INPUT, MAJORITY, MAJORITY5, OR, OUTPUT, Record, SLOTS, SOURCE_LIMIT, TOP_LEVEL,
+    UNUSED, WIDTH, arity, is_gate, record_count, record_reader, slot,
 };
 use facts::Checked;
+
+// Check 4: no kind of a source.
+fn bad_kind(r: Record) -> bool
+    ensures { result ≡ bad_kind r }
+{
+    if r.kind == BUFFER {
+        return true;
+    }
+    MAJORITY5 < r.kind
+}
 
 // How many values a kind's inversion byte may have: one bit for each slot that may be inverted.
 fn inversions(kind: u8) -> u8
@@ -109,7 +119,7 @@ pub fn check_structure(bytes: &[u8], k: u32, r: Record, used: usize) -> Checked
     requires used_value { used ≡ Kinds.arity r.kind }
     ensures { result ≡ structure_of (netlist bytes.now) k r }
 {
-    if OUTPUT < r.kind {
+    if bad_kind(r) {
         return Checked::Refused(4, k);
     }
     if inversions(r.kind) <= r.inversion {
@@ -149,13 +159,14 @@ fn check_level(bytes: &[u8], deep: u16, k: u32, r: Record, used: usize) -> Check
     Checked::Passed
 }
 
-// Checks 4 to 7 of record k, whose kind uses so many slots.
-fn check_used(bytes: &[u8], deep: u16, k: u32, r: Record, used: usize) -> Checked
+// Checks 4 to 7 of record k, whose kind uses so many slots. The record is read here, in each arm of `check_record`, which then reads only what it looks at.
+fn check_used(bytes: &[u8], deep: u16, k: u32, used: usize) -> Checked
     requires k_bound { k < record_count bytes.now }
-    requires used_value { used ≡ Kinds.arity r.kind }
-    requires r_value { misplaced deep r ≡ misplaced (Records.depth (netlist bytes.now)) r }
-    ensures { result ≡ (structure_of (netlist bytes.now) k r and_then level_of (netlist bytes.now) k r) }
+    requires used_value { used ≡ Kinds.arity (record_at bytes.now k).kind }
+    requires k_value { misplaced deep (record_at bytes.now k) ≡ misplaced (Records.depth (netlist bytes.now)) (record_at bytes.now k) }
+    ensures { result ≡ record_checks (netlist bytes.now) k }
 {
+    let r = record_reader::read_at(bytes, k as usize);
     let structure = check_structure(bytes, k, r, used);
     match structure {
         Checked::Passed => check_level(bytes, deep, k, r, used),
@@ -164,19 +175,20 @@ fn check_used(bytes: &[u8], deep: u16, k: u32, r: Record, used: usize) -> Checke
 }
 
 // Checks 4 to 7 of record k; an arm for each kind, so that the compiler knows its slots.
-fn check_record(bytes: &[u8], deep: u16, k: u32, r: Record) -> Checked
+fn check_record(bytes: &[u8], deep: u16, k: u32, kind: u8) -> Checked
     requires k_bound { k < record_count bytes.now }
-    requires r_value { misplaced deep r ≡ misplaced (Records.depth (netlist bytes.now)) r }
-    ensures { result ≡ (structure_of (netlist bytes.now) k r and_then level_of (netlist bytes.now) k r) }
+    requires kind_value { kind ≡ (record_at bytes.now k).kind }
+    requires k_value { misplaced deep (record_at bytes.now k) ≡ misplaced (Records.depth (netlist bytes.now)) (record_at bytes.now k) }
+    ensures { result ≡ record_checks (netlist bytes.now) k }
 {
-    let kind = r.kind;
     match kind {
-        INPUT => check_used(bytes, deep, k, r, arity(INPUT)),
-        AND => check_used(bytes, deep, k, r, arity(AND)),
-        OR => check_used(bytes, deep, k, r, arity(OR)),
-        MAJORITY => check_used(bytes, deep, k, r, arity(MAJORITY)),
-        OUTPUT => check_used(bytes, deep, k, r, arity(OUTPUT)),
-        _ => check_used(bytes, deep, k, r, arity(kind)),
+        INPUT => check_used(bytes, deep, k, arity(INPUT)),
+        AND => check_used(bytes, deep, k, arity(AND)),
+        OR => check_used(bytes, deep, k, arity(OR)),
+        MAJORITY => check_used(bytes, deep, k, arity(MAJORITY)),
+        OUTPUT => check_used(bytes, deep, k, arity(OUTPUT)),
+        MAJORITY5 => check_used(bytes, deep, k, arity(MAJORITY5)),
+        _ => Checked::Refused(4, k),
     }
 }
 
@@ -217,7 +229,7 @@ pub(crate) fn check_records(bytes: &[u8], n: u32) -> Checked
     while k < n {
         let r = record_reader::read_at(bytes, k as usize);
         outputs = with_record(outputs, r);
-        let checked = check_record(bytes, outputs.level, k, r);
+        let checked = check_record(bytes, outputs.level, k, r.kind);
         match checked {
             Checked::Passed => {}
             Checked::Refused(number, place) => {

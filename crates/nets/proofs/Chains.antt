@@ -18,10 +18,10 @@ use Rattle.facts.proofs.Bools.{and_i, true_false}
 use Rattle.facts.proofs.Loops.{seek_within, seek_true}
 use Rattle.facts.proofs.Sums.{count_false, count_more, rank_lt}
 use Rattle.netlist.specs.declared.Record.{Record}
-use Rattle.netlist.specs.Kinds.{slots, unused, source_limit, input, arity, is_gate}
+use Rattle.netlist.specs.Kinds.{slots, unused, source_limit, input, majority5, arity, is_gate}
 use Rattle.netlist.specs.Records.{Netlist, slot, used, fanin}
 use Rattle.netlist.specs.Source.{IsSource}
-use Rattle.netlist.proofs.Checks.{other_arity, gate_arity, fanin_arity}
+use Rattle.netlist.proofs.Checks.{other_arity, three_arity, gate_arity, fanin_arity}
 use Rattle.nets.specs.PrivateChains.{slot_end, used_slot, fanin_slot, names_slot, next_sink, Emptied, AllUnused, Linked, Chained}
 
 -- what holds only where p does is counted nowhere on the way to the first p
@@ -230,9 +230,9 @@ module _ (n : Netlist) (i : ℕ) (first next : List ℕ) (s : IsSource n) (l : i
               rw (ec, ea, whether false g, ← same, set-get_or first t 0, set-get_or next x 0)
               (link_unused n first next x below (omega arith) (at_x (used n) ∙ g))
 
-  -- all slots of a record are slots 0 to 2
-  pub slots_above : Linked n first next (slots * (i + 1)) → Linked n first next (slots * i + (2 + 1))
-  slots_above h = let e : slots * (i + 1) ≡ slots * i + (2 + 1) = omega arith in subst (λ (y : ℕ). Linked n first next y) e h
+  -- all slots of the record are to be linked
+  pub slots_above : Linked n first next (slots * (i + 1)) → Linked n first next (slots * i + slots)
+  slots_above h = let e : slots * (i + 1) ≡ slots * i + slots = omega arith in subst (λ (y : ℕ). Linked n first next y) e h
 
   -- slots from m on that the record does not use link nothing
   unused_from : (m k : ℕ) → m + k ≤ slots → arity (n.at i).kind ≤ m → Linked n first next (slots * i + (m + k)) → Linked n first next (slots * i + m)
@@ -246,10 +246,15 @@ module _ (n : Netlist) (i : ℕ) (first next : List ℕ) (s : IsSource n) (l : i
       (link_unused n first next x (subst (λ (y : ℕ). Linked n first next y) e h) (omega arith)
       (ap₂ (used n) record_of slot_of ∙ le-ltb (m + k) (arity (n.at i).kind) (omega arith)))
 
-  -- no gate: slots 1 and 2 are unused
+  -- any other: the slots from slot 3 on are unused
+  pub last_unused : (r.kind ≡ majority5 → ⊥) → Linked n first next (slots * (i + 1)) → Linked n first next (slots * i + (2 + 1))
+  last_unused o h =
+      unused_from 3 (slots - 3) (omega arith) (omega (arith, three_arity r.kind o, ap (λ (r : Record). arity r.kind) q)) (slots_above h)
+
+  -- no gate: the slots from slot 1 on are unused
   pub later_unused : (g : Bool) → g ≡ is_gate r.kind → not g ≡ true → Linked n first next (slots * (i + 1)) → Linked n first next (slots * i + 1)
   later_unused g is f h =
-      unused_from 1 2 (omega arith) (omega (arith, other_arity r.kind g is f, ap (λ (r : Record). arity r.kind) q)) (slots_above h)
+      unused_from 1 (slots - 1) (omega arith) (omega (arith, other_arity r.kind g is f, ap (λ (r : Record). arity r.kind) q)) (slots_above h)
 
   -- a gate uses slot 1
   pub later_used : (g : Bool) → g ≡ is_gate r.kind → g ≡ true → 1 < arity r.kind
@@ -263,6 +268,17 @@ module _ (n : Netlist) (i : ℕ) (first next : List ℕ) (s : IsSource n) (l : i
   pub first_unused : r.kind ≡ input → Linked n first next (slots * i + 1) → Linked n first next (slots * i)
   first_unused o h =
       slots_done n i first next (unused_from 0 1 (omega arith) (omega (arith, ap arity o, ap (λ (r : Record). arity r.kind) q)) h)
+
+-- a MAJ5 uses all slots
+pub five_used : (r : Record) (j : ℕ) → r.kind ≡ majority5 → 2 < j → j ≤ slots → j - 1 < arity r.kind
+five_used r j e l h = rw e (let b : j - 1 < 5 = omega arith in b)
+
+-- from slot to slot downwards
+pub slot_below : (n : Netlist) (i j : ℕ) (first next : List ℕ) → 2 < j → Linked n first next (slots * i + j) → Linked n first next (slots * i + (j - 1 + 1))
+slot_below n i j first next l h = let e : j ≡ j - 1 + 1 = omega arith in subst (λ (j : ℕ). Linked n first next (slots * i + j)) e h
+
+pub last_slots_end : (n : Netlist) (i j : ℕ) (first next : List ℕ) → 2 ≤ j → j ≤ 2 → Linked n first next (slots * i + j) → Linked n first next (slots * i + 2)
+last_slots_end n i j first next l g h = let e : j ≡ 2 = omega arith in subst (λ (j : ℕ). Linked n first next (slots * i + j)) e h
 
 -- from record to record downwards
 module _ (n : Netlist) (first next : List ℕ) where

@@ -1,6 +1,6 @@
 // The chains of sinks: each driver's first sink, and after each sink its driver's next.
 ghost use Rattle.std.specs.Prelude.{◌≡◌, suc, ◌+◌, ◌-◌, ◌*◌, ◌/◌, ◌<◌, ◌≤◌, length, replicate};
-ghost use Rattle.netlist.specs.Kinds.{slots, top_level, arity};
+ghost use Rattle.netlist.specs.Kinds.{slots, top_level, majority5, arity};
 ghost use Rattle.netlist.specs.Records.{netlist, record_count};
 ghost use Rattle.netlist.specs.Source.{IsSource};
 ghost use Rattle.nets.specs.PrivateChains.{Above, Emptied, Linked, Chained, ChainIs};
@@ -9,7 +9,7 @@ ghost use Rattle.fanout.specs.PrivateWalk.{Filled};
 
 use crate::numbers;
 use fanout::{DISTANCES, Reach, stretches};
-use netlist::{INPUT, Record, SLOTS, UNUSED};
+use netlist::{INPUT, MAJORITY5, Record, SLOTS, UNUSED};
 
 // Records and slots of the largest source.
 pub const RECORDS: usize = netlist::SOURCE_LIMIT;
@@ -68,7 +68,37 @@ fn link_slot(source: &[u8], i: usize, r: Record, j: usize, first: &mut [u16], ne
     first[driver] = numbers::pick(unused, old, x as u16);
 }
 
-// Slots 2 and 1 of r, which is record i: a gate uses slot 1 and may use slot 2, and no other record uses either.
+// The slots of r, which is record i and a MAJ5, from the last down to slot 2: it uses them all.
+fn link_five(source: &[u8], i: usize, r: Record, first: &mut [u16], next: &mut [u16])
+    requires source { IsSource (netlist source.now) }
+    requires i_bound { (i < (netlist source.now).size) × (r.kind ≡ majority5) }
+    requires r_value { r ≡ (netlist source.now).at i }
+    requires linked { Linked (netlist source.now) first.old next.old (slots * (i + 1)) }
+    ensures { Linked (netlist source.now) first.new next.new (slots * i + 2) }
+{
+    let mut j: usize = SLOTS;
+    while 2 < j {
+        j -= 1;
+        link_sink(source, i, r, j, first, next);
+    }
+}
+
+// The slots of r, which is record i, from the last down to slot 2: a MAJ may use slot 2, and no record but a MAJ5 uses those above it.
+fn link_last_slots(source: &[u8], i: usize, r: Record, first: &mut [u16], next: &mut [u16])
+    requires source { IsSource (netlist source.now) }
+    requires i_bound { i < (netlist source.now).size }
+    requires r_value { r ≡ (netlist source.now).at i }
+    requires linked { Linked (netlist source.now) first.old next.old (slots * (i + 1)) }
+    ensures { Linked (netlist source.now) first.new next.new (slots * i + 2) }
+{
+    if r.kind == MAJORITY5 {
+        link_five(source, i, r, first, next);
+        return;
+    }
+    link_slot(source, i, r, 2, first, next);
+}
+
+// The slots of r, which is record i, from the last down to slot 1: a gate uses slot 1 and may use those above it, and no other record uses any of them.
 fn link_later_slots(source: &[u8], i: usize, r: Record, first: &mut [u16], next: &mut [u16])
     requires source { IsSource (netlist source.now) }
     requires i_bound { i < (netlist source.now).size }
@@ -79,7 +109,7 @@ fn link_later_slots(source: &[u8], i: usize, r: Record, first: &mut [u16], next:
     if !netlist::is_gate(r.kind) {
         return;
     }
-    link_slot(source, i, r, 2, first, next);
+    link_last_slots(source, i, r, first, next);
     link_sink(source, i, r, 1, first, next);
 }
 

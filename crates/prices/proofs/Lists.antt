@@ -17,11 +17,13 @@ use Rattle.facts.specs.declared.Checked.TheVariants.{Passed, Refused}
 use Rattle.facts.specs.Checks.{check, scan}
 use Rattle.facts.specs.Sums.{bit, any}
 use Rattle.facts.proofs.Bools.{true_false}
+use Rattle.facts.proofs.Lists.{table_range}
 use Rattle.facts.proofs.Sums.{any_none, bit_le}
 use Rattle.facts.proofs.Loops.{Scanning, check_more, check_stop, check_end}
-use Rattle.facts.proofs.Reflect.{then_passed, check_passed}
-use Rattle.netlist.specs.Kinds.{buffer, is_gate}
-use Rattle.prices.specs.Prices.{list_length, price_counts, price_count, price_start, plain_prices, list_price, price_of}
+use Rattle.facts.proofs.Reflect.{then_passed, check_passed, or_none}
+use Rattle.netlist.specs.Kinds.{and, or, majority, buffer, majority5, kinds, among, is_gate}
+use Rattle.netlist.proofs.Checks.{gate_kind}
+use Rattle.prices.specs.Prices.{list_length, price_counts, price_starts, price_count, price_start, plain_prices, list_price, price_of}
 use Rattle.prices.specs.Checks.{bad_list_length, price_check, price_list_checks}
 use Rattle.prices.specs.PrivatePrices.{plain_list, applied, AppliedPrices}
 
@@ -75,20 +77,26 @@ module _ (list : List ℕ) (n k : ℕ) (s : Scanning (price_check list) n k) whe
   pub prices_end : n ≤ k → n ≡ length list → Passed ≡ scan (price_check list) 0 (length list)
   prices_end h q = check_end 28 zero_at n k s (length list) h q
 
--- a kind's price in an empty list: 6 for a gate, 2 for a buffer
-pub plain_kind : (kind : ℕ) → get_or plain_prices kind 0 ≡ 6 * bit (is_gate kind) + 2 * bit (eqb kind buffer)
-plain_kind zero = refl
-plain_kind (suc zero) = refl
-plain_kind (suc (suc zero)) = refl
-plain_kind (suc (suc (suc zero))) = refl
-plain_kind (suc (suc (suc (suc zero)))) = refl
-plain_kind (suc (suc (suc (suc (suc zero))))) = refl
-plain_kind (suc (suc (suc (suc (suc (suc k)))))) = past (suc (suc (suc (suc (suc (suc k)))))) (omega arith)
-  where
-    past : (kind : ℕ) → 6 ≤ kind → get_or plain_prices kind 0 ≡ 6 * bit (is_gate kind) + 2 * bit (eqb kind buffer)
-    past kind l =
-        get_or-eq_default plain_prices 0 {n = kind} l
-        ∙ sym (rw (le-leb 1 kind (omega arith), lt-leb kind 3 (omega arith), ne_eqb kind buffer (λ e. omega arith)) refl)
+-- a kind's price in an empty list: 6 for AND, OR and MAJ, 10 for MAJ5, 2 for a buffer
+abbrev plain_of : ℕ → ℕ
+plain_of kind = 6 * bit (among and majority kind) + 10 * bit (eqb kind majority5) + 2 * bit (eqb kind buffer)
+
+pub plain_kind : (kind : ℕ) → get_or plain_prices kind 0 ≡ plain_of kind
+unfolding any
+plain_kind kind =
+    elim (dec_lt kind kinds) [
+      | yes l ↦ eqb-true _ _ (not-false _ ((any_none (λ k. not (eqb (get_or plain_prices k 0) (plain_of k))) kinds).0 refl kind l))
+      | no l ↦
+          get_or-eq_default plain_prices 0 {n = kind} (omega arith)
+          ∙ sym (
+          rw (
+            le-leb and kind (omega arith),
+            lt-leb kind majority (omega arith),
+            ne_eqb kind majority5 (λ e. l (omega arith)),
+            ne_eqb kind buffer (λ e. l (omega arith)),
+          ) refl
+          )
+    ]
 
 -- each price of an empty list is a byte
 plain_small : (x : ℕ) → get_or plain_list x 0 ≤ 255
@@ -165,26 +173,35 @@ module _ (list : List ℕ) where
     pub read_prices : length list ≤ k → AppliedPrices prices
     read_prices l = record { size = r.size; small = r.small; passes = rw (read_end l) (applied_passes list r.passes) }
 
+-- what holds of each kind of a table that has none but the tested entry elsewhere: 0
+zero_elsewhere : (table : List ℕ) (named : ℕ → Bool) → any (λ k. not (named k || eqb (get_or table k 0) 0)) (length table) ≡ false →
+    (kind : ℕ) → named kind ≡ false → 0 ≡ get_or table kind 0
+zero_elsewhere table named e kind n =
+    elim (dec_lt kind (length table)) [
+      | yes l ↦ (let h = (any_none _ (length table)).0 e kind l in sym (eqb-true (get_or table kind 0) 0 (not-false _ (rw n at h))))
+      | no l ↦ sym (get_or-eq_default table 0 {n = kind} (omega arith))
+    ]
+
 -- how many prices a kind has and where they begin, by the kinds that the arms name
 pub gate_count : (kind : ℕ) → 1 ≤ kind → kind < 4 → 2 ≡ price_count kind
-gate_count kind l h =
-    elim (ℕ_discrete kind 1) [ yes e ↦ rw e | no n ↦ elim (ℕ_discrete kind 2) [ yes e ↦ rw e | no m ↦ (let e : kind ≡ 3 = omega arith in rw e) ] ]
+unfolding any
+gate_count kind = table_range price_counts 0 1 4 2 kind refl
 
 pub input_count : (kind : ℕ) → kind < 1 → 0 ≡ price_count kind
-input_count kind h = let e : kind ≡ 0 = omega arith in rw e
+unfolding any
+input_count kind = table_range price_counts 0 0 1 0 kind refl (omega arith)
 
-pub late_count : (kind : ℕ) → 4 ≤ kind → (kind ≡ 5 → ⊥) → 0 ≡ price_count kind
-late_count kind l h =
-    elim (ℕ_discrete kind 4) [ yes e ↦ rw e | no n ↦ sym (get_or-eq_default price_counts 0 {n = kind} (omega arith)) ]
+pub late_count : (kind : ℕ) → 4 ≤ kind → (kind ≡ 5 → ⊥) → (kind ≡ 6 → ⊥) → 0 ≡ price_count kind
+unfolding any
+late_count kind l h i =
+    zero_elsewhere price_counts (λ k. ltb k 4 || (eqb k buffer || eqb k majority5)) refl kind
+    (rw (le-ltb kind 4 l, ne_eqb kind buffer h, ne_eqb kind majority5 i) refl)
 
-pub first_start : (kind : ℕ) → (kind ≡ 2 → ⊥) → (kind ≡ 3 → ⊥) → (kind ≡ 5 → ⊥) → 0 ≡ price_start kind
-first_start zero a b c = refl
-first_start (suc zero) a b c = refl
-first_start (suc (suc zero)) a b c = absurd (a refl)
-first_start (suc (suc (suc zero))) a b c = absurd (b refl)
-first_start (suc (suc (suc (suc zero)))) a b c = refl
-first_start (suc (suc (suc (suc (suc zero))))) a b c = absurd (c refl)
-first_start (suc (suc (suc (suc (suc (suc kind)))))) a b c = refl
+pub first_start : (kind : ℕ) → (kind ≡ 2 → ⊥) → (kind ≡ 3 → ⊥) → (kind ≡ 5 → ⊥) → (kind ≡ 6 → ⊥) → 0 ≡ price_start kind
+unfolding any
+first_start kind a b c d =
+    zero_elsewhere price_starts (λ k. eqb k or || (eqb k majority || (eqb k buffer || eqb k majority5))) refl kind
+    (rw (ne_eqb kind or a, ne_eqb kind majority b, ne_eqb kind buffer c, ne_eqb kind majority5 d) refl)
 
 -- a test that no kind of the table has, no kind with prices has
 tested : (p : ℕ → Bool) → any p (length price_counts) ≡ false → (kind : ℕ) → 0 < price_count kind → p kind ≡ false
@@ -193,6 +210,16 @@ tested p e kind l =
       | yes h ↦ (any_none p (length price_counts)).0 e kind h
       | no h ↦ absurd (omega (arith, get_or-eq_default price_counts 0 {n = kind} (omega arith)))
     ]
+
+-- a gate has two prices: one for no slot fed, one for one
+gates_otherwise : ℕ → Bool
+gates_otherwise kind = is_gate kind && not (eqb (price_count kind) 2)
+
+pub gate_prices : (kind : ℕ) → is_gate kind ≡ true → 2 ≡ price_count kind
+unfolding any gates_otherwise
+gate_prices kind g =
+    let h = (any_none gates_otherwise kinds).0 refl kind (gate_kind kind g) in
+    sym (eqb-true (price_count kind) 2 (not-false _ (rw g at h)))
 
 -- a price stands within the list
 price_inside : (kind fed : ℕ) → fed < price_count kind → price_start kind + fed < list_length
@@ -242,7 +269,8 @@ module _ (list : List ℕ) (h : AppliedPrices list) (kind fed : ℕ) where
 -- where no entry of a list is above 255, no price is
 pub price_most : (list : List ℕ) → ((p : ℕ) → get_or list p 0 ≤ 255) → (kind fed : ℕ) → price_of list kind fed ≤ 255
 unfolding price_of
-price_most [] h kind fed = omega (arith, plain_kind kind, bit_le (is_gate kind), bit_le (eqb kind buffer))
+price_most [] h kind fed =
+    omega (arith, plain_kind kind, bit_le (among and majority kind), bit_le (eqb kind majority5), bit_le (eqb kind buffer))
 price_most (p ∷ ps) h kind fed = go (ltb fed (price_count kind))
   where
     go : (b : Bool) → cond b (get_or (p ∷ ps) (price_start kind + fed) 0) 0 ≤ 255
@@ -258,7 +286,8 @@ applied_price [] kind fed l = rw (lt-ltb fed (price_count kind) l) (plain_price 
 -- what is no gate and no buffer costs nothing
 pub no_price : (list : List ℕ) (kind fed : ℕ) → is_gate kind ≡ false → eqb kind buffer ≡ false → price_of list kind fed ≡ 0
 unfolding price_of any
-no_price [] kind fed g b = plain_kind kind ∙ rw (g, b) refl
+no_price [] kind fed g b =
+    let h = (or_none (among and majority kind) (eqb kind majority5)).0 g in plain_kind kind ∙ rw (h.0, h.1, b) refl
 no_price (p ∷ ps) kind fed g b =
     elim (dec_lt 0 (price_count kind)) [
       | yes l ↦ absurd (true_false (priced kind) (rw (lt-ltb 0 (price_count kind) l, g, b) refl) (tested priced refl kind l))

@@ -15,9 +15,10 @@ use Rattle.facts.specs.Bytes.{AreBytes}
 use Rattle.facts.proofs.Sums.{sum_cong, sum_mono, sum_const, sum_add, sum_scale}
 use Rattle.facts.proofs.Reflect.{same, unlike, both_is}
 use Rattle.facts.proofs.Refusals.{InRow, exact, rows_before, one_row, within_one, first_check, first_then, first_scan, scan_rows}
-use Rattle.netlist.specs.Kinds.{buffer, is_gate}
+use Rattle.netlist.specs.Kinds.{and, majority, buffer, majority5, among}
+use Rattle.netlist.specs.Records.{Netlist}
 use Rattle.netlist.specs.Records.{feeds}
-use Rattle.netlist.specs.Counts.{is_buffer, gates, buffer_count}
+use Rattle.netlist.specs.Counts.{is_buffer, buffer_count}
 use Rattle.prices.specs.Prices.{list_length, plain_prices, price_of, price_at, junctions, buffer_junctions}
 use Rattle.prices.specs.Checks.{price_check, price_list_checks}
 use Rattle.prices.specs.Promises.{BadListLength, PriceListFails, PriceListExact, EmptyPriceList, PricesFit}
@@ -57,12 +58,22 @@ plain_buffer kind = go (eqb kind buffer) refl
     go true e = ap (λ (k : ℕ). get_or plain_prices k 0) (eqb-true kind buffer e)
     go false e = refl
 
+-- AND, OR and MAJ, and MAJ5, of a netlist
+abbrev small : Netlist → ℕ → Bool
+small m x = among and majority (m.at x).kind
+
+abbrev five : Netlist → ℕ → Bool
+five m x = eqb (m.at x).kind majority5
+
 pub empty_price_list_lem : EmptyPriceList
-unfolding junctions buffer_junctions price_of gates buffer_count count
+unfolding junctions buffer_junctions price_of buffer_count count
 empty_price_list_lem m = (
   sum_cong _ _ m.size (λ x l. plain_kind (m.at x).kind)
-      ∙ sum_add (λ x. 6 * bit (is_gate (m.at x).kind)) (λ x. 2 * bit (eqb (m.at x).kind buffer)) m.size
-      ∙ ap₂ ◌+◌ (sum_scale 6 (λ x. bit (is_gate (m.at x).kind)) m.size) buffers,
+      ∙ sum_add (λ x. 6 * bit (small m x) + 10 * bit (five m x)) (λ x. 2 * bit (eqb (m.at x).kind buffer)) m.size
+      ∙ ap₂ ◌+◌
+      (sum_add (λ x. 6 * bit (small m x)) (λ x. 10 * bit (five m x)) m.size
+      ∙ ap₂ ◌+◌ (sum_scale 6 (λ x. bit (small m x)) m.size) (sum_scale 10 (λ x. bit (five m x)) m.size))
+      buffers,
   sum_cong _ _ m.size (λ x l. plain_buffer (m.at x).kind) ∙ buffers,
 )
   where

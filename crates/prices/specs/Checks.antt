@@ -4,7 +4,7 @@ use Rattle.facts.specs.declared.Checked.{Checked}
 use Rattle.facts.specs.Checks.{check, ◌and_then◌, scan}
 use Rattle.prices.specs.Prices.{list_length}
 
--- 27: neither empty nor 11 bytes long
+-- 27: neither empty nor 13 bytes long
 abbrev pub bad_list_length : List ℕ → Bool
 bad_list_length list = not (eqb (length list) 0) && not (eqb (length list) list_length)
 

@@ -6,15 +6,15 @@ use Rattle.netlist.specs.Counts.{is_buffer}
 
 -- bytes of a list that is not empty
 abbrev pub list_length : ℕ
-list_length = 11
+list_length = 13
 
--- how many prices of a list each kind has, from no slot fed on: input, AND, OR, MAJ, output, buffer
+-- how many prices of a list each kind has, from no slot fed on: input, AND, OR, MAJ, output, buffer, MAJ5
 abbrev pub price_counts : List ℕ
-price_counts = 0 ∷ 2 ∷ 2 ∷ 2 ∷ 0 ∷ 5 ∷ []
+price_counts = 0 ∷ 2 ∷ 2 ∷ 2 ∷ 0 ∷ 5 ∷ 2 ∷ []
 
 -- and at which position they begin
 abbrev pub price_starts : List ℕ
-price_starts = 0 ∷ 0 ∷ 2 ∷ 4 ∷ 0 ∷ 6 ∷ []
+price_starts = 0 ∷ 0 ∷ 2 ∷ 4 ∷ 0 ∷ 6 ∷ 11 ∷ []
 
 -- both of one kind, none past the tables
 abbrev pub price_count : ℕ → ℕ
@@ -25,7 +25,7 @@ price_start kind = get_or price_starts kind 0
 
 -- what each kind costs where the list is empty
 abbrev pub plain_prices : List ℕ
-plain_prices = 0 ∷ 6 ∷ 6 ∷ 6 ∷ 0 ∷ 2 ∷ []
+plain_prices = 0 ∷ 6 ∷ 6 ∷ 6 ∷ 0 ∷ 2 ∷ 10 ∷ []
 
 -- a list's price of a kind that feeds so many slots; 0 for a number of slots without a position, which no gate and no buffer of a legal netlist feeds
 abbrev pub list_price : List ℕ → ℕ → ℕ → ℕ

@@ -1,13 +1,14 @@
--- What is promised of price lists: 27 and 28 are exact, an empty list is 6 a gate and 2 a buffer, and no record costs more than 255.
+-- What is promised of price lists: 27 and 28 are exact, an empty list is 6 for AND, OR and MAJ, 10 for MAJ5 and 2 for a buffer, and no record costs more than 255.
 use Rattle.std.specs.Prelude.{ℕ, ◌+◌, ◌*◌, ◌≤◌, ◌≡◌, ◌≢◌, List, [], length, get_or}
 use Rattle.facts.specs.Bytes.{AreBytes}
 use Rattle.facts.specs.Refusals.{Conditions, Fails, ◌or◌, Each, Exact}
 use Rattle.netlist.specs.Records.{Netlist}
-use Rattle.netlist.specs.Counts.{gates, buffer_count}
+use Rattle.netlist.specs.Kinds.{and, majority, majority5, among}
+use Rattle.netlist.specs.Counts.{count_kind, count_of, buffer_count}
 use Rattle.prices.specs.Prices.{list_length, junctions, buffer_junctions}
 use Rattle.prices.specs.Checks.{price_list_checks}
 
--- 27: neither empty nor 11 bytes long
+-- 27: neither empty nor 13 bytes long
 abbrev pub BadListLength : List ℕ → Type 0
 BadListLength list = (length list ≢ 0) × (length list ≢ list_length)
 
@@ -19,11 +20,11 @@ PriceListFails list = Fails 27 0 (BadListLength list) or Each (length list) (λ 
 abbrev pub PriceListExact : Type 0
 PriceListExact = (list : List ℕ) → Exact (PriceListFails list) (price_list_checks list)
 
--- with an empty list every gate of a netlist costs 6 and every buffer 2
+-- with an empty list every AND, OR and MAJ of a netlist costs 6, every MAJ5 10 and every buffer 2
 abbrev pub EmptyPriceList : Type 0
 EmptyPriceList =
     (m : Netlist) →
-    (junctions [] m ≡ 6 * gates m + 2 * buffer_count m)
+    (junctions [] m ≡ 6 * count_kind m (among and majority) + 10 * count_of m majority5 + 2 * buffer_count m)
     × (buffer_junctions [] m ≡ 2 * buffer_count m)
 
 -- a netlist costs at most 255 a record, its buffers at most 255 a buffer: of 60,000 records 15,300,000, and 100 times that is below 2 ^ 32

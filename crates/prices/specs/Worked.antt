@@ -1,9 +1,9 @@
 -- Specification 2.6: the positions of a price list, worked through.
 use Rattle.std.specs.Prelude.{ℕ, ◌≡◌, List, [], ◌∷◌, map}
-use Rattle.netlist.specs.Kinds.{input, and, or, majority, output, buffer}
+use Rattle.netlist.specs.Kinds.{input, and, or, majority, output, buffer, majority5}
 use Rattle.prices.specs.Prices.{price_of}
 
--- a kind, a number of slots fed, and the price that the list 1, 2, .., 11 has for it
+-- a kind, a number of slots fed, and the price that the list 1, 2, .., 13 has for it
 pub record PriceCase : Type 0 where
   pub kind : ℕ
   pub fed : ℕ
@@ -26,6 +26,8 @@ price_table =
     ∷ price_case buffer 2 9
     ∷ price_case buffer 3 10
     ∷ price_case buffer 4 11
+    ∷ price_case majority5 0 12
+    ∷ price_case majority5 1 13
     ∷ price_case input 3 0
     ∷ price_case output 0 0
     ∷ []
@@ -33,5 +35,5 @@ price_table =
 -- each is the price that the definitions give
 abbrev pub PriceTableTrue : Type 0
 PriceTableTrue =
-    map (λ c. price_of (1 ∷ 2 ∷ 3 ∷ 4 ∷ 5 ∷ 6 ∷ 7 ∷ 8 ∷ 9 ∷ 10 ∷ 11 ∷ []) c.kind c.fed) price_table
+    map (λ c. price_of (1 ∷ 2 ∷ 3 ∷ 4 ∷ 5 ∷ 6 ∷ 7 ∷ 8 ∷ 9 ∷ 10 ∷ 11 ∷ 12 ∷ 13 ∷ []) c.kind c.fed) price_table
     ≡ map (λ c. c.price) price_table

@@ -6,15 +6,15 @@ ghost use Rattle.prices.specs.Checks.{bad_list_length, price_check, price_list_c
 ghost use Rattle.prices.specs.PrivatePrices.{plain_list, applied, AppliedPrices};
 
 use facts::Checked;
-use netlist::{AND, BUFFER, MAJORITY, OR};
+use netlist::{AND, BUFFER, MAJORITY, MAJORITY5, OR};
 
 // Bytes of a list that is not empty.
-pub const LIST_LENGTH: usize = 11;
+pub const LIST_LENGTH: usize = 13;
 
-// What applies where the list is empty: 6 for every gate, 2 for every buffer.
-pub const PLAIN: [u32; LIST_LENGTH] = [6, 6, 6, 6, 6, 6, 2, 2, 2, 2, 2];
+// What applies where the list is empty: 6 for AND, OR and MAJ, 2 for every buffer, 10 for MAJ5.
+pub const PLAIN: [u32; LIST_LENGTH] = [6, 6, 6, 6, 6, 6, 2, 2, 2, 2, 2, 10, 10];
 
-// Check 27: neither empty nor 11 bytes long.
+// Check 27: neither empty nor 13 bytes long.
 fn bad_list_length(list: &[u8]) -> bool
     ensures { result ≡ bad_list_length list.now }
 {
@@ -69,7 +69,7 @@ fn price_count(kind: u8) -> usize
     ensures { result ≡ price_count kind }
 {
     match kind {
-        AND | OR | MAJORITY => 2,
+        AND | OR | MAJORITY | MAJORITY5 => 2,
         BUFFER => 5,
         _ => 0,
     }
@@ -83,6 +83,7 @@ fn price_start(kind: u8) -> usize
         OR => 2,
         MAJORITY => 4,
         BUFFER => 6,
+        MAJORITY5 => 11,
         _ => 0,
     }
 }

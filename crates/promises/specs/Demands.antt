@@ -38,7 +38,8 @@ pub record RefusedKeeps : Type 0 where
 
 -- demand 1: each call answers a number exactly where its condition is the first that holds, accepts exactly if none does, with the
 -- numbers that specification 4 says, the share rounded as 2.6 says, and a refused call leaves every lent area; a price list
--- decides JJs and share of a mapping alone, an empty one is 6 a gate and 2 a buffer, and no record costs more than 255
+-- decides JJs and share of a mapping alone, an empty one is 6 for AND, OR and MAJ, 10 for MAJ5 and 2 for a buffer, and no record costs
+-- more than 255
 pub record Demand1 : Type 0 where
   pub source : SourceExact
   pub input : InputExact

@@ -39,7 +39,7 @@ WrittenAccepted =
     (source : List ℕ) (caps : Capacities) (list area : List ℕ) → Maps source caps list area →
     verify_answer source caps (written source caps list area) ≡ Buffers (map_answer source caps list area).buffers
 
--- accepted, bytes beyond 10 × M stay as they were
+-- accepted, bytes beyond 14 × M stay as they were
 abbrev pub BeyondKept : Type 0
 BeyondKept =
     (source : List ℕ) (caps : Capacities) (list area : List ℕ) → Maps source caps list area →

@@ -5,6 +5,7 @@ pub mod Outputs
 pub mod Calls
 pub mod Rows
 pub mod Values
+pub mod Functions
 pub mod Writes
 pub mod Accepted
 pub mod Repeats

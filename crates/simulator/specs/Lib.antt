@@ -1,4 +1,5 @@
 pub mod Logic
+pub mod Functions
 pub mod Evaluate
 pub mod Step
 pub mod Run

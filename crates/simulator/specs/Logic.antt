@@ -14,18 +14,22 @@ on area i = not (eqb (get_or area i 0) 0)
 abbrev pub turned : ℕ → Bool → Bool
 turned bits value = cond (eqb (bits % 2) 1) (not value) value
 
--- how many of the first n slots are 1, each turned over where its inversion bit is 1
-unfoldable pub ones_below : ℕ → (ℕ → Bool) → ℕ → ℕ
-ones_below inversion fanins n = count (λ j. turned (inversion / 2 ^ j) (fanins j)) n
+-- what slot j reads: its fanin's value, turned over where its inversion bit is 1
+abbrev pub reads : ℕ → (ℕ → Bool) → ℕ → Bool
+reads inversion fanins j = turned (inversion / 2 ^ j) (fanins j)
 
--- how many of its used slots must be 1 for a record to be 1: input (it uses none), AND, OR, MAJ, output, buffer
+-- how many of the first n slots read 1
+unfoldable pub ones_below : ℕ → (ℕ → Bool) → ℕ → ℕ
+ones_below inversion fanins n = count (reads inversion fanins) n
+
+-- how many of its used slots must be 1 for a record to be 1: input (it uses none), AND, OR, MAJ, output, buffer, MAJ5
 abbrev pub thresholds : List ℕ
-thresholds = 1 ∷ 2 ∷ 1 ∷ 2 ∷ 1 ∷ 1 ∷ []
+thresholds = 1 ∷ 2 ∷ 1 ∷ 2 ∷ 1 ∷ 1 ∷ 3 ∷ []
 
 abbrev pub threshold : ℕ → ℕ
 threshold kind = get_or thresholds kind 1
 
--- a kind's function of its slots: AND is 1 if both slots are, OR if at least one is, MAJ if at least two are; output and buffer copy
+-- a kind's function of its slots: AND is 1 if both slots are, OR if at least one is, MAJ if at least two are, MAJ5 if at least three are; output and buffer copy
 unfoldable pub gate : ℕ → ℕ → (ℕ → Bool) → Bool
 gate kind inversion fanins = leb (threshold kind) (ones_below inversion fanins (arity kind))
 

@@ -1,9 +1,9 @@
 -- For private functions alone: what a record's function reads out of an area, and what it may read without a test.
-use Rattle.std.specs.Prelude.{ℕ, ◌/◌, ◌^◌, ◌<◌, Bool, cond, List, eqb}
+use Rattle.std.specs.Prelude.{ℕ, ◌<◌, Bool, List}
 use Rattle.netlist.specs.declared.Record.{Record}
-use Rattle.netlist.specs.Kinds.{arity, or, majority}
+use Rattle.netlist.specs.Kinds.{arity}
 use Rattle.netlist.specs.Records.{slot}
-use Rattle.simulator.specs.Logic.{on, turned, function, value_of}
+use Rattle.simulator.specs.Logic.{on, reads, function, value_of}
 
 -- a record's function, and what it holds next, where an area says what each record holds
 unfoldable pub function_in : Record → List ℕ → Bool
@@ -18,8 +18,4 @@ pub record Wired (r : Record) (n : ℕ) : Type 0 where
 
 -- what slot j of a record reads, turned over where its inversion bit is 1
 abbrev pub read_in : Record → List ℕ → ℕ → Bool
-read_in r area j = turned (r.inversion / 2 ^ j) (on area (slot r j))
-
--- a gate's third value: what MAJ's third slot reads, 0 for AND, 1 for OR
-abbrev pub third_in : Record → List ℕ → Bool
-third_in r area = cond (eqb r.kind majority) (read_in r area 2) (eqb r.kind or)
+read_in r area j = reads r.inversion (λ j. on area (slot r j)) j

@@ -1,11 +1,11 @@
 // Plain logic: a record's function of what an area holds, and the values of all records.
-ghost use Rattle.std.specs.Prelude.{◌≡◌, ◌+◌, ◌<◌, length, get_or, leb};
+ghost use Rattle.std.specs.Prelude.{◌≡◌, true, ◌<◌, length, get_or};
 ghost use Rattle.facts.specs.Sums.{bit};
-ghost use Rattle.netlist.specs.Kinds.{arity};
+ghost use Rattle.netlist.specs.Kinds.{arity, is_gate};
 ghost use Rattle.netlist.specs.Records.{netlist, record_count, record_at};
 ghost use Rattle.netlist.specs.Source.{IsSource};
 ghost use Rattle.simulator.specs.Logic.{on, turned, values};
-ghost use Rattle.simulator.specs.PrivateLogic.{function_in, value_in, Wired, read_in, third_in};
+ghost use Rattle.simulator.specs.PrivateLogic.{function_in, value_in, Wired, read_in};
 
 use facts::one_if;
 use netlist::{Record, record_reader};
@@ -51,23 +51,22 @@ fn read_slot(r: Record, held: &[u8], j: usize) -> bool
     )
 }
 
-// Whether at least two of three values are 1.
-fn at_least_two(a: bool, b: bool, c: bool) -> bool
-    ensures { result ≡ leb 2 (bit a + bit b + bit c) }
+// A gate's function of what an area holds, where its first slot reads a: how many of its slots read 1, and an OR has one more.
+fn gate_of(r: Record, held: &[u8], a: bool) -> bool
+    requires wired { Wired r (length held.now) }
+    requires kind_value { is_gate r.kind ≡ true }
+    requires a_value { a ≡ read_in r held.now 0 }
+    ensures { result ≡ function_in r held.now }
 {
-    2 <= one_if(a) + one_if(b) + one_if(c)
-}
-
-// A gate's third value: what MAJ's third slot reads, 0 for AND, 1 for OR.
-fn third(r: Record, held: &[u8]) -> bool
-    requires { Wired r (length held.now) }
-    ensures { result ≡ third_in r held.now }
-{
-    if r.kind == netlist::MAJORITY {
-        read_slot(r, held, 2)
-    } else {
-        r.kind == netlist::OR
+    let two = one_if(a) + one_if(read_slot(r, held, 1));
+    if r.kind < netlist::MAJORITY {
+        return 2 <= two + one_if(r.kind == netlist::OR);
     }
+    let three = two + one_if(read_slot(r, held, 2));
+    if r.kind == netlist::MAJORITY {
+        return 2 <= three;
+    }
+    3 <= three + one_if(read_slot(r, held, 3)) + one_if(read_slot(r, held, 4))
 }
 
 // A record's function of what an area holds.
@@ -75,13 +74,15 @@ fn function_of(r: Record, held: &[u8]) -> bool
     requires { Wired r (length held.now) }
     ensures { result ≡ function_in r held.now }
 {
-    if netlist::is_gate(r.kind) {
-        return at_least_two(read_slot(r, held, 0), read_slot(r, held, 1), third(r, held));
-    }
-    if netlist::arity(r.kind) == 0 {
+    let used = netlist::arity(r.kind);
+    if used == 0 {
         return false;
     }
-    read_slot(r, held, 0)
+    let a = read_slot(r, held, 0);
+    if used == 1 {
+        return a;
+    }
+    gate_of(r, held, a)
 }
 
 // What record i holds next, as a byte: an input byte `given` of the row, every other record its function.

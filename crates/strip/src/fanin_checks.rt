@@ -33,7 +33,8 @@ fn bad_fanins(mapped: &[u8], r: Record) -> bool
         0 => false,
         1 => any_bad_fanin(mapped, r, 1),
         2 => any_bad_fanin(mapped, r, 2),
-        _ => any_bad_fanin(mapped, r, netlist::SLOTS),
+        3 => any_bad_fanin(mapped, r, 3),
+        _ => any_bad_fanin(mapped, r, used),
     }
 }
 

@@ -43,7 +43,8 @@ fn trace_used(mapped: &[u8], n: u32, drivers: &mut [u16], r: Record) -> Record
         0 => trace_slots(mapped, n, drivers, r, 0),
         1 => trace_slots(mapped, n, drivers, r, 1),
         2 => trace_slots(mapped, n, drivers, r, 2),
-        _ => trace_slots(mapped, n, drivers, r, netlist::SLOTS),
+        3 => trace_slots(mapped, n, drivers, r, 3),
+        _ => trace_slots(mapped, n, drivers, r, used),
     }
 }
 

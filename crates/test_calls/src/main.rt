@@ -420,7 +420,7 @@ fn read_file(name: &[u8], bytes: &mut [u8]) -> usize
 
 // Reads the file of a family and prints how many cases it has and how many differ.
 fn test_family(name: &[u8], family: u8, fields: usize) {
-    let mut bytes = [0u8; 300000];
+    let mut bytes = [0u8; 400000];
     let n = read_file(name, &mut bytes);
     let file = &bytes[0..n];
     io::write_all(STDOUT_FILENO, name);
@@ -464,9 +464,9 @@ fn test_sizes() {
     io::print_decimal(STDOUT_FILENO, n as u64);
     io::write_all(STDOUT_FILENO, b" bytes\n");
     test_size(inputs, 0);
-    test_size(inputs, 40960);
-    test_size(inputs, 40970);
-    test_size(inputs, 40971);
+    test_size(inputs, 57344);
+    test_size(inputs, 57358);
+    test_size(inputs, 57359);
 }
 
 fn main() {

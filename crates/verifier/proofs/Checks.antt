@@ -1,5 +1,5 @@
 -- Laws of checks 11 to 17, with premises as the code has them: what each test gives of the check's answer.
-use Prim.Native.Nat.{ℕ, zero, suc, ◌+◌, ◌%◌, ◌^◌, ◌<◌, ◌≤◌}
+use Prim.Native.Nat.{ℕ, ◌+◌, ◌%◌, ◌^◌, ◌<◌, ◌≤◌}
 use native.Mathlib.Omega.{arith}
 use native.Mathlib.Numerals.{add-one}
 use mathlib.Core.Path.{◌≡◌, refl, sym, ap, ◌∙◌}
@@ -16,6 +16,7 @@ use Rattle.facts.specs.Sums.{any}
 use Rattle.facts.proofs.Bools.{true_false}
 use Rattle.facts.proofs.Reflect.{reflect, unlike_none}
 use Rattle.facts.proofs.Sums.{any_none, any_cong}
+use Rattle.facts.proofs.Lists.{get_or_replicated}
 use Rattle.facts.proofs.Loops.{NoneYet, any_more, any_found, any_end}
 use Rattle.netlist.specs.declared.Capacities.{Capacities}
 use Rattle.netlist.specs.declared.Record.{Record}
@@ -31,10 +32,7 @@ use Rattle.verifier.specs.PrivateFeeding.{bad_fanin, buffer_checks}
 
 -- a blank record's slots name nothing
 blank_slot : (j : ℕ) → slot blank j ≡ unused
-blank_slot zero = refl
-blank_slot (suc zero) = refl
-blank_slot (suc (suc zero)) = refl
-blank_slot (suc (suc (suc j))) = refl
+blank_slot j = get_or_replicated slots j unused
 
 -- a slot is wrong that the kind does not use and that names something
 module _ (kind : ℕ) (r : Record) (j n : ℕ) (e : n ≡ arity kind) (i : NoneYet (bad_empty kind blank r) slots j) (l : j < slots) where

@@ -113,7 +113,8 @@ fn feed_used(mapped: &[u8], r: Record, counts: &mut [u16]) -> bool
         0 => true,
         1 => feed_slots(mapped, r, 1, counts),
         2 => feed_slots(mapped, r, 2, counts),
-        _ => feed_slots(mapped, r, netlist::SLOTS, counts),
+        3 => feed_slots(mapped, r, 3, counts),
+        _ => feed_slots(mapped, r, used, counts),
     }
 }
 

@@ -108,7 +108,8 @@ fn used_strays(mapped: &[u8], n: u32, drivers: &mut [u16], a: Record, r: Record)
         0 => false,
         1 => any_strays(mapped, n, drivers, a, r, 1),
         2 => any_strays(mapped, n, drivers, a, r, 2),
-        _ => any_strays(mapped, n, drivers, a, r, netlist::SLOTS),
+        3 => any_strays(mapped, n, drivers, a, r, 3),
+        _ => any_strays(mapped, n, drivers, a, r, used),
     }
 }
 

@@ -51,7 +51,7 @@ impl Capacities {
     pub fn of(self, kind: u8) -> usize {
         match kind {
             INPUT => self.input as usize,
-            AND | OR | MAJ => 1,
+            AND | OR | MAJ | MAJ5 => 1,
             BUFFER => self.buffer as usize,
             _ => 0,
         }

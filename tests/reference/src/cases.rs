@@ -3,7 +3,7 @@
 use crate::capacities::{Capacities, MAX_INPUT_CAPACITY};
 use crate::damage::{self, ALL_DAMAGE, SOURCE_CHECKS};
 use crate::engine::{Call, Name, NAMES};
-use crate::generator::{self, steep, ALL_LEVELS};
+use crate::generator::{self, steep, Gates, ALL_LEVELS};
 use crate::mapper::mapping;
 use crate::prices::LIST;
 use crate::random::Random;
@@ -33,7 +33,7 @@ impl Subject {
 }
 
 /// A sound subject of at most `most` records, made for inputs that may feed so many slots.
-pub fn sound_with(random: &mut Random, most: usize, input: u32) -> Subject {
+pub fn sound_with(random: &mut Random, most: usize, input: u32, gates: Gates) -> Subject {
     let capacities = Capacities::new(random.between(2, 4) as u32, input);
     let levels = random.pick(&ALL_LEVELS);
     let size = match random.below(12) {
@@ -41,12 +41,17 @@ pub fn sound_with(random: &mut Random, most: usize, input: u32) -> Subject {
         1..=3 => random.below(most + 1),
         _ => random.below(most.min(16) + 1),
     };
-    Subject::new(generator::source(random, size, capacities, levels), capacities)
+    Subject::new(generator::source(random, size, capacities, levels, gates), capacities)
 }
 
-/// A sound subject of at most `most` records, whose inputs do not branch.
+/// A sound subject of at most `most` records, without MAJ5, whose inputs do not branch.
 pub fn unbranched(random: &mut Random, most: usize) -> Subject {
-    sound_with(random, most, 1)
+    sound_with(random, most, 1, Gates::UpToThree)
+}
+
+/// With MAJ5 two times in 3.
+fn any_gates(random: &mut Random) -> Gates {
+    random.pick(&[Gates::UpToThree, Gates::UpToFive, Gates::UpToFive])
 }
 
 /// A capacity of an input: mostly small, now and then as large as it may be.
@@ -65,10 +70,12 @@ fn input_capacity(random: &mut Random) -> u32 {
 /// One input with about as many nodes at distance 1 as it may feed, one less or one more.
 fn about_full(random: &mut Random, capacities: Capacities) -> Vec<Record> {
     let (s, b) = (capacities.s(), capacities.input as usize);
+    let kind = random.pick(&[MAJ, MAJ5]);
     if random.one_in(2) {
-        shapes::sinks_at(b - 1 + random.below(3), 1)
+        shapes::sinks_of_at(kind, b - 1 + random.below(3), 1)
     } else {
-        shapes::sinks_at((s * b - 1 + random.below(3)).min(12_285), 2)
+        let most = used_slots(kind) * (MAX_SOURCE - 1);
+        shapes::sinks_of_at(kind, (s * b - 1 + random.below(3)).min(most), 2)
     }
 }
 
@@ -82,7 +89,8 @@ pub fn sound(random: &mut Random, most: usize) -> Subject {
             return Subject::new(records, capacities);
         }
     }
-    sound_with(random, most, input)
+    let gates = any_gates(random);
+    sound_with(random, most, input, gates)
 }
 
 /// The subject with another capacity of an input: once in 24 times one outside 1 to 4,095, once in 6
@@ -195,7 +203,7 @@ fn with_zeros(random: &mut Random, mut prices: Vec<u8>) -> Vec<u8> {
 
 /// A list that 27 refuses, with and without prices of 0.
 pub fn wrong_length(random: &mut Random) -> Vec<u8> {
-    let len = random.pick(&[1, 2, 3, 4, 5, 6, 7, 8, 9, 10, 10, 12, 12, 13, 22, 255]);
+    let len = random.pick(&[1, 2, 3, 4, 5, 6, 7, 8, 9, 10, 11, 11, 12, 12, 14, 26, 255]);
     let prices = good_prices(random, len);
     if random.one_in(2) {
         with_zeros(random, prices)
@@ -429,7 +437,7 @@ fn relevelled(random: &mut Random, source: &[u8]) -> Vec<u8> {
 pub fn levels_call(random: &mut Random, subject: &Subject) -> Call {
     let mut call = call(Name::Levels, subject);
     if random.one_in(100) {
-        call.source = encode(&steep(random, subject.own.s()));
+        call.source = encode(&steep(random, subject.own.s(), Gates::of(&subject.records)));
     }
     call.source = relevelled(random, &call.source);
     let right = call.source.len();
@@ -500,34 +508,42 @@ pub fn limit(random: &mut Random) -> Subject {
     let input = input_capacity(random);
     let capacities = Capacities::new(s as u32, input);
     let b = input as usize;
-    let records = match random.below(20) {
+    let kind = random.pick(&[MAJ, MAJ5, MAJ5]);
+    let gates = any_gates(random);
+    let records = match random.below(22) {
         0 => shapes::inputs(MAX_SOURCE),
         1 => shapes::inputs(MAX_SOURCE + random.between(1, 3)),
         2 => shapes::lines(14, MAX_LEVEL),
         3 => shapes::lines(1, MAX_LEVEL),
         9..=11 => shapes::lines(random.between(15, 40), MAX_LEVEL),
         4 => shapes::wide(random.between(2, 1500), s),
-        5 => shapes::wide_majorities(random.between(2, 600), s),
+        5 => shapes::wide_gates(kind, random.between(2, 600), s),
         6 => shapes::chains(random.between(1, 900)),
         7 => {
             let size = random.between(64, 400);
             shapes::layered(random, size, capacities)
         }
-        8 => generator::source(random, 500, capacities, generator::Levels::Roomy),
+        8 => generator::source(random, 500, capacities, generator::Levels::Roomy, gates),
         12..=16 => about_full(random, capacities),
-        17 => shapes::fans(random.between(2, 300), b),
+        17 => shapes::fans_of(kind, random.between(2, 300), b),
         18 => shapes::on_a_gate(random.between(0, 600), 1),
+        19 => shapes::on_a(MAJ5, random.between(0, 600), 1),
+        20 => {
+            let size = random.between(64, 300);
+            shapes::layered_of(random, &shapes::SOME_FIVES, size, capacities)
+        }
         _ => shapes::sinks_at(random.between(4094, 4097), 1),
     };
     Subject::new(records, capacities)
 }
 
-/// A call on the worked case with about the most records that a mapped netlist may have.
+/// A call on the worked case, or on a MAJ5, with about the most records that a mapped netlist may have.
 pub fn full_call(random: &mut Random) -> Call {
     let capacities = Capacities::new(2, input_capacity(random));
-    let subject = Subject::new(shapes::worked(), capacities);
+    let source = if random.one_in(2) { shapes::worked() } else { shapes::one_five() };
+    let subject = Subject::new(source, capacities);
     let n = subject.records.len();
-    let own = mapping(&subject.source, capacities).expect("the worked case").records;
+    let own = mapping(&subject.source, capacities).expect("a tree on every net").records;
     let mut records = shapes::padded(&own, 2, MAX_MAPPED - 2 + random.below(4));
     if random.one_in(2) {
         generator::shuffle_buffers(random, &mut records, n);
@@ -538,12 +554,13 @@ pub fn full_call(random: &mut Random) -> Call {
         mapped[at] ^= 1 << random.below(8);
     }
     let state = vec![random.bytes(2 * records.len())];
-    let rows = random.bits(2);
+    let rows = random.bits(number_of(INPUT, &subject.records));
     match random.below(3) {
         0 => Call { mapped, ..call(Name::Verify, &subject) },
         1 => Call { mapped, rows, areas: state, ..call(Name::Step, &subject) },
         _ => {
-            let areas = vec![state.concat(), vec![FILL; 2]];
+            let outputs = number_of(OUTPUT, &subject.records);
+            let areas = vec![state.concat(), vec![FILL; outputs]];
             Call { number: 1, mapped, rows, areas, ..call(Name::Run, &subject) }
         }
     }
@@ -551,29 +568,29 @@ pub fn full_call(random: &mut Random) -> Call {
 
 /// The verifier on a netlist in which one buffer feeds about 65,536 slots.
 pub fn crowded_call(random: &mut Random) -> Call {
-    let source = shapes::wide_majorities(MAX_SOURCE, 2)
-        .iter()
-        .map(|record| Record { level: record.level.min(2), ..*record })
-        .collect();
+    let kind = random.pick(&[MAJ, MAJ5]);
+    let source = shapes::sinks_of_at(kind, used_slots(kind) * (MAX_SOURCE - 1), 2);
     let subject = Subject::new(source, Capacities::new(4, input_capacity(random)));
     let n = subject.records.len();
     let mut records = subject.records.clone();
     for record in &mut records[1..] {
-        record.slots = [n as u16; SLOTS];
+        record.slots[..used_slots(kind)].fill(n as u16);
     }
     records.push(Record::buffer(1, 0));
-    let buffers = random.between(65_534, 65_542) - SLOTS * (n - 1);
+    let buffers = random.between(65_534, 65_542) - used_slots(kind) * (n - 1);
     records.resize(records.len() + buffers, Record::buffer(2, n as u16));
     Call { mapped: encode(&records), ..call(Name::Verify, &subject) }
 }
 
 /// The verifier on a netlist in which one input feeds about 65,536 slots, and may feed 4,095.
 pub fn crowded_input_call(random: &mut Random) -> Call {
-    let source = shapes::sinks_at(SLOTS * (MAX_SOURCE - 1), 1);
+    let kind = random.pick(&[MAJ, MAJ5]);
+    let sinks = used_slots(kind) * (MAX_SOURCE - 1);
+    let source = shapes::sinks_of_at(kind, sinks, 1);
     let capacities = Capacities::new(random.between(2, 4) as u32, MAX_INPUT_CAPACITY);
     let subject = Subject::new(source, capacities);
     let mut records = subject.records.clone();
-    let buffers = random.between(65_534, 65_542) - SLOTS * (MAX_SOURCE - 1);
+    let buffers = random.between(65_534, 65_542) - sinks;
     records.resize(records.len() + buffers, Record::buffer(1, 0));
     Call { mapped: encode(&records), ..call(Name::Verify, &subject) }
 }

@@ -20,9 +20,14 @@ fn some(
     Some(random.pick(&found))
 }
 
-/// Check 4: a kind above 4.
+/// Check 4: a kind that stands in no source. MAJ5 is one of them: a record that is made one lacks
+/// fanins, and one that was one becomes a MAJ with fanins in slots that it does not use, so that 6
+/// refuses both.
 fn bad_kind(random: &mut Random, records: &mut [Record], k: usize) {
-    records[k].kind = random.pick(&[5, 5, 6, 7, 128, 255]);
+    records[k].kind = match random.pick(&[BUFFER, BUFFER, MAJ5, 7, 128, 255]) {
+        MAJ5 if records[k].kind == MAJ5 => MAJ,
+        kind => kind,
+    };
 }
 
 /// Check 5: a bit that no slot of the kind has.
@@ -51,8 +56,23 @@ fn bad_slot(random: &mut Random, records: &mut [Record], k: usize) {
     };
 }
 
-/// Check 7: a level as it may not be.
+/// One slot of some MAJ5 gets a fanin that does not stand lower, if one has such a record before it.
+fn high_fanin(random: &mut Random, records: &mut [Record]) -> Option<()> {
+    let high = |k: usize, record: &Record| record.is_driver() && record.level >= records[k].level;
+    let k = some(random, records, |k, record| {
+        record.kind == MAJ5 && records[..k].iter().any(|earlier| high(k, earlier))
+    })?;
+    let fanin = some(random, &records[..k], |_, earlier| high(k, earlier))?;
+    records[k].slots[random.below(SLOTS)] = fanin as u16;
+    Some(())
+}
+
+/// Check 7: a level as it may not be, or one fanin of a MAJ5.
 fn bad_level(random: &mut Random, records: &mut [Record], k: usize) {
+    let five = records[k].kind == MAJ5;
+    if five && !random.one_in(4) && high_fanin(random, records).is_some() {
+        return;
+    }
     let lowest = records[k].fanins().iter().filter_map(|&f| records.get(usize::from(f)));
     let fanin_level = lowest.map(|fanin| fanin.level).max().unwrap_or(1);
     let own = records[k].level;
@@ -222,11 +242,10 @@ fn apply(
         }
         Damage::BufferField => {
             let k = any_buffer(random, records)?;
-            match random.below(4) {
-                0 => records[k].kind = random.pick(&[0, 1, 2, 3, 4, 6, 255]),
-                1 => records[k].inversion = 1 << random.below(8),
-                2 => records[k].slots[1] ^= 1 << random.below(16),
-                _ => records[k].slots[2] ^= 1 << random.below(16),
+            match random.below(1 + SLOTS) {
+                0 => records[k].kind = random.pick(&[INPUT, AND, OR, MAJ, OUTPUT, MAJ5, 255]),
+                SLOTS => records[k].inversion = 1 << random.below(8),
+                slot => records[k].slots[slot] ^= 1 << random.below(16),
             }
         }
         Damage::BufferLevel => {
@@ -249,7 +268,8 @@ fn apply(
         Damage::LaterSource => {
             let k = some(random, &records[..n], |_, record| used_slots(record.kind) > 0)?;
             let later = random.between(k, n - 1);
-            records[k].slots[0] = later as u16;
+            let slot = if records[k].kind == MAJ5 { random.below(SLOTS) } else { 0 };
+            records[k].slots[slot] = later as u16;
         }
         Damage::Loop => {
             let one = any_buffer(random, records)?;

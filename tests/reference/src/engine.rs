@@ -46,7 +46,7 @@ pub const FAST: Engine = Engine {
 /// The fast path with the mapper's prices from passes over what it has written.
 pub const BY_A_PASS: Engine = Engine { map: fast::map_priced_by_a_pass, ..FAST };
 
-#[derive(Clone, Copy, PartialEq, Eq, Debug)]
+#[derive(Clone, Copy, PartialEq, Eq, PartialOrd, Ord, Debug)]
 pub enum Name {
     Map,
     Count,

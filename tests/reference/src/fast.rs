@@ -14,15 +14,32 @@ type Refused = (u32, u32);
 
 /// No slot, in the lists of sinks.
 const NONE: u16 = u16::MAX;
-/// A slot's number is 4 times its record's index plus its own.
-const SLOT_NUMBERS: usize = 4 * MAX_SOURCE;
+/// A slot's number is this many times its record's index plus its own.
+const STRIDE: usize = SLOTS;
+const SLOT_NUMBERS: usize = STRIDE * MAX_SOURCE;
 const LEVELS: usize = MAX_LEVEL as usize + 1;
 
-/// Used slots and inversion bits of the kinds 0 to 4, looked up instead of worked out.
-const USED: [usize; 5] =
-    [used_slots(0), used_slots(1), used_slots(2), used_slots(3), used_slots(4)];
-const BITS: [u8; 5] =
-    [inversion_bits(0), inversion_bits(1), inversion_bits(2), inversion_bits(3), inversion_bits(4)];
+/// The kinds are below this.
+const KINDS: usize = MAJ5 as usize + 1;
+
+/// The used slots of each kind, looked up instead of worked out. Where the kinds are told apart, those
+/// of two slots, which are the most, come first by this table: a jump on the kind alone goes wrong more
+/// often.
+const USED: [u8; 256] = {
+    let mut used = [0; 256];
+    let mut kind = 0;
+    while kind < KINDS {
+        used[kind] = used_slots(kind as u8) as u8;
+        kind += 1;
+    }
+    used
+};
+
+/// The used slots of a record.
+#[inline(always)]
+fn used(r: &Bytes) -> usize {
+    USED[usize::from(r[0])].into()
+}
 
 /// A local array of which a netlist uses, and pays for, the first entries only.
 struct Local<T, const K: usize>([MaybeUninit<T>; K]);
@@ -84,19 +101,40 @@ fn check_capacities(capacities: Capacities) -> Result<Buffers, Refused> {
 /// The prices of a list, looked up by kind and number of slots.
 struct Prices {
     /// Of the kinds of a source's records, by whether they feed a slot.
-    records: [[u32; 2]; 5],
+    records: [[u32; 2]; KINDS],
     /// Of buffers, by the slots that they feed.
     buffers: [u32; 5],
 }
 
+/// What a gate and a MAJ5 cost without a list.
+const GATE: u32 = 6;
+const GATE_OF_FIVE: u32 = 10;
+const ONE_BUFFER: u32 = 2;
+
 impl Prices {
     const EMPTY: Prices =
-        Prices { records: [[0, 0], [6, 6], [6, 6], [6, 6], [0, 0]], buffers: [2; 5] };
+        Prices::new([GATE; 2], [GATE; 2], [GATE; 2], [GATE_OF_FIVE; 2], [ONE_BUFFER; 5]);
+
+    /// Inputs and outputs cost nothing, and no source has a buffer.
+    const fn new(
+        and: [u32; 2],
+        or: [u32; 2],
+        maj: [u32; 2],
+        maj5: [u32; 2],
+        buffers: [u32; 5],
+    ) -> Prices {
+        let mut records = [[0; 2]; KINDS];
+        records[AND as usize] = and;
+        records[OR as usize] = or;
+        records[MAJ as usize] = maj;
+        records[MAJ5 as usize] = maj5;
+        Prices { records, buffers }
+    }
 
     fn of(list: &[u8; LIST]) -> Prices {
         let at = |position: usize| u32::from(list[position]);
-        let [and, or, maj] = [0, 2, 4].map(|first| [at(first), at(first + 1)]);
-        Prices { records: [[0, 0], and, or, maj, [0, 0]], buffers: [6, 7, 8, 9, 10].map(at) }
+        let [and, or, maj, maj5] = [0, 2, 4, 11].map(|first| [at(first), at(first + 1)]);
+        Prices::new(and, or, maj, maj5, [6, 7, 8, 9, 10].map(at))
     }
 
     /// What the buffers cost on which so many nodes hang: all feed S of them but the last, which
@@ -122,7 +160,7 @@ fn check_prices(list: &[u8]) -> Result<Prices, Refused> {
     }
 }
 
-/// The ten bytes of a record.
+/// The bytes of a record.
 type Bytes = [u8; WIDTH];
 
 #[inline(always)]
@@ -140,12 +178,29 @@ struct Totals {
     depth: u16,
     inputs: usize,
     outputs: usize,
+    /// The number of MAJ5.
+    fives: usize,
 }
 
-/// Checks 6 and 7 of a record with its used slots known, an output's level apart.
+/// The inversion bits of a record that uses U slots: a gate's, or none.
+const fn bits<const U: usize, const GATE: bool>() -> u8 {
+    if GATE {
+        (1 << U) - 1
+    } else {
+        0
+    }
+}
+
+/// Checks 5 to 7 of a record with its used slots known, an output's level apart.
 #[inline(always)]
-fn check_slots<const U: usize>(earlier: &[Bytes], r: &Bytes) -> Result<(), Refused> {
+fn check_slots<const U: usize, const GATE: bool>(
+    earlier: &[Bytes],
+    r: &Bytes,
+) -> Result<(), Refused> {
     let k = earlier.len() as u32;
+    if r[1] & !bits::<U, GATE>() != 0 {
+        return Err((5, k));
+    }
     for j in 0..U {
         if earlier.get(slot(r, j)).is_none_or(|fanin| fanin[0] == OUTPUT) {
             return Err((6, k));
@@ -170,31 +225,31 @@ fn check_slots<const U: usize>(earlier: &[Bytes], r: &Bytes) -> Result<(), Refus
 #[inline(always)]
 fn check_record(earlier: &[Bytes], r: &Bytes, totals: &mut Totals) -> Result<(), Refused> {
     let k = earlier.len() as u32;
-    let kind = r[0];
-    if kind > OUTPUT {
-        return Err((4, k));
+    if used(r) == 2 {
+        return check_slots::<2, true>(earlier, r);
     }
-    if r[1] & !BITS[usize::from(kind)] != 0 {
-        return Err((5, k));
-    }
-    match kind {
+    match r[0] {
         INPUT => {
-            check_slots::<0>(earlier, r)?;
+            check_slots::<0, false>(earlier, r)?;
             if level(r) != 0 {
                 return Err((7, k));
             }
             totals.inputs += 1;
         }
         OUTPUT => {
-            check_slots::<1>(earlier, r)?;
+            check_slots::<1, false>(earlier, r)?;
             if totals.outputs > 0 && level(r) != totals.depth {
                 return Err((7, k));
             }
             totals.depth = level(r);
             totals.outputs += 1;
         }
-        MAJ => check_slots::<3>(earlier, r)?,
-        _ => check_slots::<2>(earlier, r)?,
+        MAJ => check_slots::<3, true>(earlier, r)?,
+        MAJ5 => {
+            check_slots::<5, true>(earlier, r)?;
+            totals.fives += 1;
+        }
+        _ => return Err((4, k)),
     }
     Ok(())
 }
@@ -208,7 +263,7 @@ fn check_source(source: &[u8]) -> Result<(&[Bytes], Totals), Refused> {
     if records.len() > MAX_SOURCE {
         return Err((3, 0));
     }
-    let mut totals = Totals { depth: 0, inputs: 0, outputs: 0 };
+    let mut totals = Totals { depth: 0, inputs: 0, outputs: 0, fives: 0 };
     for (k, r) in records.iter().enumerate() {
         check_record(&records[..k], r, &mut totals)?;
     }
@@ -230,8 +285,8 @@ impl Sinks<'_> {
         let sinks = &mut self;
         for (k, r) in source.iter().enumerate().rev() {
             seen(r[0], sinks.first[k] != NONE);
-            for j in (0..USED[usize::from(r[0])]).rev() {
-                let number = 4 * k + j;
+            for j in (0..used(r)).rev() {
+                let number = STRIDE * k + j;
                 sinks.next[number] = sinks.first[slot(r, j)];
                 sinks.first[slot(r, j)] = number as u16;
             }
@@ -247,7 +302,7 @@ fn fill_row(source: &[Bytes], sinks: &Sinks, driver: usize, row: &mut [u16; LEVE
     let mut largest = 0;
     let mut at = sinks.first[driver];
     while at != NONE {
-        let distance = usize::from(level(&source[usize::from(at) / 4]) - own);
+        let distance = usize::from(level(&source[usize::from(at) / STRIDE]) - own);
         row[distance] += 1;
         largest = largest.max(distance);
         at = sinks.next[usize::from(at)];
@@ -295,7 +350,7 @@ fn only_sink(source: &[Bytes], sinks: &Sinks, driver: usize) -> Option<(usize, u
     if sinks.next[at] != NONE {
         return None;
     }
-    Some((at, usize::from(level(&source[at / 4]) - level(&source[driver]))))
+    Some((at, usize::from(level(&source[at / STRIDE]) - level(&source[driver]))))
 }
 
 /// The buffers of all nets, and what they cost.
@@ -351,15 +406,16 @@ impl Writer<'_> {
     #[inline(always)]
     fn buffer(&mut self, level: u16, fanin: usize) {
         let (level, fanin) = (level.to_le_bytes(), (fanin as u16).to_le_bytes());
-        self.records[self.free] =
-            [BUFFER, 0, level[0], level[1], fanin[0], fanin[1], 255, 255, 255, 255];
+        let mut record = [0xFF; WIDTH];
+        record[..6].copy_from_slice(&[BUFFER, 0, level[0], level[1], fanin[0], fanin[1]]);
+        self.records[self.free] = record;
         self.free += 1;
     }
 
     #[inline(always)]
     fn rewire(&mut self, at: usize, fanin: usize) {
-        let place = 4 + 2 * (at % 4);
-        self.records[at / 4][place..place + 2].copy_from_slice(&(fanin as u16).to_le_bytes());
+        let place = 4 + 2 * (at % STRIDE);
+        self.records[at / STRIDE][place..place + 2].copy_from_slice(&(fanin as u16).to_le_bytes());
     }
 }
 
@@ -399,7 +455,7 @@ fn write_tree<const S: usize>(
     let mut at = sinks.first[driver];
     while at != NONE {
         let number = usize::from(at);
-        let d = usize::from(level(&source[number / 4]) - own);
+        let d = usize::from(level(&source[number / STRIDE]) - own);
         writer.rewire(number, usize::from(nearer[d]) + usize::from(row[d]) / S);
         row[d] += u16::from(d > 1);
         at = sinks.next[number];
@@ -456,7 +512,7 @@ fn price_written(prices: &Prices, records: &[Bytes], n: usize) -> (u32, u32) {
     let feeds = feeds.first(records.len(), 0);
     let (kept, buffers) = records.split_at(n);
     for r in kept {
-        for j in 0..USED[usize::from(r[0])] {
+        for j in 0..used(r) {
             feeds[slot(r, j)] += 1;
         }
     }
@@ -491,7 +547,7 @@ fn map_checked<const S: usize, const PRICED: bool>(
     let n = source.len();
     let mut first = Local::<u16, MAX_SOURCE>::new();
     let mut next = Local::<u16, SLOT_NUMBERS>::new();
-    let lists = Sinks { first: first.first(n, NONE), next: next.first(4 * n, NONE) };
+    let lists = Sinks { first: first.first(n, NONE), next: next.first(STRIDE * n, NONE) };
     let mut gate_junctions = 0;
     let sinks = lists.fill(source, |kind, fed| {
         if PRICED {
@@ -511,7 +567,11 @@ fn map_checked<const S: usize, const PRICED: bool>(
     let records = mapped.as_chunks_mut().0;
     write_all::<S>(source, &sinks, &mut row, records);
     let (gate_part, buffer_part) = match pricing {
-        Pricing::Numbers => (6 * (n - totals.inputs - totals.outputs) as u32, 2 * buffers),
+        Pricing::Numbers => {
+            let gates = n - totals.inputs - totals.outputs;
+            let fives = totals.fives as u32;
+            (GATE * (gates as u32 - fives) + GATE_OF_FIVE * fives, ONE_BUFFER * buffers)
+        }
         Pricing::Walk => (gate_junctions, counted.junctions),
         Pricing::Pass => price_written(prices, &records[..m as usize], n),
     };
@@ -573,7 +633,7 @@ fn count_checked<const S: usize>(source: &[u8], b: u32, record: u32) -> Result<[
     let mut row = [0; LEVELS];
     let mut largest = 0;
     for r in &source[driver + 1..] {
-        for j in 0..USED[usize::from(r[0])] {
+        for j in 0..used(r) {
             if slot(r, j) == driver {
                 let distance = usize::from(level(r) - own);
                 row[distance] += 1;
@@ -635,7 +695,7 @@ fn count_nets_checked<const S: usize>(
     }
     let mut first = Local::<u16, MAX_SOURCE>::new();
     let mut next = Local::<u16, SLOT_NUMBERS>::new();
-    let lists = Sinks { first: first.first(n, NONE), next: next.first(4 * n, NONE) };
+    let lists = Sinks { first: first.first(n, NONE), next: next.first(STRIDE * n, NONE) };
     let sinks = lists.fill(source, |_, _| {});
     let mut counted = Local::<u32, MAX_SOURCE>::new();
     let counted = counted.first(n, 0);
@@ -732,7 +792,7 @@ fn driver_of(mapped: &[Bytes], n: usize, fanin: usize, drivers: &mut [u16]) -> u
 fn check_traces(source: &[Bytes], mapped: &[Bytes], drivers: &mut [u16]) -> Result<(), Refused> {
     let n = source.len();
     for (k, (old, new)) in source.iter().zip(mapped).enumerate() {
-        for j in 0..USED[usize::from(old[0])] {
+        for j in 0..used(old) {
             if driver_of(mapped, n, slot(new, j), drivers) != slot(old, j) {
                 return Err((16, k as u32));
             }
@@ -751,7 +811,7 @@ fn check_buffers(
 ) -> Result<(), Refused> {
     for k in n..mapped.len() {
         let r = &mapped[k];
-        if r[..2] != [BUFFER, 0] || r[6..] != [255; 4] || level(r) > MAX_LEVEL {
+        if r[..2] != [BUFFER, 0] || r[6..] != [0xFF; WIDTH][6..] || level(r) > MAX_LEVEL {
             return Err((13, k as u32));
         }
         check_fanins::<1>(mapped, k, feeds)?;
@@ -789,11 +849,15 @@ fn check_mapped<'a, const S: usize>(
     let mut feeds = Local::<u16, MAX_MAPPED>::new();
     let feeds = feeds.first(m, 0);
     for (k, old) in source.iter().enumerate() {
+        if used(old) == 2 {
+            check_kept::<2>(old, mapped, k, feeds)?;
+            continue;
+        }
         match old[0] {
             INPUT => check_kept::<0>(old, mapped, k, feeds)?,
             OUTPUT => check_kept::<1>(old, mapped, k, feeds)?,
             MAJ => check_kept::<3>(old, mapped, k, feeds)?,
-            _ => check_kept::<2>(old, mapped, k, feeds)?,
+            _ => check_kept::<5>(old, mapped, k, feeds)?,
         }
     }
     let mut drivers = Local::<u16, MAX_MAPPED>::new();
@@ -846,13 +910,15 @@ fn check_rows(rows: &[u8]) -> Result<(), Refused> {
 #[inline(always)]
 fn function(r: &Bytes, values: &[u8]) -> u8 {
     let value = |j: usize| values[slot(r, j)] ^ (r[1] >> j & 1);
+    if used(r) == 2 {
+        return u8::from(value(0) + value(1) > u8::from(r[0] == AND));
+    }
     match r[0] {
-        AND => value(0) & value(1),
-        OR => value(0) | value(1),
         MAJ => {
             let (a, b, c) = (value(0), value(1), value(2));
             a & b | (a | b) & c
         }
+        MAJ5 => u8::from(value(0) + value(1) + value(2) + value(3) + value(4) > 2),
         _ => values[slot(r, 0)],
     }
 }
@@ -889,7 +955,14 @@ fn advance(n: usize, mapped: &[Bytes], row: &[u8], before: &[u8], after: &mut [u
             _ => function(r, before),
         };
     }
-    for (r, value) in buffers.iter().zip(high) {
+    pass_on(buffers, before, high);
+}
+
+/// Every buffer takes what its fanin held. Not inlined, so that its time does not go by where the loop
+/// happens to stand.
+#[inline(never)]
+fn pass_on(buffers: &[Bytes], before: &[u8], after: &mut [u8]) {
+    for (r, value) in buffers.iter().zip(after) {
         *value = before[slot(r, 0)];
     }
 }
@@ -979,9 +1052,16 @@ pub fn run(source: &[u8], capacities: Capacities, mapped: &[u8], areas: Run) -> 
 /// that is still to come. More than any number of sinks.
 const CLOSED: u16 = 1 << 15;
 
-/// Check 6 of a record that uses U slots, each slot counted at the record it names.
+/// Checks 5 and 6 of a record that uses U slots, each slot counted at the record it names.
 #[inline(always)]
-fn count_slots<const U: usize>(r: &Bytes, k: usize, sinks: &mut [u16]) -> Result<(), Refused> {
+fn count_slots<const U: usize, const GATE: bool>(
+    r: &Bytes,
+    k: usize,
+    sinks: &mut [u16],
+) -> Result<(), Refused> {
+    if r[1] & !bits::<U, GATE>() != 0 {
+        return Err((5, k as u32));
+    }
     for j in 0..U {
         match sinks.get_mut(slot(r, j)) {
             Some(count) if *count < CLOSED => *count += 1,
@@ -997,18 +1077,17 @@ fn count_slots<const U: usize>(r: &Bytes, k: usize, sinks: &mut [u16]) -> Result
 /// Checks 4 to 6 of each record in turn, and the number of sinks of each. All are closed before.
 fn count_sinks(source: &[Bytes], sinks: &mut [u16]) -> Result<(), Refused> {
     for (k, r) in source.iter().enumerate() {
-        let kind = usize::from(r[0]);
-        if kind > usize::from(OUTPUT) {
-            return Err((4, k as u32));
-        }
-        if r[1] & !BITS[kind] != 0 {
-            return Err((5, k as u32));
+        if used(r) == 2 {
+            count_slots::<2, true>(r, k, sinks)?;
+            sinks[k] = 0;
+            continue;
         }
         match r[0] {
-            INPUT => count_slots::<0>(r, k, sinks)?,
-            OUTPUT => count_slots::<1>(r, k, sinks)?,
-            MAJ => count_slots::<3>(r, k, sinks)?,
-            _ => count_slots::<2>(r, k, sinks)?,
+            INPUT => count_slots::<0, false>(r, k, sinks)?,
+            OUTPUT => count_slots::<1, false>(r, k, sinks)?,
+            MAJ => count_slots::<3, true>(r, k, sinks)?,
+            MAJ5 => count_slots::<5, true>(r, k, sinks)?,
+            _ => return Err((4, k as u32)),
         }
         sinks[k] = if r[0] == OUTPUT { CLOSED } else { 0 };
     }
@@ -1055,13 +1134,14 @@ fn highest_named<const U: usize>(r: &Bytes, entries: &[u16]) -> u16 {
 }
 
 /// The least level of each record, an output's without the others'. An entry of `sinks` becomes the
-/// least level that the record's sinks can have. No level is above 16,384, the number of all slots
+/// least level that the record's sinks can have. No level is above 24,576, the number of all slots
 /// and records.
 fn set_levels<const S: usize>(source: &[Bytes], sinks: &mut [u16], levels: &mut [u16]) -> Highest {
     let few = const { &heights(S) };
     let mut highest = Highest { all: 0, outputs: 0 };
     for (k, (r, own)) in source.iter().zip(levels).enumerate() {
         let level = match r[0] {
+            _ if used(r) == 2 => highest_named::<2>(r, sinks),
             INPUT => 0,
             OUTPUT => {
                 let level = highest_named::<1>(r, sinks);
@@ -1069,7 +1149,7 @@ fn set_levels<const S: usize>(source: &[Bytes], sinks: &mut [u16], levels: &mut 
                 level
             }
             MAJ => highest_named::<3>(r, sinks),
-            _ => highest_named::<2>(r, sinks),
+            _ => highest_named::<5>(r, sinks),
         };
         let n = usize::from(sinks[k] & !CLOSED);
         sinks[k] = level + 1 + few.get(n).copied().unwrap_or_else(|| height(n, S));
@@ -1104,8 +1184,8 @@ fn levels_checked<const S: usize>(source: &[u8], levelled: &mut [u8]) -> Result<
     }
     for ((new, r), level) in levelled.as_chunks_mut::<WIDTH>().0.iter_mut().zip(records).zip(levels)
     {
-        let [low, high] = level.to_le_bytes();
-        *new = [r[0], r[1], low, high, r[4], r[5], r[6], r[7], r[8], r[9]];
+        *new = *r;
+        [new[2], new[3]] = level.to_le_bytes();
     }
     Ok([0, 0])
 }
@@ -1127,9 +1207,13 @@ const NO_SOURCE: Refused = (24, 0);
 /// What the reader and the verifier ask of record k, which uses U slots, but for what its slots
 /// name in the source and for the levels of inputs and outputs.
 #[inline(always)]
-fn check_own<const U: usize>(mapped: &[Bytes], k: usize, feeds: &mut [u16]) -> Result<(), Refused> {
+fn check_own<const U: usize, const GATE: bool>(
+    mapped: &[Bytes],
+    k: usize,
+    feeds: &mut [u16],
+) -> Result<(), Refused> {
     let r = &mapped[k];
-    let inverted = r[1] & !BITS[usize::from(r[0])] != 0;
+    let inverted = r[1] & !bits::<U, GATE>() != 0;
     if inverted || level(r) > MAX_LEVEL || r[4 + 2 * U..] != [0xFF; WIDTH][4 + 2 * U..] {
         return Err(NO_SOURCE);
     }
@@ -1140,12 +1224,16 @@ fn check_own<const U: usize>(mapped: &[Bytes], k: usize, feeds: &mut [u16]) -> R
 fn check_before_buffers(mapped: &[Bytes], feeds: &mut [u16]) -> Result<usize, Refused> {
     let mut depth = NONE;
     for (k, r) in mapped.iter().enumerate() {
+        if used(r) == 2 {
+            check_own::<2, true>(mapped, k, feeds)?;
+            continue;
+        }
         match r[0] {
-            INPUT if level(r) == 0 => check_own::<0>(mapped, k, feeds)?,
-            AND | OR => check_own::<2>(mapped, k, feeds)?,
-            MAJ => check_own::<3>(mapped, k, feeds)?,
+            INPUT if level(r) == 0 => check_own::<0, false>(mapped, k, feeds)?,
+            MAJ => check_own::<3, true>(mapped, k, feeds)?,
+            MAJ5 => check_own::<5, true>(mapped, k, feeds)?,
             OUTPUT if depth == NONE || level(r) == depth => {
-                check_own::<1>(mapped, k, feeds)?;
+                check_own::<1, false>(mapped, k, feeds)?;
                 depth = level(r);
             }
             BUFFER => return Ok(k),
@@ -1159,7 +1247,7 @@ fn check_before_buffers(mapped: &[Bytes], feeds: &mut [u16]) -> Result<usize, Re
 fn set_drivers(source: &mut [Bytes], mapped: &[Bytes], drivers: &mut [u16]) -> Result<(), Refused> {
     let n = source.len();
     for (k, r) in source.iter_mut().enumerate() {
-        for j in 0..USED[usize::from(r[0])] {
+        for j in 0..used(r) {
             let driver = driver_of(mapped, n, slot(r, j), drivers);
             if driver >= k {
                 return Err(NO_SOURCE);

@@ -45,18 +45,26 @@ fn longest_source(random: &mut Random) -> (Subject, Vec<u8>) {
     (other_input(random, subject), mapped)
 }
 
-/// A mapped netlist of about 60,000 bytes: two long chains or the worked case, the rest buffers
-/// that feed nothing. Now and then the source is damaged, or a bit of the mapped netlist.
+/// A mapped netlist of about 60,000 bytes: two long chains, a MAJ5 or the worked case, the rest buffers
+/// that feed nothing. Now and then it is cut, or lengthened, to the most bytes or one more, the source
+/// is damaged, or a bit of the mapped netlist.
 fn longest_mapped(random: &mut Random) -> (Subject, Vec<u8>) {
-    let level = random.between(2998, 3000) as u16;
-    let source = if random.one_in(2) { shapes::lines(2, level) } else { shapes::worked() };
+    let most = MAPPED_BYTES / WIDTH;
+    let source = match random.below(4) {
+        0..=1 => shapes::lines(2, (most / 2 - 2 + random.below(3)) as u16),
+        2 => shapes::one_five(),
+        _ => shapes::worked(),
+    };
     let subject = Subject::new(source, Capacities::unbranched(2));
     let own = mapping(&subject.source, subject.own).expect("a tree on every net").records;
-    let mut records = shapes::padded(&own, 2, MAPPED_BYTES / WIDTH - 1 + random.below(3));
+    let mut records = shapes::padded(&own, 2, most - 1 + random.below(3));
     if random.one_in(2) {
         shuffle_buffers(random, &mut records, subject.records.len());
     }
     let mut mapped = encode(&records);
+    if random.one_in(6) {
+        mapped.resize(MAPPED_BYTES + random.below(2), 0);
+    }
     if random.one_in(4) {
         let at = random.below(mapped.len());
         mapped[at] ^= 1 << random.below(8);

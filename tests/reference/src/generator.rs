@@ -22,8 +22,28 @@ pub enum Levels {
 
 pub const ALL_LEVELS: [Levels; 3] = [Levels::Roomy, Levels::Tight, Levels::Lowered];
 
+/// The gates that a source may have.
+#[derive(Clone, Copy, PartialEq, Eq, Debug)]
+pub enum Gates {
+    /// AND, OR and MAJ.
+    UpToThree,
+    /// MAJ5 as well: about half of all gates.
+    UpToFive,
+}
+
+impl Gates {
+    /// What these records have.
+    pub fn of(records: &[Record]) -> Gates {
+        if records.iter().any(|record| record.kind == MAJ5) {
+            Gates::UpToFive
+        } else {
+            Gates::UpToThree
+        }
+    }
+}
+
 /// Records 0 to `size` - 1 with their fanins; levels are still 0.
-fn graph(random: &mut Random, size: usize, outputs: bool) -> Vec<Record> {
+fn graph(random: &mut Random, size: usize, outputs: bool, gates: Gates) -> Vec<Record> {
     let mut records: Vec<Record> = Vec::new();
     let mut drivers: Vec<u16> = Vec::new();
     let inputs = random.between(2, 8);
@@ -37,6 +57,10 @@ fn graph(random: &mut Random, size: usize, outputs: bool) -> Vec<Record> {
             6..=7 => MAJ,
             8..=9 if outputs => OUTPUT,
             _ => OR,
+        };
+        let kind = match gates {
+            Gates::UpToFive if is_gate(kind) && random.one_in(2) => MAJ5,
+            _ => kind,
         };
         let mut fanins = Vec::new();
         for _ in 0..used_slots(kind) {
@@ -134,9 +158,10 @@ pub fn source(
     size: usize,
     capacities: Capacities,
     levels: Levels,
+    gates: Gates,
 ) -> Vec<Record> {
     let outputs = !random.one_in(6);
-    let mut records = graph(random, size, outputs);
+    let mut records = graph(random, size, outputs, gates);
     let gaps = gaps(&records, capacities);
     let slack = random.pick(&[1, 1, 2, 4]);
     let far = random.pick(&[0, 0, 0, 6, 20]);
@@ -155,36 +180,47 @@ pub fn source(
     records
 }
 
-/// The gate after record `before` of a chain: it names it once, twice or three times, and record 0
-/// where it has slots left.
-fn next_in_chain(random: &mut Random, times: usize, before: u16) -> Record {
+/// The gate after record `before` of a chain: it names it so many times, and record 0 where it has
+/// slots left.
+fn next_in_chain(random: &mut Random, times: usize, before: u16, gates: Gates) -> Record {
+    let five = gates == Gates::UpToFive && (times > MAJ_SLOTS || random.one_in(3));
     let (kind, fanins) = match times {
+        _ if five => {
+            let mut fanins = vec![before; times];
+            fanins.resize(SLOTS, 0);
+            random.shuffle(&mut fanins);
+            (MAJ5, fanins)
+        }
         1 if random.one_in(2) => (AND, vec![before, 0]),
         1 => (MAJ, vec![0, before, 0]),
         2 if random.one_in(8) => (MAJ, vec![before, 0, before]),
         2 => (OR, vec![before, before]),
-        _ => (MAJ, vec![before; 3]),
+        _ => (MAJ, vec![before; MAJ_SLOTS]),
     };
     Record::new(kind, random.byte() & inversion_bits(kind), 0, &fanins)
 }
 
 /// A chain of gates whose least levels for s end about the highest level, on either side of it. A
 /// gate may have more sinks: outputs, and gates beside the chain.
-pub fn steep(random: &mut Random, s: usize) -> Vec<Record> {
+pub fn steep(random: &mut Random, s: usize, gates: Gates) -> Vec<Record> {
     let mut records = vec![Record::new(INPUT, 0, 0, &[])];
     let mut end = 0;
-    let times = random.pick(&[0, 0, 1, 2, 3, 3]);
+    let (widest, all) = match gates {
+        Gates::UpToThree => (MAJ, &[0, 0, 1, 2, 3, 3][..]),
+        Gates::UpToFive => (MAJ5, &[0, 0, 1, 2, 3, 4, 5, 5][..]),
+    };
+    let times = random.pick(all);
     let outputs = random.one_in(2);
     let beside = random.pick(&[0, 0, 16, 256]);
     while records.len() < MAX_SOURCE {
         if beside > 0 && random.one_in(beside) {
             for _ in 0..random.between(1, 20) {
-                let kind = if outputs && random.one_in(2) { OUTPUT } else { MAJ };
+                let kind = if outputs && random.one_in(2) { OUTPUT } else { widest };
                 records.push(Record::new(kind, 0, 0, &vec![end; used_slots(kind)]));
             }
         }
-        let times = if times == 0 { random.between(1, 3) } else { times };
-        records.push(next_in_chain(random, times, end));
+        let times = if times == 0 { random.between(1, used_slots(widest)) } else { times };
+        records.push(next_in_chain(random, times, end, gates));
         end = records.len() as u16 - 1;
     }
     records.truncate(MAX_SOURCE - 1);

@@ -5,7 +5,7 @@ use crate::record::*;
 use crate::refusal::{refuse, Refusal};
 
 /// The bytes of a list that is not empty.
-pub const LIST: usize = 11;
+pub const LIST: usize = 13;
 
 /// Checks 27 and 28.
 pub fn check(list: &[u8]) -> Result<(), Refusal> {
@@ -23,6 +23,7 @@ fn price(list: &[u8], kind: u8, slots: usize) -> usize {
     if list.is_empty() {
         return match kind {
             AND | OR | MAJ => 6,
+            MAJ5 => 10,
             BUFFER => 2,
             _ => 0,
         };
@@ -32,6 +33,7 @@ fn price(list: &[u8], kind: u8, slots: usize) -> usize {
         OR => &list[2..4],
         MAJ => &list[4..6],
         BUFFER => &list[6..11],
+        MAJ5 => &list[11..13],
         _ => return 0,
     };
     by_slots[slots].into()

@@ -1,16 +1,18 @@
-//! What a call shows of inputs that branch and of price lists, so that comparisons can say what they
-//! met.
+//! What a call shows of inputs that branch, of price lists, and of MAJ5 with the slots that it alone
+//! uses, so that comparisons can say what they met.
 
 use std::collections::BTreeSet;
+use std::ops::Range;
 
 use crate::calls::NO_TREE;
 use crate::capacities::Capacities;
-use crate::engine::{Call, Name, Outcome};
+use crate::engine::{Call, Name, Outcome, NAMES};
 use crate::generator::fanouts;
 use crate::net::{buffers_by_distance, distances};
-use crate::prices;
+use crate::prices::{self, LIST};
 use crate::record::*;
 use crate::source::check_source;
+use crate::verifier::trace;
 
 #[derive(Clone, Copy, PartialEq, Eq, PartialOrd, Ord, Debug)]
 pub enum Reached {
@@ -55,9 +57,67 @@ pub enum Reached {
     ZeroAndSource,
     /// 1 or 26, although 27 or 28 fails too.
     Before(u8, u8),
+    /// 27 on a list of 11 prices, those of all kinds but MAJ5.
+    ElevenPrices,
+    /// An accepted call on a netlist with a MAJ5.
+    Five(Name),
+    /// An accepted evaluation, step or run in which so many slots of a MAJ5 are 1, inverted ones turned
+    /// over; of a run in its last step.
+    FiveOnes(Name, u8),
+    /// An accepted evaluation in which an inverted slot of a MAJ5 decides its value.
+    FiveInverted(u8),
+    /// 4 at a kind.
+    NoSourceKind(u8),
+    /// 5 at a MAJ5, for one bit.
+    FiveBit(u8),
+    /// 5 at another record, for one bit.
+    OtherBit(u8),
+    /// 6, 7, 14, 15 or 16 at a MAJ5, for one slot.
+    FiveSlot(u8, u8),
+    /// 6, 12 or 13 at a record that does not use a slot, for it alone.
+    SpareSlot(u8, u8),
+    /// 8 on a MAJ5.
+    TreelessFive,
+    /// 17 on a MAJ5.
+    OverfullFive,
 }
 
-pub const ALL_REACHED: [Reached; 51] = [
+/// What a record's function needs of it is looked at in these calls.
+const LOGIC: [Name; 3] = [Name::Evaluate, Name::Step, Name::Run];
+
+/// The slots that MAJ5 alone uses.
+const NEW_SLOTS: Range<usize> = MAJ_SLOTS..SLOTS;
+
+/// All that there is to meet.
+pub fn all_reached() -> Vec<Reached> {
+    let mut all = SINGLE.to_vec();
+    all.extend((1..=4).map(Reached::PricedBuffer));
+    for kind in [AND, OR, MAJ, MAJ5] {
+        all.extend([0, 1].map(|slots| Reached::PricedGate(kind, slots)));
+    }
+    all.extend((0..LIST as u8).flat_map(|at| [Reached::AlikeBut(at), Reached::ZeroAt(at)]));
+    for number in [1, 26] {
+        all.extend([27, 28].map(|later| Reached::Before(number, later)));
+    }
+    all.extend(NAMES.map(Reached::Five));
+    for name in LOGIC {
+        all.extend((0..=SLOTS as u8).map(|ones| Reached::FiveOnes(name, ones)));
+    }
+    all.extend((0..SLOTS as u8).map(Reached::FiveInverted));
+    all.extend([BUFFER, MAJ5 + 1, 255].map(Reached::NoSourceKind));
+    all.extend((SLOTS as u8..8).map(Reached::FiveBit));
+    all.extend((MAJ_SLOTS as u8..8).map(Reached::OtherBit));
+    for number in [6, 7, 14, 15, 16] {
+        all.extend((0..SLOTS as u8).map(|slot| Reached::FiveSlot(number, slot)));
+    }
+    for number in [6, 12, 13] {
+        all.extend(NEW_SLOTS.map(|slot| Reached::SpareSlot(number, slot as u8)));
+    }
+    all
+}
+
+/// Those without a number.
+const SINGLE: [Reached; 18] = [
     Reached::Branching,
     Reached::Crowded,
     Reached::Full,
@@ -68,47 +128,14 @@ pub const ALL_REACHED: [Reached; 51] = [
     Reached::OverfullGate,
     Reached::EmptyList,
     Reached::FullList,
-    Reached::PricedBuffer(1),
-    Reached::PricedBuffer(2),
-    Reached::PricedBuffer(3),
-    Reached::PricedBuffer(4),
-    Reached::PricedGate(AND, 0),
-    Reached::PricedGate(AND, 1),
-    Reached::PricedGate(OR, 0),
-    Reached::PricedGate(OR, 1),
-    Reached::PricedGate(MAJ, 0),
-    Reached::PricedGate(MAJ, 1),
-    Reached::AlikeBut(0),
-    Reached::AlikeBut(1),
-    Reached::AlikeBut(2),
-    Reached::AlikeBut(3),
-    Reached::AlikeBut(4),
-    Reached::AlikeBut(5),
-    Reached::AlikeBut(6),
-    Reached::AlikeBut(7),
-    Reached::AlikeBut(8),
-    Reached::AlikeBut(9),
-    Reached::AlikeBut(10),
     Reached::WrongLength,
     Reached::WrongLengthAndZero,
     Reached::WrongLengthAndSource,
-    Reached::ZeroAt(0),
-    Reached::ZeroAt(1),
-    Reached::ZeroAt(2),
-    Reached::ZeroAt(3),
-    Reached::ZeroAt(4),
-    Reached::ZeroAt(5),
-    Reached::ZeroAt(6),
-    Reached::ZeroAt(7),
-    Reached::ZeroAt(8),
-    Reached::ZeroAt(9),
-    Reached::ZeroAt(10),
     Reached::Zeros,
     Reached::ZeroAndSource,
-    Reached::Before(1, 27),
-    Reached::Before(1, 28),
-    Reached::Before(26, 27),
-    Reached::Before(26, 28),
+    Reached::ElevenPrices,
+    Reached::TreelessFive,
+    Reached::OverfullFive,
 ];
 
 impl Reached {
@@ -137,8 +164,37 @@ impl Reached {
             Reached::Zeros => "28 with a later price of 0",
             Reached::ZeroAndSource => "28 with a bad source",
             Reached::Before(number, later) => return format!("{number} with {later}"),
+            Reached::ElevenPrices => "27 with 11 prices",
+            Reached::Five(name) => return format!("{} accepted with MAJ5", name.words()),
+            Reached::FiveOnes(name, ones) => {
+                return format!("{} with {ones} of five", name.words());
+            }
+            Reached::FiveInverted(slot) => return format!("inverted slot {slot} of five decides"),
+            Reached::NoSourceKind(kind) => return format!("4 at kind {kind}"),
+            Reached::FiveBit(bit) => return format!("5 at MAJ5 for bit {bit}"),
+            Reached::OtherBit(bit) => return format!("5 at others for bit {bit}"),
+            Reached::FiveSlot(number, slot) => {
+                return format!("{number} at MAJ5 for slot {slot}");
+            }
+            Reached::SpareSlot(number, slot) => {
+                return format!("{number} for unused slot {slot}");
+            }
+            Reached::TreelessFive => "8 on MAJ5",
+            Reached::OverfullFive => "17 on MAJ5",
         };
         words.to_string()
+    }
+
+    /// Whether a damaged netlist shows it, at one slot, one bit or a kind.
+    pub fn of_damage(self) -> bool {
+        matches!(
+            self,
+            Reached::NoSourceKind(_)
+                | Reached::FiveBit(_)
+                | Reached::OtherBit(_)
+                | Reached::FiveSlot(..)
+                | Reached::SpareSlot(..)
+        )
     }
 
     /// Whether it is about price lists.
@@ -157,6 +213,7 @@ impl Reached {
                 | Reached::Zeros
                 | Reached::ZeroAndSource
                 | Reached::Before(..)
+                | Reached::ElevenPrices
         )
     }
 }
@@ -202,7 +259,7 @@ fn priced(list: &[u8], mapped: &[u8]) -> Vec<Reached> {
     let records = decode(mapped);
     let one = |(record, fed): (&Record, usize)| match record.kind {
         BUFFER => Some(Reached::PricedBuffer(fed as u8)),
-        AND | OR | MAJ => Some(Reached::PricedGate(record.kind, fed as u8)),
+        kind if is_gate(kind) => Some(Reached::PricedGate(kind, fed as u8)),
         _ => None,
     };
     let shown: BTreeSet<Reached> = records.iter().zip(fanouts(&records)).filter_map(one).collect();
@@ -222,6 +279,7 @@ fn refused_list(call: &Call, number: u32) -> Vec<Reached> {
             (true, Reached::WrongLength),
             (list.contains(&0), Reached::WrongLengthAndZero),
             (bad_source, Reached::WrongLengthAndSource),
+            (list.len() == 11, Reached::ElevenPrices),
         ],
         28 => vec![
             (true, Reached::ZeroAt(refusal.place as u8)),
@@ -269,13 +327,173 @@ fn refused(
     let b = capacities.input as usize;
     match driver.kind {
         INPUT if b > 1 && number == b + 1 => Some(input),
-        AND | OR | MAJ if number <= b => Some(gate),
+        kind if is_gate(kind) && number <= b => Some(gate),
         _ => None,
     }
 }
 
-/// What a call with its outcome shows.
-pub fn reached(call: &Call, outcome: &Outcome) -> Vec<Reached> {
+/// The values of a MAJ5's slots, inverted ones turned over.
+fn turned(record: &Record, values: &[u8]) -> [u8; SLOTS] {
+    let mut turned = [0; SLOTS];
+    for (j, slot) in turned.iter_mut().enumerate() {
+        *slot = values[usize::from(record.slots[j])] ^ (record.inversion >> j & 1);
+    }
+    turned
+}
+
+/// Which numbers of ones the slots of MAJ5 have, with these values of all records.
+fn ones(name: Name, records: &[Record], values: &[u8]) -> BTreeSet<Reached> {
+    let fives = records.iter().filter(|record| record.kind == MAJ5);
+    fives.map(|five| Reached::FiveOnes(name, turned(five, values).iter().sum())).collect()
+}
+
+/// The inverted slots of MAJ5 that decide a value: the others have as many ones as zeros.
+fn inverted(records: &[Record], values: &[u8]) -> BTreeSet<Reached> {
+    let mut shown = BTreeSet::new();
+    for five in records.iter().filter(|record| record.kind == MAJ5) {
+        let turned = turned(five, values);
+        for (j, own) in turned.iter().enumerate() {
+            let others = turned.iter().sum::<u8>() - own;
+            if five.inversion >> j & 1 == 1 && 2 * usize::from(others) == SLOTS - 1 {
+                shown.insert(Reached::FiveInverted(j as u8));
+            }
+        }
+    }
+    shown
+}
+
+/// What an accepted call shows of MAJ5.
+fn accepted_fives(call: &Call, outcome: &Outcome) -> BTreeSet<Reached> {
+    let netlist = if call.name == Name::Strip { &call.mapped } else { &call.source };
+    let source = decode(netlist);
+    if !source.iter().any(|record| record.kind == MAJ5) {
+        return BTreeSet::new();
+    }
+    let mut shown = BTreeSet::from([Reached::Five(call.name)]);
+    match call.name {
+        Name::Evaluate => {
+            shown.extend(ones(call.name, &source, &outcome.areas[0]));
+            shown.extend(inverted(&source, &outcome.areas[0]));
+        }
+        // The values before the last step are the second half of the state.
+        Name::Step | Name::Run if call.name == Name::Step || call.number > 0 => {
+            let mapped = decode(&call.mapped);
+            shown.extend(ones(call.name, &mapped, &outcome.areas[0][mapped.len()..]));
+        }
+        _ => {}
+    }
+    shown
+}
+
+/// The only number for which something holds.
+fn only<T>(mut all: Range<T>, holds: impl Fn(&T) -> bool) -> Option<T>
+where
+    Range<T>: Iterator<Item = T>,
+{
+    let first = all.find(&holds)?;
+    match all.find(&holds) {
+        None => Some(first),
+        Some(_) => None,
+    }
+}
+
+/// The only slot of a record for which something holds of what it names.
+fn only_slot(record: &Record, holds: impl Fn(usize) -> bool) -> Option<usize> {
+    only(0..SLOTS, |&slot| holds(usize::from(record.slots[slot])))
+}
+
+/// A refusal at a record for one slot: of a MAJ5, or one that only MAJ5 uses.
+fn slot_shown(number: u32, kind: u8, slot: Option<usize>) -> Option<Reached> {
+    let slot = slot?;
+    match kind {
+        MAJ5 => Some(Reached::FiveSlot(number as u8, slot as u8)),
+        _ if NEW_SLOTS.contains(&slot) => Some(Reached::SpareSlot(number as u8, slot as u8)),
+        _ => None,
+    }
+}
+
+/// A refusal by one of 4 to 7 at a record of the source.
+fn refused_source(source: &[Record], number: u32, k: usize) -> Option<Reached> {
+    let record = &source[k];
+    let no_fanin = |named: usize| named >= k || source[named].kind == OUTPUT;
+    match number {
+        4 => Some(Reached::NoSourceKind(record.kind)),
+        5 => {
+            let wrong = record.inversion & !inversion_bits(record.kind);
+            let bit = only(0..8, |&bit| wrong >> bit & 1 == 1)?;
+            match record.kind {
+                MAJ5 => Some(Reached::FiveBit(bit)),
+                _ => Some(Reached::OtherBit(bit)),
+            }
+        }
+        6 => {
+            let used = used_slots(record.kind);
+            let wrong = |&slot: &usize| match usize::from(record.slots[slot]) {
+                named if slot < used => no_fanin(named),
+                held => held != usize::from(UNUSED),
+            };
+            slot_shown(6, record.kind, only(0..SLOTS, wrong))
+        }
+        7 if record.kind == MAJ5 && record.level <= MAX_LEVEL => {
+            let slot = only_slot(record, |fanin| source[fanin].level >= record.level);
+            slot_shown(7, MAJ5, slot)
+        }
+        _ => None,
+    }
+}
+
+/// A refusal by one of 12 to 16 at a record of the mapped netlist.
+fn refused_mapped(call: &Call, number: u32, k: usize) -> Option<Reached> {
+    let (source, mapped) = (decode(&call.source), decode(&call.mapped));
+    let record = &mapped[k];
+    // The record without its slots.
+    let rest = |record: &Record| Record { slots: [0; SLOTS], ..*record };
+    let differs = |right: &Record| {
+        let slot = only(0..SLOTS, |&slot| record.slots[slot] != right.slots[slot])?;
+        (rest(record) == rest(right)).then_some(slot)
+    };
+    let slot = match number {
+        12 => {
+            let mut right = source[k];
+            let used = used_slots(right.kind);
+            right.slots[..used].copy_from_slice(&record.slots[..used]);
+            return slot_shown(12, source[k].kind, differs(&right));
+        }
+        13 => {
+            let right = Record::buffer(record.level, record.slots[0]);
+            return slot_shown(13, BUFFER, differs(&right));
+        }
+        _ if record.kind != MAJ5 => None,
+        14 => only_slot(record, |fanin| mapped.get(fanin).is_none_or(|r| r.kind == OUTPUT)),
+        15 => {
+            let below = u32::from(record.level);
+            only_slot(record, |fanin| u32::from(mapped[fanin].level) + 1 != below)
+        }
+        16 => {
+            let traced = |slot: usize| trace(&mapped, record.slots[slot]);
+            only(0..SLOTS, |&slot| traced(slot) != source[k].slots[slot])
+        }
+        _ => None,
+    };
+    slot_shown(number, record.kind, slot)
+}
+
+/// What a call with its outcome shows of MAJ5 and of the slots that it alone uses.
+pub fn fives(call: &Call, outcome: &Outcome) -> Vec<Reached> {
+    let (number, place) = (outcome.answer[0], outcome.answer[1] as usize);
+    let one = match number {
+        0 => return accepted_fives(call, outcome).into_iter().collect(),
+        4..=7 => refused_source(&decode(&call.source), number, place),
+        12..=16 => refused_mapped(call, number, place),
+        8 if decode(&call.source)[place].kind == MAJ5 => Some(Reached::TreelessFive),
+        17 if decode(&call.mapped)[place].kind == MAJ5 => Some(Reached::OverfullFive),
+        _ => None,
+    };
+    one.into_iter().collect()
+}
+
+/// What a call with its outcome shows of inputs that branch and of price lists.
+fn capacities_and_lists(call: &Call, outcome: &Outcome) -> Vec<Reached> {
     let (number, place) = (outcome.answer[0], outcome.answer[1] as usize);
     let one = match (number, call.name) {
         (0, Name::Map) => {
@@ -302,4 +520,9 @@ pub fn reached(call: &Call, outcome: &Outcome) -> Vec<Reached> {
         _ => None,
     };
     one.into_iter().collect()
+}
+
+/// What a call with its outcome shows.
+pub fn reached(call: &Call, outcome: &Outcome) -> Vec<Reached> {
+    [capacities_and_lists(call, outcome), fives(call, outcome)].concat()
 }

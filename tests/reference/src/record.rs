@@ -1,7 +1,7 @@
 //! Specification 1: the layout of one record and the limits of both netlists.
 
-pub const WIDTH: usize = 10;
-pub const SLOTS: usize = 3;
+pub const WIDTH: usize = 4 + 2 * SLOTS;
+pub const SLOTS: usize = 5;
 pub const MAX_SOURCE: usize = 4096;
 pub const MAX_MAPPED: usize = 60_000;
 pub const MAX_LEVEL: u16 = 4095;
@@ -17,6 +17,7 @@ pub const OR: u8 = 2;
 pub const MAJ: u8 = 3;
 pub const OUTPUT: u8 = 4;
 pub const BUFFER: u8 = 5;
+pub const MAJ5: u8 = 6;
 
 #[derive(Clone, Copy, PartialEq, Eq, Debug)]
 pub struct Record {
@@ -31,16 +32,25 @@ pub const fn used_slots(kind: u8) -> usize {
     match kind {
         AND | OR => 2,
         MAJ => 3,
+        MAJ5 => 5,
         OUTPUT | BUFFER => 1,
         _ => 0,
     }
 }
 
+/// The slots of a MAJ.
+pub const MAJ_SLOTS: usize = used_slots(MAJ);
+
+pub const fn is_gate(kind: u8) -> bool {
+    matches!(kind, AND | OR | MAJ | MAJ5)
+}
+
 /// The inversion bits that a kind may set: one for each slot of a gate.
 pub const fn inversion_bits(kind: u8) -> u8 {
-    match kind {
-        AND | OR | MAJ => (1 << used_slots(kind)) - 1,
-        _ => 0,
+    if is_gate(kind) {
+        (1 << used_slots(kind)) - 1
+    } else {
+        0
     }
 }
 
@@ -56,7 +66,7 @@ impl Record {
         Record::new(BUFFER, 0, level, &[fanin])
     }
 
-    /// The record that ten bytes hold.
+    /// The record that the first `WIDTH` bytes hold.
     pub fn read(bytes: &[u8]) -> Record {
         let field = |at: usize| u16::from_le_bytes([bytes[at], bytes[at + 1]]);
         let mut slots = [0; SLOTS];
@@ -83,7 +93,7 @@ impl Record {
     }
 
     pub fn is_gate(&self) -> bool {
-        matches!(self.kind, AND | OR | MAJ)
+        is_gate(self.kind)
     }
 
     pub fn is_driver(&self) -> bool {

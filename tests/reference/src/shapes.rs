@@ -29,6 +29,45 @@ pub fn worked_mapped() -> Vec<Record> {
     records
 }
 
+/// A MAJ5 on five inputs, each with a buffer, and an output on a buffer of its own: with each s the
+/// mapped netlist is the same.
+pub fn one_five() -> Vec<Record> {
+    let mut records = inputs(SLOTS);
+    records.push(Record::new(MAJ5, 0b10110, 2, &[4, 2, 0, 1, 3]));
+    records.push(Record::new(OUTPUT, 0, 4, &[5]));
+    records
+}
+
+/// A MAJ5 one level above five inputs, and an output on a buffer.
+pub fn direct_five() -> Vec<Record> {
+    let mut records = inputs(SLOTS);
+    records.push(Record::new(MAJ5, 0b01001, 1, &[3, 1, 4, 0, 2]));
+    records.push(Record::new(OUTPUT, 0, 3, &[5]));
+    records
+}
+
+/// Gates of the kinds MAJ5, OR and MAJ5, of which the first two feed an output each and the last feeds
+/// nothing.
+pub fn some_fives() -> Vec<Record> {
+    let mut records = inputs(7);
+    records.push(Record::new(MAJ5, 0b00110, 1, &[0, 1, 2, 3, 4]));
+    records.push(Record::new(OR, 1, 1, &[5, 6]));
+    records.push(Record::new(MAJ5, 0b10000, 4, &[7, 8, 8, 7, 8]));
+    records.push(Record::new(OUTPUT, 0, 4, &[7]));
+    records.push(Record::new(OUTPUT, 0, 4, &[8]));
+    records
+}
+
+/// What the mapper writes for `one_five`.
+pub fn one_five_mapped() -> Vec<Record> {
+    let mut records = one_five();
+    records[5].slots = [11, 9, 7, 8, 10];
+    records[6].slots[0] = 12;
+    records.extend((0..5).map(|input| Record::buffer(1, input)));
+    records.push(Record::buffer(3, 5));
+    records
+}
+
 /// Record 0, an input, with a sink at each distance given: gates that name it once and another
 /// input once.
 pub fn net(distances: &[usize]) -> Vec<Record> {
@@ -103,7 +142,7 @@ pub fn each_price() -> Vec<Record> {
     // on 4 and 3 at distance 2, on 2 at distance 1.
     source.push(Record::new(AND, 0, 3, &[0; 2]));
     source.push(Record::new(OR, 0, 3, &[0; 2]));
-    source.push(Record::new(MAJ, 0, 3, &[0; 3]));
+    source.push(Record::new(MAJ, 0, 3, &[0; MAJ_SLOTS]));
     source
 }
 
@@ -146,54 +185,91 @@ pub fn near(size: usize) -> Vec<Record> {
     records
 }
 
-/// One input that all three slots of every other record name.
-pub fn wide_majorities(size: usize, s: usize) -> Vec<Record> {
-    let level = 1 + height(3 * (size - 1), s) as u16;
+/// One input that all slots of every other record name, a gate of the kind.
+pub fn wide_gates(kind: u8, size: usize, s: usize) -> Vec<Record> {
+    let slots = used_slots(kind);
+    let level = 1 + height(slots * (size - 1), s) as u16;
     let mut records = vec![Record::new(INPUT, 0, 0, &[])];
-    records.resize(size, Record::new(MAJ, 0, level, &[0, 0, 0]));
+    records.resize(size, Record::new(kind, 0, level, &vec![0; slots]));
     records
 }
 
-/// One input that so many slots name: of majorities, and of at most two outputs.
-pub fn sinks(number: usize) -> Vec<Record> {
+/// The same with MAJ.
+pub fn wide_majorities(size: usize, s: usize) -> Vec<Record> {
+    wide_gates(MAJ, size, s)
+}
+
+/// One input that so many slots name: of gates of the kind, and of outputs for the rest.
+pub fn sinks_of(kind: u8, number: usize) -> Vec<Record> {
+    let slots = used_slots(kind);
+    let gates = number / slots;
     let mut records = inputs(1);
-    records.resize(1 + number / 3, Record::new(MAJ, 0, 0, &[0; SLOTS]));
-    records.resize(1 + number / 3 + number % 3, Record::new(OUTPUT, 0, 0, &[0]));
+    records.resize(1 + gates, Record::new(kind, 0, 0, &vec![0; slots]));
+    records.resize(1 + gates + number % slots, Record::new(OUTPUT, 0, 0, &[0]));
     records
 }
 
-/// The same with all sinks at one level.
-pub fn sinks_at(number: usize, level: u16) -> Vec<Record> {
-    let mut records = sinks(number);
+/// One input that so many slots name: of MAJ, and of at most two outputs.
+pub fn sinks(number: usize) -> Vec<Record> {
+    sinks_of(MAJ, number)
+}
+
+/// The records with all but the first at one level.
+fn all_at(mut records: Vec<Record>, level: u16) -> Vec<Record> {
     records[1..].iter_mut().for_each(|record| record.level = level);
     records
 }
 
-/// A gate, on an input of its own, with so many sinks at one distance: gates that name it once and
-/// another input once.
-pub fn on_a_gate(sinks: usize, distance: u16) -> Vec<Record> {
+/// One input that so many slots at one level name, as in `sinks_of`.
+pub fn sinks_of_at(kind: u8, number: usize, level: u16) -> Vec<Record> {
+    all_at(sinks_of(kind, number), level)
+}
+
+/// The same with MAJ.
+pub fn sinks_at(number: usize, level: u16) -> Vec<Record> {
+    sinks_of_at(MAJ, number, level)
+}
+
+/// A gate of the kind, on an input of its own, with so many sinks at one distance: gates that name it
+/// once and another input once. The gate stands as high as its input needs with b = 1 and each s.
+pub fn on_a(kind: u8, sinks: usize, distance: u16) -> Vec<Record> {
     let mut records = inputs(2);
-    records.push(Record::new(AND, 0, 2, &[0, 0]));
-    records.resize(3 + sinks, Record::new(OR, 0, 2 + distance, &[2, 1]));
+    let slots = used_slots(kind);
+    let level = 1 + height(slots, 2) as u16;
+    records.push(Record::new(kind, 0, level, &vec![0; slots]));
+    records.resize(3 + sinks, Record::new(OR, 0, level + distance, &[2, 1]));
     records
 }
 
-/// Inputs with about `branches` sinks each: majorities at levels 1 to 3 in turns, which name each
-/// input so many times one after the other.
-pub fn fans(size: usize, branches: usize) -> Vec<Record> {
-    let majorities = size * branches / (branches + SLOTS);
-    let mut records = inputs(size - majorities);
+/// The same with an AND, which stands at level 2.
+pub fn on_a_gate(sinks: usize, distance: u16) -> Vec<Record> {
+    on_a(AND, sinks, distance)
+}
+
+/// Inputs with about `branches` sinks each: gates of the kind at levels 1 to 3 in turns, which name
+/// each input so many times one after the other.
+pub fn fans_of(kind: u8, size: usize, branches: usize) -> Vec<Record> {
+    let slots = used_slots(kind);
+    let gates = size * branches / (branches + slots);
+    let mut records = inputs(size - gates);
     let last = records.len() - 1;
-    for k in 0..majorities {
-        let fanins = [0, 1, 2].map(|j| ((SLOTS * k + j) / branches).min(last) as u16);
-        records.push(Record::new(MAJ, (k % 8) as u8, 1 + (k % 3) as u16, &fanins));
+    for k in 0..gates {
+        let fanin = |j: usize| ((slots * k + j) / branches).min(last) as u16;
+        let fanins: Vec<u16> = (0..slots).map(fanin).collect();
+        let inversion = k as u8 & inversion_bits(kind);
+        records.push(Record::new(kind, inversion, 1 + (k % 3) as u16, &fanins));
     }
     records
 }
 
-/// A chain of majorities that name the one before in all slots, three levels apart with capacity 2
-/// and two with others. An output may stand before it, on an input of its own, and one after it.
-pub fn climb(gates: usize, before: bool, after: bool) -> Vec<Record> {
+/// The same with MAJ.
+pub fn fans(size: usize, branches: usize) -> Vec<Record> {
+    fans_of(MAJ, size, branches)
+}
+
+/// A chain of gates of the kind that name the one before in all slots. An output may stand before it,
+/// on an input of its own, and one after it.
+pub fn climb_of(kind: u8, gates: usize, before: bool, after: bool) -> Vec<Record> {
     let mut records = inputs(1);
     if before {
         records.push(Record::new(OUTPUT, 0, 0, &[0]));
@@ -201,12 +277,18 @@ pub fn climb(gates: usize, before: bool, after: bool) -> Vec<Record> {
     }
     for _ in 0..gates {
         let last = records.len() as u16 - 1;
-        records.push(Record::new(MAJ, last as u8 % 8, 0, &[last; SLOTS]));
+        let inversion = last as u8 & inversion_bits(kind);
+        records.push(Record::new(kind, inversion, 0, &vec![last; used_slots(kind)]));
     }
     if after {
         records.push(Record::new(OUTPUT, 0, 0, &[records.len() as u16 - 1]));
     }
     records
+}
+
+/// The same with MAJ, whose least levels are three apart with capacity 2 and two with others.
+pub fn climb(gates: usize, before: bool, after: bool) -> Vec<Record> {
+    climb_of(MAJ, gates, before, after)
 }
 
 /// Pairs of an input and an output at a level, each a chain of buffers.
@@ -216,11 +298,12 @@ pub fn lines(pairs: usize, level: u16) -> Vec<Record> {
     records
 }
 
-/// Majorities at the highest level that name the first `drivers` records in turns.
-fn far_majorities(drivers: usize, count: usize) -> impl Iterator<Item = Record> {
+/// Gates of the kind at the highest level that name the first `drivers` records in turns.
+fn far_gates(kind: u8, drivers: usize, count: usize) -> impl Iterator<Item = Record> {
+    let slots = used_slots(kind);
     (0..count).map(move |k| {
-        let fanins = [0, 1, 2].map(|j| ((3 * k + j) % drivers) as u16);
-        Record::new(MAJ, 0, MAX_LEVEL, &fanins)
+        let fanins: Vec<u16> = (0..slots).map(|j| ((slots * k + j) % drivers) as u16).collect();
+        Record::new(kind, 0, MAX_LEVEL, &fanins)
     })
 }
 
@@ -234,14 +317,15 @@ pub fn near_and_far(drivers: usize) -> Vec<Record> {
         let fanins = [0, 1].map(|j| (below + (k + j) % width) as u16);
         records.push(Record::new(AND, 0, (2 * (k / width)) as u16, &fanins));
     }
-    records.extend(far_majorities(drivers, drivers / 3));
+    records.extend(far_gates(MAJ, drivers, drivers / MAJ_SLOTS));
     records
 }
 
-/// As many inputs as majorities at the highest level: three sinks for each input.
-pub fn three_far(drivers: usize) -> Vec<Record> {
+/// As many inputs as gates of the kind at the highest level: as many sinks for each input as a gate has
+/// slots.
+pub fn all_far(kind: u8, drivers: usize) -> Vec<Record> {
     let mut records = inputs(drivers);
-    records.extend(far_majorities(drivers, drivers));
+    records.extend(far_gates(kind, drivers, drivers));
     records
 }
 
@@ -255,10 +339,25 @@ pub fn treeless_at_last(records: &[Record]) -> Vec<Record> {
     records
 }
 
-/// A layered random netlist: gates in layers of about a sixteenth of the records, fanins mostly
-/// from the layer before, a few drivers with many sinks, average fanout between 2 and 3. Every net
-/// has a tree with these capacities.
+/// The kinds of gates of layered netlists, each as often as it stands here: with an average fanout
+/// between 2 and 3, with a third of MAJ5, and with MAJ5 alone.
+pub const NO_FIVES: [u8; 5] = [AND, OR, AND, OR, MAJ];
+pub const SOME_FIVES: [u8; 3] = [AND, OR, MAJ5];
+pub const ONLY_FIVES: [u8; 1] = [MAJ5];
+
+/// A layered random netlist without MAJ5.
 pub fn layered(random: &mut Random, size: usize, capacities: Capacities) -> Vec<Record> {
+    layered_of(random, &NO_FIVES, size, capacities)
+}
+
+/// A layered random netlist: gates in layers of about a sixteenth of the records, fanins mostly
+/// from the layer before, a few drivers with many sinks. Every net has a tree with these capacities.
+pub fn layered_of(
+    random: &mut Random,
+    kinds: &[u8],
+    size: usize,
+    capacities: Capacities,
+) -> Vec<Record> {
     let width = (size / 16).max(2);
     let outputs = width / 2;
     let mut records = inputs(width);
@@ -266,7 +365,7 @@ pub fn layered(random: &mut Random, size: usize, capacities: Capacities) -> Vec<
     while records.len() < size - outputs {
         let layer_start = records.len() / width * width;
         let near = layer_start - width..layer_start;
-        let kind = random.pick(&[AND, OR, AND, OR, MAJ]);
+        let kind = random.pick(kinds);
         let fanins: Vec<u16> = (0..used_slots(kind))
             .map(|_| match random.below(40) {
                 0..=2 => random.pick(&hubs),
@@ -363,7 +462,7 @@ pub fn without_source() -> Vec<(&'static str, Vec<u8>)> {
     let input = Record::new(INPUT, 0, 0, &[]);
     let legal = encode(&worked_mapped());
     let mut all = Vec::new();
-    for len in [1, 9, 15, 49, 71, 79] {
+    for len in [1, WIDTH - 1, WIDTH + 5, 5 * WIDTH - 1, 7 * WIDTH + 1, 8 * WIDTH - 1] {
         all.push(("length", legal[..len].to_vec()));
     }
     all.push(("length", [&legal[..], &[5]].concat()));
@@ -407,7 +506,9 @@ pub fn without_source() -> Vec<(&'static str, Vec<u8>)> {
     for (k, bits) in [(0, 1), (1, 128), (2, 4), (2, 8), (3, 1), (4, 2), (5, 1), (7, 128)] {
         all.push(("inversion", changed(|records| records[k].inversion = bits)));
     }
-    for (k, slot, to) in [(0, 0, 0), (1, 2, 0), (2, 2, 5), (3, 1, 2), (4, 2, 65_534), (5, 1, 0)] {
+    let first = [(0, 0, 0), (1, 2, 0), (2, 2, 5), (3, 1, 2), (4, 2, 65_534), (5, 1, 0)];
+    let last = [(0, 3, 0), (1, 4, 2), (2, 3, 5), (2, 4, 7), (3, 4, 2), (5, 3, 0), (7, 4, 65_279)];
+    for (k, slot, to) in first.into_iter().chain(last) {
         all.push(("unused slot", changed(|records| records[k].slots[slot] = to)));
     }
     all.push(("a gate before its fanin", encode(&two_gates(true))));

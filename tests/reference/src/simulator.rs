@@ -13,6 +13,7 @@ fn function(record: &Record, value: impl Fn(usize) -> u8) -> u8 {
         .collect();
     let ones = slots.iter().filter(|&&slot| slot == 1).count();
     let needed = match record.kind {
+        MAJ5 => 3,
         AND | MAJ => 2,
         _ => 1,
     };

@@ -3,6 +3,11 @@
 use crate::record::*;
 use crate::refusal::{refuse, Refusal};
 
+/// Check 4: a kind that stands in no source.
+fn no_source_kind(record: &Record) -> bool {
+    !record.is_driver() && record.kind != OUTPUT
+}
+
 /// Check 5: a bit that the kind does not have.
 fn forbidden_inversion(record: &Record) -> bool {
     record.inversion & !inversion_bits(record.kind) != 0
@@ -33,7 +38,7 @@ fn bad_level(records: &[Record], k: usize) -> bool {
 
 /// Checks 4 to 6 of record k.
 fn check_form(records: &[Record], k: usize) -> Result<(), Refusal> {
-    if records[k].kind > OUTPUT {
+    if no_source_kind(&records[k]) {
         return refuse(4, k);
     }
     if forbidden_inversion(&records[k]) {

@@ -9,10 +9,10 @@ use reference::cases::{
     price_list, sound,
 };
 use reference::engine::{perform, Call, Name, Outcome, BY_A_PASS, FAST, NAMES, PLAIN};
-use reference::generator::{above_depth, fanouts, foreign, source, Levels};
+use reference::generator::{above_depth, fanouts, foreign, source, Gates, Levels};
 use reference::random::Random;
-use reference::reach::{reached, Reached, ALL_REACHED};
-use reference::record::{decode, encode, Record, INPUT};
+use reference::reach::{all_reached, reached, Reached};
+use reference::record::*;
 use reference::shapes;
 
 /// The call; the mapper's with an empty list, and with so many lists that are drawn.
@@ -51,9 +51,14 @@ fn fast_is_plain() {
             }
         }
     }
-    let often = |reached: &Reached| shown.get(reached).is_some_and(|&met| met > 50);
-    let all = ALL_REACHED.iter().filter(|&&reached| reached != Reached::Crowded);
-    let rare: Vec<&Reached> = all.filter(|reached| !often(reached)).collect();
+    // A slot of a MAJ5 is met less often than what any netlist may show.
+    let least = |reached: &Reached| match reached {
+        Reached::FiveSlot(..) | Reached::OverfullFive | Reached::FiveOnes(..) => 1,
+        _ => 50,
+    };
+    let often = |reached: &Reached| shown.get(reached).is_some_and(|&met| met >= least(reached));
+    let all = all_reached().into_iter().filter(|&reached| reached != Reached::Crowded);
+    let rare: Vec<Reached> = all.filter(|reached| !often(reached)).collect();
     assert!(rare.is_empty(), "rare: {rare:?}, met: {shown:?}");
     let missing: Vec<u32> = (0..=28).filter(|number| !met.contains_key(number)).collect();
     assert_eq!(missing, [3, 9], "met: {met:?}");
@@ -82,7 +87,8 @@ fn fast_is_plain_at_the_limits() {
     let accepted = |reached: Reached| {
         matches!(reached, Reached::EmptyList | Reached::FullList | Reached::PricedBuffer(_))
     };
-    let all = ALL_REACHED.into_iter().filter(|&reached| !reached.of_lists() || accepted(reached));
+    let sound = |reached: &Reached| !reached.of_lists() && !reached.of_damage();
+    let all = all_reached().into_iter().filter(|reached| sound(reached) || accepted(*reached));
     let missing: Vec<Reached> = all.filter(|reached| !shown.contains_key(reached)).collect();
     assert!(missing.is_empty(), "missing: {missing:?}, met: {shown:?}");
 }
@@ -126,9 +132,9 @@ fn shares_agree() {
     let mut halves = [0, 0];
     for (gates, buffers) in (0..60).flat_map(|gates| (0..60).map(move |buffers| (gates, buffers))) {
         let source = encode(&shapes::priced(gates, buffers));
-        let answer = (PLAIN.map)(&source, Capacities::unbranched(2), &[], &mut vec![0; 3000]);
+        let answer = (PLAIN.map)(&source, Capacities::unbranched(2), &[], &mut vec![0; 5000]);
         assert_eq!(
-            (FAST.map)(&source, Capacities::new(2, 7), &[], &mut vec![0; 3000]),
+            (FAST.map)(&source, Capacities::new(2, 7), &[], &mut vec![0; 5000]),
             answer,
             "{gates}, {buffers}"
         );
@@ -160,12 +166,13 @@ fn foreign_netlists_are_accepted_and_no_smaller() {
         let mut random = Random::of(9, index);
         let capacities =
             Capacities::new(random.between(2, 4) as u32, random.pick(&[1, 2, 3, 4, 4095]));
-        let records = source(&mut random, 30, capacities, Levels::Lowered);
+        let gates = random.pick(&[Gates::UpToThree, Gates::UpToFive]);
+        let records = source(&mut random, 30, capacities, Levels::Lowered, gates);
         let bytes = encode(&records);
         let mut area = vec![0; 100_000];
         let ours = map(&bytes, capacities, &[], &mut area);
         assert_eq!(ours[0], 0, "seed 9, index {index}");
-        let len = 10 * ours[2] as usize;
+        let len = WIDTH * ours[2] as usize;
         assert_eq!(verify(&bytes, capacities, &area[..len]), [0, 0, ours[3]]);
         let other = foreign(&mut random, &records, capacities).expect("every net has a tree");
         let theirs = verify(&bytes, capacities, &encode(&other));
@@ -187,7 +194,7 @@ fn foreign_netlists_are_accepted_and_no_smaller() {
 
 #[test]
 fn padded_to_the_limit() {
-    let mut area = vec![0; 80];
+    let mut area = vec![0; 112];
     let source = encode(&shapes::worked());
     let capacities = Capacities::unbranched(2);
     map(&source, capacities, &[], &mut area);

@@ -1,9 +1,9 @@
 //! Least levels: the worked case, a search over all assignments, the limits and the refusals.
 
 use reference::capacities::Capacities;
-use reference::cases::{any_call, damaged, limit, sound, unbranched, FILL};
+use reference::cases::{any_call, damaged, limit, sound, FILL};
 use reference::engine::{perform, Name, Outcome, FAST, PLAIN};
-use reference::generator::{source, steep, Levels};
+use reference::generator::{source, steep, Gates, Levels};
 use reference::levels::{least_levels, passes};
 use reference::random::Random;
 use reference::record::*;
@@ -159,16 +159,16 @@ fn hold_search(records: &[Record], s: u32, most: u32) -> bool {
     true
 }
 
-/// Every source of `size` records of the kinds input, AND, MAJ and output.
-fn every_source(size: usize) -> Vec<Vec<Record>> {
+/// Every source of `size` records of these kinds.
+fn every_source(size: usize, kinds: &[u8]) -> Vec<Vec<Record>> {
     if size == 0 {
         return vec![Vec::new()];
     }
     let mut all = Vec::new();
-    for records in every_source(size - 1) {
+    for records in every_source(size - 1, kinds) {
         let drivers: Vec<u16> =
             (0..records.len()).filter(|&k| records[k].is_driver()).map(|k| k as u16).collect();
-        for kind in [INPUT, AND, MAJ, OUTPUT] {
+        for &kind in kinds {
             for mut code in 0..drivers.len().pow(used_slots(kind) as u32) {
                 let mut fanins = Vec::new();
                 for _ in 0..used_slots(kind) {
@@ -186,14 +186,16 @@ fn every_source(size: usize) -> Vec<Vec<Record>> {
 
 #[test]
 fn all_small_sources() {
-    for size in 0..=4 {
+    let (few, five) = ([INPUT, AND, MAJ, OUTPUT], [INPUT, OR, MAJ5, OUTPUT]);
+    for (size, kinds) in (0..=4).map(|size| (size, few)).chain((0..=3).map(|size| (size, five))) {
         let (mut within, mut beyond) = (0, 0);
-        for records in every_source(size) {
+        for records in every_source(size, &kinds) {
             for s in 2..=4 {
                 *if hold_search(&records, s, 6) { &mut within } else { &mut beyond } += 1;
             }
         }
-        assert!(within > 0 && (beyond > 0 || size < 4), "{size}: {within} within, {beyond} beyond");
+        let high = size == 4 || size == 3 && kinds == five;
+        assert!(within > 0 && (beyond > 0) == high, "{size}: {within} within, {beyond} beyond");
     }
 }
 
@@ -203,7 +205,7 @@ fn some_larger_sources() {
     for index in 0..1500 {
         let mut random = Random::of(12, index);
         let most = random.between(5, 6);
-        let records = unbranched(&mut random, most).records;
+        let records = sound(&mut random, most).records;
         if records.len() < 5 {
             continue;
         }
@@ -247,7 +249,8 @@ fn steep_sources() {
     for index in 0..300 {
         let mut random = Random::of(14, index);
         let s = random.between(2, 4) as u32;
-        let records = steep(&mut random, s as usize);
+        let gates = random.pick(&[Gates::UpToThree, Gates::UpToFive]);
+        let records = steep(&mut random, s as usize, gates);
         let source = encode(&records);
         assert_eq!(check_unlevelled(&source).as_ref(), Ok(&records), "seed 14, index {index}");
         let least = least_levels(&records, s as usize);
@@ -277,51 +280,73 @@ fn majorities(gates: usize) -> Vec<Record> {
     records
 }
 
-/// An input that `sinks` slots name: outputs, or majorities and at most two outputs.
-fn net_of(sinks: usize, outputs: bool) -> Vec<Record> {
-    let majorities = if outputs { 0 } else { sinks / 3 };
+/// The same with MAJ5.
+fn fives(gates: usize) -> Vec<Record> {
     let mut records = shapes::inputs(1);
-    records.resize(1 + majorities, Record::new(MAJ, 0, 0, &[0; 3]));
-    records.resize(1 + sinks - 2 * majorities, Record::new(OUTPUT, 0, 0, &[0]));
+    records.extend((0..gates).map(|k| Record::new(MAJ5, 0, 0, &[k as u16; 5])));
     records
 }
 
-/// The most sinks that a net can have.
-fn majorities_on_one() -> Vec<Record> {
+/// An input that `sinks` slots name: of records of the kind, and of outputs for the rest.
+fn net_of(sinks: usize, kind: u8) -> Vec<Record> {
+    let slots = [(OUTPUT, 1), (MAJ, 3), (MAJ5, 5)].into_iter().find(|(k, _)| *k == kind);
+    let (_, slots) = slots.expect("one of the three");
     let mut records = shapes::inputs(1);
-    records.resize(MAX_SOURCE, Record::new(MAJ, 0, 0, &[0; 3]));
+    records.resize(1 + sinks / slots, Record::new(kind, 0, 0, &vec![0; slots]));
+    records.resize(1 + sinks / slots + sinks % slots, Record::new(OUTPUT, 0, 0, &[0]));
     records
 }
 
-/// Nets of s to the power h sinks, one less and one more; the largest net.
+/// Nets of s to the power h sinks, one less and one more, in each way for which there is room; the
+/// largest nets, of MAJ and of MAJ5.
 #[test]
 fn heights() {
+    let mut met = [[0; 3]; 16];
     for s in 2..=4 {
-        for power in (0..14).map(|h| usize::pow(s, h)) {
+        for power in (0..16).map(|h| usize::pow(s, h)).filter(|&power| power <= 20_480) {
             for sinks in [power - 1, power, power + 1] {
-                let h = (0..14).filter(|&h| usize::pow(s, h) < sinks).count() as u16;
-                for records in [net_of(sinks, false), net_of(sinks, true)] {
-                    let mut levels = vec![1 + h; records.len()];
+                let h = (0..16).filter(|&h| usize::pow(s, h) < sinks).count();
+                for records in [OUTPUT, MAJ, MAJ5].map(|kind| net_of(sinks, kind)) {
+                    let mut levels = vec![1 + h as u16; records.len()];
                     levels[0] = 0;
                     if records.len() <= MAX_SOURCE {
                         hold_levels(&records, s as u32, &levels);
+                        met[h][s - 2] += 1;
                     }
                 }
             }
         }
-        let mut levels = [1 + [14, 9, 7][s - 2]; MAX_SOURCE];
-        levels[0] = 0;
-        hold_levels(&majorities_on_one(), s as u32, &levels);
+        for (sinks, kind, height) in
+            [(12_285, MAJ, [14, 9, 7][s - 2]), (20_475, MAJ5, [15, 10, 8][s - 2])]
+        {
+            let records = net_of(sinks, kind);
+            assert_eq!(records.len(), MAX_SOURCE);
+            let mut levels = [1 + height; MAX_SOURCE];
+            levels[0] = 0;
+            hold_levels(&records, s as u32, &levels);
+        }
+    }
+    // The heights that a net of 20,475 sinks or fewer can have.
+    let highest = [15, 10, 8];
+    for (h, met) in met.iter().enumerate() {
+        let reachable = highest.map(|highest| h <= highest);
+        assert_eq!(met.map(|met| met > 0), reachable, "height {h}");
     }
 }
 
-/// A gate that names one driver twice has two sinks on its net, three times three.
+/// A gate that names one driver twice has two sinks on its net, three times three, five times five.
 #[test]
 fn slots_not_records() {
     let input = Record::new(INPUT, 0, 0, &[]);
-    for (s, twice, thrice) in [(2, 2, 3), (3, 2, 2), (4, 2, 2)] {
+    for (s, twice, thrice, four, five) in [(2, 2, 3, 3, 4), (3, 2, 2, 3, 3), (4, 2, 2, 2, 3)] {
         hold_levels(&[input, Record::new(AND, 0, 0, &[0, 0])], s, &[0, twice]);
         hold_levels(&[input, Record::new(MAJ, 0, 0, &[0; 3])], s, &[0, thrice]);
+        hold_levels(&[input, Record::new(MAJ5, 0, 0, &[0; 5])], s, &[0, five]);
+        for other in 0..5 {
+            let mut fanins = [0; 5];
+            fanins[other] = 1;
+            hold_levels(&[input, input, Record::new(MAJ5, 0, 0, &fanins)], s, &[0, 0, four]);
+        }
         let three = [input, input, Record::new(MAJ, 0, 0, &[1, 0, 1])];
         hold_levels(&three, s, &[0, 0, twice]);
         hold_levels(&[input, Record::new(OUTPUT, 0, 0, &[0])], s, &[0, 1]);
@@ -334,7 +359,7 @@ fn outputs_share_a_level() {
     let mut records = majorities(5);
     records.insert(1, Record::new(OUTPUT, 0, 0, &[0]));
     for record in &mut records[3..] {
-        record.slots = record.slots.map(|slot| slot + 1);
+        record.slots[..MAJ_SLOTS].iter_mut().for_each(|slot| *slot += 1);
     }
     records.push(Record::new(OUTPUT, 0, 0, &[3]));
     // Records 0 and 3 have four sinks, the other gates three and the last none.
@@ -378,19 +403,22 @@ fn highest_levels() {
 fn levels_refused() {
     let worked = encode(&shapes::worked());
     for s in [0, 1, 5, 258, 4_294_967_295] {
-        hold_refusal(&worked, s, 50, [1, 0]);
+        hold_refusal(&worked, s, 70, [1, 0]);
         hold_refusal(&worked[1..], s, 0, [1, 0]);
     }
-    hold_refusal(&worked[1..], 2, 49, [2, 0]);
+    hold_refusal(&worked[1..], 2, 69, [2, 0]);
     let inputs = encode(&shapes::inputs(MAX_SOURCE + 1));
     hold_refusal(&inputs, 2, inputs.len(), [3, 0]);
-    hold_refusal(&inputs[..40_969], 2, 0, [2, 0]);
-    for len in [0, 1, 40, 49, 51, 60, 100] {
+    hold_refusal(&inputs[..57_357], 2, 0, [2, 0]);
+    for len in [0, 1, 50, 56, 69, 71, 84, 140] {
         hold_refusal(&worked, 2, len, [23, 0]);
     }
-    for (at, byte, number) in [(20, 5, 4), (21, 4, 5), (24, 2, 6), (24, 3, 6), (28, 0, 6)] {
+    // Bytes of record 2, an AND: its kind, its inversion, its two fanins, its unused slots.
+    let used = [(0, 5, 4), (0, 7, 4), (0, 255, 4), (0, 6, 6), (1, 4, 5), (1, 8, 5), (4, 2, 6)];
+    let unused = [(4, 3, 6), (6, 3, 6), (8, 0, 6), (9, 0, 6), (10, 254, 6), (13, 0, 6)];
+    for (at, byte, number) in used.into_iter().chain(unused) {
         let mut bytes = worked.clone();
-        bytes[at] = byte;
+        bytes[2 * WIDTH + at] = byte;
         hold_refusal(&bytes, 2, 0, [number, 2]);
     }
     hold_refusal(&[], 2, 1, [23, 0]);
@@ -408,7 +436,9 @@ fn levels_brought_are_ignored() {
     for index in 0..500 {
         let mut random = Random::of(15, index);
         let s = random.between(2, 4);
-        let records = source(&mut random, 40, Capacities::unbranched(s as u32), Levels::Roomy);
+        let gates = random.pick(&[Gates::UpToThree, Gates::UpToFive]);
+        let capacities = Capacities::unbranched(s as u32);
+        let records = source(&mut random, 40, capacities, Levels::Roomy, gates);
         let levels = least_levels(&records, s);
         let least: Vec<u16> = levels.iter().map(|&level| level as u16).collect();
         hold_levels(&records, s as u32, &least);
@@ -416,4 +446,45 @@ fn levels_brought_are_ignored() {
         higher += usize::from(least != levels_of(&records));
     }
     assert!(higher > 100, "{higher} with higher levels");
+}
+
+/// Chains of MAJ5: five sinks have height 3 with s = 2 and 2 with the others.
+#[test]
+fn highest_levels_of_fives() {
+    let levels: Vec<u16> = (0..=1_023).map(|k| 4 * k).collect();
+    hold_levels(&fives(1_023), 2, &levels);
+    let source = encode(&fives(1_024));
+    hold_refusal(&source, 2, source.len(), [22, 1_024]);
+    let levels: Vec<u16> = (0..=1_365).map(|k| 3 * k).collect();
+    for s in [3, 4] {
+        hold_levels(&fives(1_365), s, &levels);
+        let source = encode(&fives(1_366));
+        hold_refusal(&source, s, source.len(), [22, 1_366]);
+    }
+    // Only the fanin in the last slot is high.
+    let mut records = fives(1_365);
+    records.extend(shapes::inputs(1));
+    records.push(Record::new(MAJ5, 0, 0, &[1_366, 1_366, 1_366, 1_366, 1_365]));
+    let source = encode(&records);
+    hold_refusal(&source, 3, source.len(), [22, 1_367]);
+    records[1_367].slots[4] = 1_364;
+    // Record 1,364 has six sinks now, 1,365 none: height 2 with both.
+    let levels: Vec<u16> = (0..=1_365).map(|k| 3 * k).chain([0, 4_095]).collect();
+    hold_levels(&records, 3, &levels);
+    hold_levels(&records, 4, &levels);
+}
+
+/// Each slot of a MAJ5 alone raises it.
+#[test]
+fn each_slot_of_five_counts() {
+    for slot in 0..5 {
+        let mut records = shapes::inputs(6);
+        records.push(Record::new(OR, 0, 0, &[5, 5]));
+        let mut fanins = [0, 1, 2, 3, 4];
+        fanins[slot] = 6;
+        records.push(Record::new(MAJ5, 0, 0, &fanins));
+        for s in 2..=4 {
+            hold_levels(&records, s, &[0, 0, 0, 0, 0, 0, 2, 3]);
+        }
+    }
 }

@@ -112,31 +112,31 @@ fn refusals() {
     }
 }
 
-/// Of a source 40,970 bytes are read, a whole number of records: what stands behind them does not
+/// Of a source 57,358 bytes are read, a whole number of records: what stands behind them does not
 /// make its length wrong.
 #[test]
 fn long_sources() {
     let inputs = encode(&shapes::inputs(2 * (MAX_SOURCE + 1)));
     let mapped = &inputs[..WIDTH * MAX_SOURCE];
     let texts = [
-        (40_959, "2 0\n"),
-        (40_960, "0 4096 0 0 0\nsum 4096 0 0 0\n"),
-        (40_961, "2 0\n"),
-        (40_969, "2 0\n"),
-        (40_970, "3 0\n"),
-        (40_971, "3 0\n"),
-        (40_979, "3 0\n"),
-        (40_980, "3 0\n"),
-        (81_939, "3 0\n"),
+        (57_343, "2 0\n"),
+        (57_344, "0 4096 0 0 0\nsum 4096 0 0 0\n"),
+        (57_345, "2 0\n"),
+        (57_357, "2 0\n"),
+        (57_358, "3 0\n"),
+        (57_359, "3 0\n"),
+        (57_371, "3 0\n"),
+        (57_372, "3 0\n"),
+        (114_715, "3 0\n"),
     ];
     for (len, text) in texts {
         assert_eq!(sheet(&[2, 1, 0], &inputs[..len], mapped), text, "{len} bytes");
     }
 }
 
-/// Two chains that are 6,000 records when mapped.
+/// Two chains and an input, which are 4,285 records when mapped: the most that 60,000 bytes hold.
 fn long_chains() -> Vec<Record> {
-    shapes::lines(2, 2999)
+    [shapes::lines(2, 2141), shapes::inputs(1)].concat()
 }
 
 #[test]
@@ -144,17 +144,19 @@ fn mapped_of_60_000_bytes() {
     let source = encode(&long_chains());
     let records = mapped(&long_chains(), 2);
     let bytes = encode(&records);
-    assert_eq!(bytes.len(), 60_000);
-    let mut text = "0 2 0 0 0\n".to_string();
-    for level in 1..2999 {
+    assert_eq!((records.len(), bytes.len()), (4_285, 59_990));
+    let mut text = "0 3 0 0 0\n".to_string();
+    for level in 1..2141 {
         text += &format!("{level} 0 0 2 0\n");
     }
-    text += "2999 0 0 0 2\nsum 2 0 5996 2\n";
+    text += "2141 0 0 0 2\nsum 3 0 4280 2\n";
     assert_eq!(sheet(&[2, 1, 0], &source, &bytes), text);
-    assert_eq!(sheet(&[2, 1, 0], &source, &bytes[..59_999]), "11 0\n");
-    assert_eq!(sheet(&[2, 1, 0], &source, &[&bytes[..], &[5]].concat()), "11 0\n");
+    assert_eq!(sheet(&[2, 1, 0], &source, &bytes[..59_989]), "11 0\n");
+    for more in 1..=14 {
+        assert_eq!(sheet(&[2, 1, 0], &source, &[&bytes[..], &vec![5; more]].concat()), "11 0\n");
+    }
     // One record more is legal, and too long for this program alone; so are many.
-    for total in [6_001, 7_000, MAX_MAPPED] {
+    for total in [4_286, 5_000, MAX_MAPPED] {
         let longer = encode(&shapes::padded(&shapes::worked_mapped(), 2, total));
         let worked = encode(&shapes::worked());
         assert_eq!(verify(&worked, Capacities::unbranched(2), &longer), Ok(total as u32 - 5));
@@ -166,7 +168,7 @@ fn mapped_of_60_000_bytes() {
 #[test]
 fn order_of_11() {
     let chains = long_chains();
-    let mut records = shapes::padded(&mapped(&chains, 2), 2, 6_001);
+    let mut records = shapes::padded(&mapped(&chains, 2), 2, 4_286);
     records[0].inversion = 1;
     let whole = encode(&records);
     let odd = &whole[..60_001];
@@ -176,8 +178,8 @@ fn order_of_11() {
         encode(&source)
     };
     let source = encode(&chains);
-    assert_eq!(sheet(&[2, 1, 0], &source, &whole[..60_000]), "12 0\n");
-    for mapped in [odd, &whole] {
+    assert_eq!(sheet(&[2, 1, 0], &source, &whole[..59_990]), "12 0\n");
+    for mapped in [odd, &whole, &whole[..60_000]] {
         assert_eq!(sheet(&[2, 1, 0], &source, mapped), "11 0\n");
         assert_eq!(sheet(&[5, 0, 0], &source, mapped), "1 0\n");
         assert_eq!(sheet(&[2, 0, 0], &source, mapped), "26 0\n");
@@ -187,7 +189,7 @@ fn order_of_11() {
         assert_eq!(sheet(&[2, 1, 0], &changed(|source| source[1].kind = 5), mapped), "4 1\n");
         assert_eq!(sheet(&[2, 1, 0], &changed(|source| source[2].inversion = 1), mapped), "5 2\n");
         assert_eq!(sheet(&[2, 1, 0], &changed(|source| source[3].slots[0] = 3), mapped), "6 3\n");
-        assert_eq!(sheet(&[2, 1, 0], &changed(|source| source[3].level = 2998), mapped), "7 3\n");
+        assert_eq!(sheet(&[2, 1, 0], &changed(|source| source[3].level = 2140), mapped), "7 3\n");
     }
 }
 
@@ -219,7 +221,7 @@ fn hold_lines(text: &str, mapped: &[u8]) {
     }
     for record in mapped.chunks(WIDTH) {
         let level = usize::from(record[2]) + 256 * usize::from(record[3]);
-        let column = [0, 1, 1, 1, 3, 2][usize::from(record[0])];
+        let column = [0, 1, 1, 1, 3, 2, 1][usize::from(record[0])];
         rows[level][column] -= 1;
         rows[levels][column] -= 1;
     }
@@ -264,8 +266,8 @@ fn files_meet_every_number() {
                 File::Missing => "missing",
                 File::Folder => "folder",
                 File::Holding(bytes) if bytes.is_empty() => "empty",
-                File::Holding(bytes) if bytes.len() == [3, 40_960, 60_000][k] => "longest",
-                File::Holding(bytes) if bytes.len() > [3, 40_970, 60_000][k] => "too long",
+                File::Holding(bytes) if bytes.len() == [3, 57_344, 59_990][k] => "longest",
+                File::Holding(bytes) if bytes.len() > [3, 57_358, 60_000][k] => "too long",
                 File::Holding(_) => continue,
             };
             sorts.insert((sort, k));
@@ -277,4 +279,15 @@ fn files_meet_every_number() {
     }
     assert_eq!(sorts.len(), 5 * 3, "{sorts:?}");
     assert!(long > 20, "{long} long netlists with other b than 1");
+}
+
+/// A MAJ5 counts as a gate.
+#[test]
+fn gates_of_five() {
+    let (source, mapped) = (encode(&shapes::one_five()), encode(&shapes::one_five_mapped()));
+    let text = "0 5 0 0 0\n1 0 0 5 0\n2 0 1 0 0\n3 0 0 1 0\n4 0 0 0 1\nsum 5 1 6 1\n";
+    assert_eq!(sheet(&[2, 1, 0], &source, &mapped), text);
+    let mut records = shapes::one_five_mapped();
+    records[5].slots.swap(3, 4);
+    assert_eq!(sheet(&[2, 1, 0], &source, &encode(&records)), "16 5\n");
 }

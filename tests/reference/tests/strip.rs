@@ -8,7 +8,7 @@ use reference::cases::{
     any_call, crowded_call, crowded_input_call, damaged, limit, other_input, sound, FILL,
 };
 use reference::engine::{perform, Name, Outcome, FAST, PLAIN};
-use reference::generator::{fanouts, foreign, reverse_buffers, source, Levels, ALL_LEVELS};
+use reference::generator::{fanouts, foreign, reverse_buffers, source, Gates, Levels, ALL_LEVELS};
 use reference::mapper::mapping;
 use reference::random::Random;
 use reference::record::*;
@@ -48,7 +48,7 @@ fn hold_source(s: Capacities, mapped: &[u8], source: &[u8]) {
 }
 
 fn hold_no_source(s: Capacities, mapped: &[u8]) {
-    for len in [0, mapped.len().saturating_sub(1), mapped.len(), 40_960] {
+    for len in [0, mapped.len().saturating_sub(1), mapped.len(), WIDTH * MAX_SOURCE] {
         hold_refusal(s, mapped, len, 24);
     }
 }
@@ -56,22 +56,22 @@ fn hold_no_source(s: Capacities, mapped: &[u8]) {
 #[test]
 fn source_of_the_case() {
     let (source, mapped) = (encode(&shapes::worked()), encode(&shapes::worked_mapped()));
-    assert_eq!(stripped(Capacities::unbranched(2), &mapped, 50), ([0, 0, 5], source.clone()));
-    assert_eq!(stripped(Capacities::unbranched(2), &mapped, 49), ([25, 0, 0], vec![FILL; 49]));
+    assert_eq!(stripped(Capacities::unbranched(2), &mapped, 70), ([0, 0, 5], source.clone()));
+    assert_eq!(stripped(Capacities::unbranched(2), &mapped, 69), ([25, 0, 0], vec![FILL; 69]));
     for s in 2..=4 {
         for b in [1, 2, 3, 4095] {
             hold_source(Capacities::new(s, b), &mapped, &source);
             hold_source(Capacities::new(s, b), &[], &[]);
         }
         for b in [0, 4096, 65_536, 65_537, 4_294_967_295] {
-            hold_refusal(Capacities::new(s, b), &mapped, 50, 26);
+            hold_refusal(Capacities::new(s, b), &mapped, 70, 26);
             hold_refusal(Capacities::new(s, b), &mapped[1..], 0, 26);
             hold_refusal(Capacities::new(s, b), &[], 0, 26);
         }
     }
     for s in [0, 1, 5, 258, 4_294_967_295] {
         for b in [0, 1, 4096] {
-            hold_refusal(Capacities::new(s, b), &mapped, 50, 1);
+            hold_refusal(Capacities::new(s, b), &mapped, 70, 1);
             hold_refusal(Capacities::new(s, b), &mapped[1..], 0, 1);
         }
     }
@@ -221,7 +221,8 @@ fn mapped_and_stripped() {
         let s = Capacities::new(s, random.pick(&[1, 2, 3, 4, 4095]));
         let size = random.below(80);
         let levels = random.pick(&ALL_LEVELS);
-        let bytes = encode(&source(&mut random, size, s, levels));
+        let gates = random.pick(&[Gates::UpToThree, Gates::UpToFive]);
+        let bytes = encode(&source(&mut random, size, s, levels, gates));
         if let Ok(own) = mapping(&bytes, s) {
             hold_source(s, &encode(&own.records), &bytes);
             mapped += 1;
@@ -237,6 +238,7 @@ fn mapped_and_stripped() {
             shapes::chains(200),
             shapes::wide(300, s),
             shapes::wide_majorities(90, s),
+            shapes::wide_gates(MAJ5, 90, s),
             shapes::lines(14, MAX_LEVEL),
             shapes::layered(&mut Random::new(18), 400, capacities),
         ];
@@ -280,7 +282,8 @@ fn foreign_netlists() {
         let s = Capacities::new(s, random.pick(&[1, 2, 3, 4, 300]));
         let size = random.below(60);
         let levels = random.pick(&[Levels::Roomy, Levels::Lowered]);
-        let records = source(&mut random, size, s, levels);
+        let gates = random.pick(&[Gates::UpToThree, Gates::UpToFive]);
+        let records = source(&mut random, size, s, levels, gates);
         let other = foreign(&mut random, &records, s).expect("a tree on every net");
         let bytes = encode(&records);
         hold_source(s, &encode(&other), &bytes);

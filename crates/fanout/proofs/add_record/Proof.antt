@@ -1,49 +1,34 @@
--- `add_record` meets its contract: the slots below j are counted.
-use Prim.Native.Nat.{◌-◌}
+-- `add_record` meets its contract: no slot past those counted is used.
 use borrow.Author.Rules.{rules}
-use Rattle.netlist.specs.Kinds.{slots}
-use Rattle.netlist.specs.Records.{netlist}
-use Rattle.fanout.proofs.Filling.{Slots, slots_start, slots_room, slots_more, slots_end}
+use Rattle.netlist.proofs.Checks.{arity_slots, few_used, few_slots}
 use Rattle.fanout.proofs.add_record.Statement.{statement}
 use Rattle.fanout.proofs.add_record.Tie as tie
 
-abbrev invariant-loop : tie.invariant-loop
-invariant-loop source row₀ far driver below k r most₀ j₀ row most j = Slots (netlist source) driver below k r row most j
-
-abbrev decreases-loop : tie.decreases-loop
-decreases-loop source row₀ far driver below k r most₀ j₀ row most j = slots - j
-
-record-at-requires : tie.Need-record-at-requires invariant-loop decreases-loop
+record-at-requires : tie.Need-record-at-requires
 record-at-requires c κs = search rules
 
-loop-holds : tie.Need-loop-init invariant-loop decreases-loop
-loop-holds c = search slots_start
+add-slots-requires : tie.Need-add-slots-requires
+add-slots-requires c κs = (search rules, (search rules, search (rules, arity_slots)))
 
-add-slot-requires : tie.Need-add-slot-requires invariant-loop decreases-loop
-add-slot-requires c κs = search slots_room
+returns : tie.Need-returns
+returns c = search rules
 
-add-j : tie.Need-overflow-add-j invariant-loop decreases-loop
-add-j c = search rules
+arity-requires : tie.Need-arity-requires
+arity-requires c κs = search rules
 
-loop-less : tie.Need-loop-smaller invariant-loop decreases-loop
-loop-less c = search rules
+add-slots-requires-2 : tie.Need-add-slots-requires-2
+add-slots-requires-2 c κs = (search rules, (search rules, search (few_used, few_slots)))
 
-loop-again : tie.Need-loop-preserved invariant-loop decreases-loop
-loop-again c = search slots_more
-
-returns : tie.Need-returns invariant-loop decreases-loop
-returns c = search slots_end
+returns-2 : tie.Need-returns-2
+returns-2 c = search rules
 
 pub add-record-spec : {M : Type 1} → statement M
 add-record-spec =
     tie.close
     (tie.spec
-    invariant-loop
-    decreases-loop
     record-at-requires
-    loop-holds
-    add-slot-requires
-    add-j
-    loop-less
-    loop-again
-    returns)
+    add-slots-requires
+    returns
+    arity-requires
+    add-slots-requires-2
+    returns-2)

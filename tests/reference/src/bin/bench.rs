@@ -10,8 +10,9 @@
 //! while it counts the buffers, and its time with an empty list. The mapper's price list is empty, but
 //! in the rows that say so. Both answers are compared before a row is timed. Areas that a call writes
 //! are touched once before and not cleared between calls. A row of layered netlists goes round as many
-//! of them as have 65,536 records together, so that no row repeats one input. Inputs feed one slot
-//! (b = 1), but where the shape names another b.
+//! of them as have 65,536 records together, so that no row repeats one input; of the run on netlists
+//! with MAJ5 it is four. Inputs feed one slot (b = 1), but where the shape names another b. Netlists
+//! have no MAJ5, but where the shape names it.
 
 use std::hint::black_box;
 use std::time::{Duration, Instant};
@@ -41,11 +42,25 @@ const SAMPLES: usize = 161;
 const SAMPLE_TIME: Duration = Duration::from_micros(400);
 /// The calls that have rows in which inputs branch, all of them accepted.
 const BRANCHING: [Name; 4] = [Name::Map, Name::Verify, Name::Strip, Name::CountNets];
+/// The calls that have rows with MAJ5, all of them accepted.
+const WITH_FIVES: [Name; 8] = [
+    Name::Map,
+    Name::Verify,
+    Name::Strip,
+    Name::CountNets,
+    Name::Levels,
+    Name::Evaluate,
+    Name::Step,
+    Name::Run,
+];
+/// The sizes of those rows, and how many netlists a row of the run has.
+const FIVE_SIZES: [usize; 2] = [SIZES[0], SIZES[SIZES.len() - 1]];
+const FIVE_RUNS: usize = 4;
 
 /// The price list of the rows that have one: every price is another.
-const PRICES: [u8; LIST] = [10, 12, 11, 14, 9, 13, 4, 2, 3, 5, 6];
+const PRICES: [u8; LIST] = [10, 12, 11, 14, 9, 13, 4, 2, 3, 5, 6, 15, 17];
 /// What those rows of the mapper are called.
-const PRICED_LABEL: &str = "map, 11 prices";
+const PRICED_LABEL: &str = "map, 13 prices";
 
 /// One input with what the row says of it.
 struct Subject {
@@ -430,7 +445,7 @@ fn falling(layered: &[Subject], raised: &Subject, shared: &Subject) -> [Vec<Subj
 fn without_source(layered: &[Subject]) -> [Vec<Subject>; 2] {
     let last_bad = |records: &mut Vec<Record>| {
         let last = records.len() - 1;
-        records[last].slots[2] = 0;
+        records[last].slots[SLOTS - 1] = 0;
     };
     // The first buffer hangs on a driver.
     let two_on_driver = |records: &mut Vec<Record>| records.push(records[layered[0].n()]);
@@ -441,8 +456,8 @@ fn without_source(layered: &[Subject]) -> [Vec<Subject>; 2] {
 }
 
 /// Sources that the mapper refuses by 8 or 9 after counting long nets.
-fn refused_shapes() -> [Subject; 4] {
-    let far = shapes::three_far(MAX_SOURCE / 2);
+fn refused_shapes() -> [Subject; 5] {
+    let far = shapes::all_far(MAJ, MAX_SOURCE / 2);
     [
         Subject::new("lines to the highest level", &shapes::lines(2048, MAX_LEVEL), 0),
         Subject::with(
@@ -453,20 +468,36 @@ fn refused_shapes() -> [Subject; 4] {
         ),
         Subject::new("three far sinks", &far, 0),
         Subject::new("three far sinks, no tree at last", &shapes::treeless_at_last(&far), 0),
+        Subject::new("five far sinks, of MAJ5", &shapes::all_far(MAJ5, MAX_SOURCE / 2), 0),
     ]
 }
 
-/// Chains whose least levels are above 4,095 from record 1,366 on: refused by 22.
-fn long_chains() -> [[Subject; 1]; 2] {
-    [MAX_SOURCE / 2, MAX_SOURCE].map(|size| {
-        let chain = shapes::climb(size - 1, false, false);
-        [Subject::new("long chain, refused by 22", &chain, 0)]
-    })
+/// Chains whose least levels are above 4,095 from record 1,366 on, of MAJ5 from 1,024 on: refused by 22.
+fn long_chains() -> [[Subject; 1]; 3] {
+    let chain = |shape, kind, size| {
+        [Subject::new(shape, &shapes::climb_of(kind, size - 1, false, false), 0)]
+    };
+    [
+        chain("long chain, refused by 22", MAJ, MAX_SOURCE / 2),
+        chain("long chain, refused by 22", MAJ, MAX_SOURCE),
+        chain("long chain of MAJ5, refused by 22", MAJ5, MAX_SOURCE),
+    ]
 }
 
-/// A layered netlist, whose widest net is counted.
+/// A layered netlist without MAJ5, whose widest net is counted.
 fn layered(capacities: Capacities, shape: &'static str, seed: u64, size: usize) -> Subject {
-    let records = shapes::layered(&mut Random::of(SEED, seed), size, capacities);
+    layered_of(&shapes::NO_FIVES, capacities, shape, seed, size)
+}
+
+/// A layered netlist with gates of these kinds, whose widest net is counted.
+fn layered_of(
+    kinds: &[u8],
+    capacities: Capacities,
+    shape: &'static str,
+    seed: u64,
+    size: usize,
+) -> Subject {
+    let records = shapes::layered_of(&mut Random::of(SEED, seed), kinds, size, capacities);
     let fanouts = fanouts(&records);
     let widest = (0..size).max_by_key(|&k| fanouts[k]).unwrap_or(0);
     Subject::with(capacities, shape, &records, widest as u32)
@@ -494,6 +525,23 @@ fn branching_shapes_of(size: usize) -> [Vec<Subject>; 3] {
         vec![Subject::with(many, "all on one input, b = 4,095", &one, 0)],
         vec![Subject::with(many, "nine on each input, b = 4,095", &shapes::fans(size, 9), 0)],
     ]
+}
+
+/// The rows of one size with MAJ5: a third of the gates, and all of them.
+fn five_shapes_of(size: usize) -> [Vec<Subject>; 2] {
+    let round = (LAYERED / size) as u64;
+    let (third, all) = ("layered, a third MAJ5", "layered, all MAJ5");
+    let some = |seed| layered_of(&shapes::SOME_FIVES, NARROW, third, seed, size);
+    let only = |seed| layered_of(&shapes::ONLY_FIVES, NARROW, all, seed, size);
+    [(0..round).map(some).collect(), (0..round).map(only).collect()]
+}
+
+/// The netlists of a row with MAJ5.
+fn of_row(subjects: &[Subject], name: Name) -> &[Subject] {
+    match name {
+        Name::Run => &subjects[..FIVE_RUNS],
+        _ => subjects,
+    }
 }
 
 /// Layered netlists with outputs raised until the mapped netlist has about this many records.
@@ -547,6 +595,12 @@ fn main() {
     print_row(&majorities, Name::Count);
     print_row(&majorities, Name::CountNets);
     levels(&majorities);
+    let wide_fives = shapes::wide_gates(MAJ5, MAX_SOURCE, S);
+    let wide_fives = [Subject::new("20,475 sinks, of MAJ5", &wide_fives, 0)];
+    map(&wide_fives);
+    print_row(&wide_fives, Name::Count);
+    print_row(&wide_fives, Name::CountNets);
+    levels(&wide_fives);
     let wide = shapes::wide(MAX_SOURCE, S);
     let shared = shapes::raised(&wide, usize::from(MAX_LEVEL - depth(&wide)));
     let shared = [Subject::new("wide, one long chain below", &shared, 0)];
@@ -559,14 +613,29 @@ fn main() {
     for chain in &long_chains {
         print_row(chain, Name::Levels);
     }
+    let fives = FIVE_SIZES.map(five_shapes_of);
+    for name in WITH_FIVES {
+        for shape in 0..2 {
+            for shapes in &fives {
+                let subjects = of_row(&shapes[shape], name);
+                hold_accepted(subjects, name);
+                print_row(subjects, name);
+            }
+        }
+    }
     let priced_shapes = |print: fn(&[Subject])| {
         for shape in 0..3 {
             for shapes in &all {
                 print(&shapes[shape]);
             }
         }
-        for subjects in [&sizes[3], &majorities, &shared] {
+        for subjects in [&sizes[3], &majorities, &shared, &wide_fives] {
             print(subjects);
+        }
+        for shape in 0..2 {
+            for shapes in &fives {
+                print(&shapes[shape]);
+            }
         }
     };
     priced_shapes(print_priced);
@@ -599,6 +668,12 @@ fn main() {
         }
     }
 
+    for name in WITH_FIVES {
+        for (small, large) in fives[0].iter().zip(&fives[1]) {
+            print_growth(of_row(small, name), of_row(large, name), name);
+        }
+    }
+
     println!();
     println!("| call | refused | N | number | ours, us | slowest accepted, us | ratio |");
     println!("|---|---|---|---|---|---|---|");
@@ -618,6 +693,9 @@ fn main() {
     print_over_map(&large[2], "one driver each time", repeated);
     let [layered_b, ..] = &branching[SIZES.len() - 1];
     print_over_map(layered_b, "all drivers", |subject| subject.call(Name::CountNets));
+    for subjects in &fives[1] {
+        print_over_map(subjects, "all drivers", |subject| subject.call(Name::CountNets));
+    }
 
     println!();
     println!(
@@ -644,10 +722,13 @@ fn main() {
     for [layered, ..] in &branching {
         print_over_verify(layered, strip);
     }
+    for subjects in fives.iter().flatten() {
+        print_over_verify(subjects, strip);
+    }
 
     println!();
     println!(
-        "| shape | N | M | 11 prices by passes, us | 11 prices while counting, us | ratio \
+        "| shape | N | M | 13 prices by passes, us | 13 prices while counting, us | ratio \
          | empty list, us | list to empty |"
     );
     println!("|---|---|---|---|---|---|---|---|");

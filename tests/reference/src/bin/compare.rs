@@ -19,7 +19,7 @@ use reference::engine::{perform, Call, Name, Outcome, NAMES, PLAIN};
 use reference::levels;
 use reference::linked::LINKED;
 use reference::prices::LIST;
-use reference::reach::{reached, Reached, ALL_REACHED};
+use reference::reach::{all_reached, reached, Reached};
 use reference::record::WIDTH;
 
 /// On so many netlists each case of `reach` must be met.
@@ -78,7 +78,8 @@ impl Tally {
 
     /// The cases of `reach` that were not met, in words.
     fn missing(&self) -> Vec<String> {
-        let missing = ALL_REACHED.into_iter().filter(|reached| !self.reached.contains_key(reached));
+        let missing =
+            all_reached().into_iter().filter(|reached| !self.reached.contains_key(reached));
         missing.map(Reached::words).collect()
     }
 
@@ -92,7 +93,7 @@ impl Tally {
         };
         let refused: Vec<String> =
             self.refused.iter().map(|(number, met)| format!("{number}:{met}")).collect();
-        let reached = ALL_REACHED.map(|reached| {
+        let reached = all_reached().into_iter().map(|reached| {
             let met = self.reached.get(&reached).copied().unwrap_or(0);
             format!("{} {met}", reached.words())
         });
@@ -101,7 +102,7 @@ impl Tally {
             by_name(&self.calls),
             by_name(&self.accepted),
             refused.join(" "),
-            reached.join(", ")
+            reached.collect::<Vec<String>>().join(", ")
         );
     }
 }

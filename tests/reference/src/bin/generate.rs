@@ -4,6 +4,7 @@
 //! fields; a field is a four-byte length and that many bytes. All numbers are low byte first.
 
 use std::collections::{BTreeMap, BTreeSet};
+use std::ops::Range;
 use std::process::ExitCode;
 use std::{env, fs};
 
@@ -13,10 +14,11 @@ use reference::cases::{
     any_call, damaged, other_input, price_list, sound_with, unbranched, Subject, FILL,
 };
 use reference::engine::{perform, Call, Name, PLAIN};
-use reference::generator::reverse_buffers;
+use reference::generator::{reverse_buffers, Gates};
 use reference::mapper::mapping;
 use reference::prices::LIST;
 use reference::random::Random;
+use reference::reach;
 use reference::record::*;
 use reference::shapes;
 use reference::source::{check_source, number_of};
@@ -27,7 +29,7 @@ const SEED: u64 = 20_001;
 const ACCEPTED: usize = 150;
 /// A case found by chance is at most this long, and four more where it holds b, and four more where it
 /// has a field for prices.
-const CASE_BYTES: usize = 700;
+const CASE_BYTES: usize = 70 * WIDTH;
 const TRIES: u64 = 200_000;
 /// How many subjects one try at a case with inputs that branch may look at.
 const BRANCHING_TRIES: usize = 1_000;
@@ -59,7 +61,9 @@ struct Part {
 
 /// The first part has inputs that do not branch; a call that takes b has a second, in which they do,
 /// and may have a third with more worked cases of the second kind. The mapper has a fourth with price
-/// lists; in the others they are empty.
+/// lists; in those before they are empty. The last part has netlists with MAJ5, those before have none,
+/// but where a kind was damaged; the record view, which looks at no kind, lacks it. A part has a stream
+/// of its own.
 struct Family {
     name: &'static str,
     parts: &'static [Part],
@@ -77,21 +81,32 @@ const FIRST: Part = Part {
 const FIRST_WITH_B: Part = Part { longest: CASE_BYTES + 4, ..FIRST };
 
 /// What second parts have in common.
-const SECOND: Part = Part { accepted: 25, refused: 10, longest: 500, ..FIRST };
+const SECOND: Part = Part { accepted: 25, refused: 10, longest: 50 * WIDTH, ..FIRST };
 
 /// What third parts have in common: worked cases alone. They stand behind all others, which keep their
 /// places.
 const THIRD: Part = Part { numbers: &[], accepted: 0, refused: 0, by_chance: |_| None, ..SECOND };
 
+/// What last parts have in common: netlists with MAJ5.
+const FIVES: Part = Part { accepted: 6, refused: 3, longest: 33 * WIDTH, ..FIRST };
+
 const FAMILIES: [Family; 12] = [
     Family {
         name: "reader",
-        parts: &[Part {
-            numbers: &[0, 2, 4, 5, 6, 7],
-            worked: worked_reader,
-            by_chance: |random| Some(reader_case(&any_subject(random).source)),
-            ..FIRST
-        }],
+        parts: &[
+            Part {
+                numbers: &[0, 2, 4, 5, 6, 7],
+                worked: worked_reader,
+                by_chance: |random| Some(reader_case(&any_subject(random).source)),
+                ..FIRST
+            },
+            Part {
+                numbers: &[0, 2, 4, 5, 6, 7],
+                worked: fives_reader,
+                by_chance: fives_reader_case,
+                ..FIVES
+            },
+        ],
     },
     Family {
         name: "count",
@@ -108,6 +123,12 @@ const FAMILIES: [Family; 12] = [
                 worked: branching_count,
                 by_chance: |random| branching_case(random, Name::Count),
                 ..SECOND
+            },
+            Part {
+                numbers: &[0, 1, 2, 4, 5, 6, 7, 20, 26],
+                worked: fives_count,
+                by_chance: |random| fives_case(random, Name::Count),
+                ..FIVES
             },
         ],
     },
@@ -126,6 +147,12 @@ const FAMILIES: [Family; 12] = [
                 worked: branching_count_nets,
                 by_chance: |random| branching_case(random, Name::CountNets),
                 ..SECOND
+            },
+            Part {
+                numbers: &[0, 1, 2, 4, 5, 6, 7, 20, 21, 26],
+                worked: fives_count_nets,
+                by_chance: |random| fives_case(random, Name::CountNets),
+                ..FIVES
             },
         ],
     },
@@ -152,9 +179,15 @@ const FAMILIES: [Family; 12] = [
                 numbers: &[0, 27, 28],
                 accepted: 8,
                 refused: 3,
-                longest: 350,
+                longest: 35 * WIDTH,
                 worked: priced_mapper,
                 by_chance: priced_case,
+            },
+            Part {
+                numbers: &[0, 1, 2, 4, 5, 6, 7, 8, 10, 26, 27, 28],
+                worked: fives_mapper,
+                by_chance: |random| fives_case(random, Name::Map),
+                ..FIVES
             },
         ],
     },
@@ -175,17 +208,31 @@ const FAMILIES: [Family; 12] = [
                 ..SECOND
             },
             Part { worked: more_verifier, ..THIRD },
+            Part {
+                numbers: &[0, 1, 2, 4, 5, 6, 7, 11, 12, 13, 14, 15, 16, 17, 26],
+                worked: fives_verifier,
+                by_chance: |random| fives_case(random, Name::Verify),
+                ..FIVES
+            },
         ],
     },
     Family {
         name: "evaluate",
-        parts: &[Part {
-            numbers: &[0, 2, 4, 5, 6, 7, 18, 19],
-            refused: 32,
-            worked: worked_evaluate,
-            by_chance: |random| Some(chance_case(random, Name::Evaluate)),
-            ..FIRST
-        }],
+        parts: &[
+            Part {
+                numbers: &[0, 2, 4, 5, 6, 7, 18, 19],
+                refused: 32,
+                worked: worked_evaluate,
+                by_chance: |random| Some(chance_case(random, Name::Evaluate)),
+                ..FIRST
+            },
+            Part {
+                numbers: &[0, 2, 4, 5, 6, 7, 18, 19],
+                worked: fives_evaluate,
+                by_chance: |random| fives_case(random, Name::Evaluate),
+                ..FIVES
+            },
+        ],
     },
     Family {
         name: "run",
@@ -204,6 +251,12 @@ const FAMILIES: [Family; 12] = [
                 ..SECOND
             },
             Part { worked: more_run, ..THIRD },
+            Part {
+                numbers: &[0, 1, 2, 4, 5, 6, 7, 11, 12, 13, 14, 15, 16, 17, 18, 19, 26],
+                worked: fives_run,
+                by_chance: |random| fives_case(random, Name::Run),
+                ..FIVES
+            },
         ],
     },
     Family {
@@ -223,17 +276,31 @@ const FAMILIES: [Family; 12] = [
                 ..SECOND
             },
             Part { worked: more_step, ..THIRD },
+            Part {
+                numbers: &[0, 1, 2, 4, 5, 6, 7, 11, 12, 13, 14, 15, 16, 17, 18, 19, 26],
+                worked: fives_step,
+                by_chance: |random| fives_case(random, Name::Step),
+                ..FIVES
+            },
         ],
     },
     Family {
         name: "levels",
-        parts: &[Part {
-            numbers: &[0, 1, 2, 4, 5, 6, 22, 23],
-            refused: 10,
-            worked: worked_levels,
-            by_chance: |random| Some(chance_case(random, Name::Levels)),
-            ..FIRST
-        }],
+        parts: &[
+            Part {
+                numbers: &[0, 1, 2, 4, 5, 6, 22, 23],
+                refused: 10,
+                worked: worked_levels,
+                by_chance: |random| Some(chance_case(random, Name::Levels)),
+                ..FIRST
+            },
+            Part {
+                numbers: &[0, 1, 2, 4, 5, 6, 23],
+                worked: fives_levels,
+                by_chance: |random| fives_case(random, Name::Levels),
+                ..FIVES
+            },
+        ],
     },
     Family {
         name: "strip",
@@ -252,6 +319,12 @@ const FAMILIES: [Family; 12] = [
                 ..SECOND
             },
             Part { worked: more_strip, ..THIRD },
+            Part {
+                numbers: &[0, 1, 24, 25, 26],
+                worked: fives_strip,
+                by_chance: |random| fives_case(random, Name::Strip),
+                ..FIVES
+            },
         ],
     },
     Family { name: "record_view", parts: &[FIRST] },
@@ -267,6 +340,14 @@ const FAMILIES: [Family; 12] = [
             },
             Part { worked: branching_block_view, by_chance: branching_block_case, ..SECOND },
             Part { worked: more_block_view, ..THIRD },
+            Part {
+                worked: fives_block_view,
+                by_chance: |random| {
+                    let subject = fives_subject(random)?;
+                    Some(block_view_case(random, subject))
+                },
+                ..FIVES
+            },
         ],
     },
 ];
@@ -323,8 +404,8 @@ fn chance_case(random: &mut Random, name: Name) -> Case {
 }
 
 fn record_view_case(random: &mut Random) -> Case {
-    let source_len = random.below(45);
-    let mapped_len = random.below(90);
+    let source_len = random.below(4 * WIDTH + WIDTH / 2);
+    let mapped_len = random.below(9 * WIDTH);
     let (source, mapped) = (random.bytes(source_len), random.bytes(mapped_len));
     let k = random.below(10);
     let part = record_view(&source, &mapped, k).to_vec();
@@ -345,7 +426,7 @@ fn block_view_case(random: &mut Random, subject: Subject) -> Case {
     let m = mapping(&source, capacities).map_or(5, |mapping| mapping.records.len());
     let len = match random.below(3) {
         0 => random.below(WIDTH * m + 1),
-        _ => WIDTH * m + random.below(12),
+        _ => WIDTH * m + random.below(WIDTH + 2),
     };
     let mapped = random.bytes(len);
     let driver = random.below(source.len() / WIDTH + 2);
@@ -393,8 +474,8 @@ fn worked_reader() -> Vec<Case> {
         vec![Record::new(OUTPUT, 0, 1, &[0])],
         vec![Record { inversion: 1, ..input }],
     ];
-    for slot in 0..SLOTS {
-        let mut used = [0; SLOTS];
+    for slot in 0..MAJ_SLOTS {
+        let mut used = [0; MAJ_SLOTS];
         used[slot] = UNUSED;
         sources.push(vec![input, Record::new(MAJ, 0, 1, &used)]);
         let mut one = input;
@@ -508,21 +589,21 @@ fn map_on(source: &[Record], s: u32, len: usize) -> Call {
 fn worked_mapper() -> Vec<Case> {
     let worked = shapes::worked();
     let mut calls: Vec<Call> =
-        [0, 79, 80, 81, 90].iter().map(|&len| map_on(&worked, 2, len)).collect();
+        [0, 111, 112, 113, 126].iter().map(|&len| map_on(&worked, 2, len)).collect();
     for capacity in [0, 1, 3, 4, 5, 258] {
-        calls.push(map_on(&worked, capacity, 80));
+        calls.push(map_on(&worked, capacity, 112));
     }
     calls.push(map_on(&[], 2, 0));
     calls.push(map_on(&[], 4, 7));
     for (gates, buffers) in [(7, 3), (2, 3), (1, 6), (1, 5), (5, 9)] {
-        calls.push(map_on(&shapes::priced(gates, buffers), 2, 400));
+        calls.push(map_on(&shapes::priced(gates, buffers), 2, 40 * WIDTH));
     }
     for s in 2..=4 {
-        calls.push(map_on(&shapes::chains(12), s, 250));
-        calls.push(map_on(&shapes::wide(30, s as usize), s, 900));
-        calls.push(map_on(&shapes::wide_majorities(9, s as usize), s, 600));
-        calls.push(map_on(&shapes::lines(2, 9), s, 200));
-        calls.push(map_on(&shapes::net(&[2, 5, 5, 5]), s, 200));
+        calls.push(map_on(&shapes::chains(12), s, 25 * WIDTH));
+        calls.push(map_on(&shapes::wide(30, s as usize), s, 90 * WIDTH));
+        calls.push(map_on(&shapes::wide_majorities(9, s as usize), s, 60 * WIDTH));
+        calls.push(map_on(&shapes::lines(2, 9), s, 20 * WIDTH));
+        calls.push(map_on(&shapes::net(&[2, 5, 5, 5]), s, 20 * WIDTH));
         calls.push(map_on(&shapes::lines(15, 4095), s, 30));
         calls.push(map_on(&shapes::lines(14, 4095), s, 30));
         // 30 records and 15 x 3,998 buffers are 60,000; one more record is over.
@@ -550,7 +631,7 @@ fn worked_verifier() -> Vec<Case> {
         changed[at] = changed[at].wrapping_add(1);
         cases.push(on(changed, 2));
     }
-    for len in [0, 1, 40, 49, 50, 51, 79] {
+    for len in [0, 1, 56, 69, 70, 71, 111] {
         cases.push(on(legal[..len].to_vec(), 2));
     }
     // One slot of record 2 a level off, the other naming nothing or an output: 14 comes first.
@@ -678,8 +759,8 @@ fn worked_levels() -> Vec<Case> {
     let fitting = |source: &[Record], s: u32| on(source, s, WIDTH * source.len());
     let worked = shapes::worked();
     let mut calls: Vec<Call> = [0, 1, 2, 3, 4, 5, 258].map(|s| fitting(&worked, s)).into();
-    calls.extend([0, 1, 40, 49, 51, 60, 100].map(|len| on(&worked, 2, len)));
-    calls.extend([0, 1, 10].map(|len| on(&[], 3, len)));
+    calls.extend([0, 1, 56, 69, 71, 84, 140].map(|len| on(&worked, 2, len)));
+    calls.extend([0, 1, WIDTH].map(|len| on(&[], 3, len)));
     for level in [0, 1, 4095, 4096, 65_535] {
         let brought = |record: &Record| Record { level, ..*record };
         calls.push(fitting(&worked.iter().map(brought).collect::<Vec<_>>(), 2));
@@ -723,22 +804,22 @@ fn worked_strip() -> Vec<Case> {
     };
     let worked = shapes::worked_mapped();
     let legal = encode(&worked);
-    let mut calls: Vec<Call> = [0, 1, 2, 3, 4, 5, 258].map(|s| on(&legal, s, 50)).into();
-    calls.extend([0, 1, 40, 49, 51, 60, 80].map(|len| on(&legal, 2, len)));
-    calls.extend([0, 1, 10].map(|len| on(&[], 3, len)));
+    let mut calls: Vec<Call> = [0, 1, 2, 3, 4, 5, 258].map(|s| on(&legal, s, 70)).into();
+    calls.extend([0, 1, 56, 69, 71, 84, 112].map(|len| on(&legal, 2, len)));
+    calls.extend([0, 1, WIDTH].map(|len| on(&[], 3, len)));
     for at in 0..legal.len() {
         let mut changed = legal.clone();
         changed[at] = changed[at].wrapping_add(1);
-        calls.push(on(&changed, 2, 50));
+        calls.push(on(&changed, 2, 70));
     }
     for (_, mapped) in shapes::without_source() {
-        calls.push(on(&mapped, 2, 50));
+        calls.push(on(&mapped, 2, 70));
     }
-    calls.push(on(&encode(&shapes::two_gates(false)), 2, 30));
+    calls.push(on(&encode(&shapes::two_gates(false)), 2, 3 * WIDTH));
     for s in 2..=4 {
         let mut three = worked.clone();
         three.push(Record::buffer(2, 5));
-        calls.push(on(&encode(&three), s, 50));
+        calls.push(on(&encode(&three), s, 70));
         let sources = [
             shapes::chains(12),
             shapes::wide(30, s as usize),
@@ -752,13 +833,13 @@ fn worked_strip() -> Vec<Case> {
             calls.push(on(&own, s, WIDTH * source.len()));
             calls.push(on(&own, s - 1, 0));
         }
-        calls.push(on(&encode(&falling(&shapes::lines(2, 9), s)), s, 40));
-        calls.push(on(&encode(&falling(&shapes::sinks_at(7, 5), s)), s, 45));
-        calls.push(on(&encode(&shapes::padded(&worked, s as usize, 30)), s, 52));
+        calls.push(on(&encode(&falling(&shapes::lines(2, 9), s)), s, 4 * WIDTH));
+        calls.push(on(&encode(&falling(&shapes::sinks_at(7, 5), s)), s, 4 * WIDTH + 5));
+        calls.push(on(&encode(&shapes::padded(&worked, s as usize, 30)), s, 72));
     }
     // Levels of two bytes, and indices above 255.
-    calls.push(on(&encode(&mapped(&shapes::lines(1, 300), 2)), 2, 20));
-    calls.push(on(&encode(&falling(&shapes::lines(1, 300), 2)), 2, 19));
+    calls.push(on(&encode(&mapped(&shapes::lines(1, 300), 2)), 2, 2 * WIDTH));
+    calls.push(on(&encode(&falling(&shapes::lines(1, 300), 2)), 2, 2 * WIDTH - 1));
     calls.iter().map(call_case).collect()
 }
 
@@ -801,7 +882,7 @@ fn in_order(call: &Call) -> Vec<Call> {
 /// A subject of at most 12 records whose inputs may feed several slots, with b as it is or another.
 fn branching_subject(random: &mut Random) -> Subject {
     let input = random.pick(&[2, 2, 3, 3, 4, 5, 6, 4095]);
-    let subject = sound_with(random, 12, input);
+    let subject = sound_with(random, 12, input, Gates::UpToThree);
     other_input(random, subject)
 }
 
@@ -913,8 +994,8 @@ fn branching_mapper() -> Vec<Case> {
     }
     let near = shapes::twins(&[1, 1], false);
     for b in LIMITS {
-        calls.push(on(&near, 2, b, 50));
-        calls.push(on(&near, 2, b, 49));
+        calls.push(on(&near, 2, b, 5 * WIDTH));
+        calls.push(on(&near, 2, b, 5 * WIDTH - 1));
     }
     for b in 2..=6 {
         for sinks in [b, b + 1] {
@@ -944,8 +1025,8 @@ fn more_mapper() -> Vec<Case> {
 }
 
 /// A list in which every price is another.
-const RISING: [u8; LIST] = [1, 2, 3, 4, 5, 6, 7, 8, 9, 10, 11];
-const MIXED: [u8; LIST] = [255, 3, 128, 17, 64, 200, 1, 31, 97, 5, 250];
+const RISING: [u8; LIST] = [1, 2, 3, 4, 5, 6, 7, 8, 9, 10, 11, 12, 13];
+const MIXED: [u8; LIST] = [255, 3, 128, 17, 64, 200, 1, 31, 97, 5, 250, 77, 143];
 
 /// The call with a price list.
 fn priced(call: Call, prices: &[u8]) -> Call {
@@ -961,10 +1042,10 @@ fn zeros_at(positions: &[usize]) -> [u8; LIST] {
     list
 }
 
-/// For each position the list of 1s with 255 there, and the list of 255s with 1 there.
-fn alike_but_one() -> Vec<[u8; LIST]> {
+/// For each of these positions the list of 1s with 255 there, and the list of 255s with 1 there.
+fn alike_but_one(positions: Range<usize>) -> Vec<[u8; LIST]> {
     let mut lists = Vec::new();
-    for position in 0..LIST {
+    for position in positions {
         for (alike, other) in [(1, 255), (255, 1)] {
             let mut list = [alike; LIST];
             list[position] = other;
@@ -976,14 +1057,14 @@ fn alike_but_one() -> Vec<[u8; LIST]> {
 
 /// Lists that 27 refuses, with and without a price of 0, and such that 28 refuses.
 fn refused_lists() -> Vec<Vec<u8>> {
-    let lengths = (1..=10).chain([12, 13, 14, 22, 255, 256, 267]);
+    let lengths = (1..=12).chain([14, 15, 26, 255, 256, 269]);
     let mut lists: Vec<Vec<u8>> = lengths.map(|len| vec![7; len]).collect();
-    lists.extend([vec![0], vec![0; 22]]);
-    lists.push([&[0], &RISING[1..10]].concat());
+    lists.extend([vec![0], vec![0; 26]]);
+    lists.push([&[0], &RISING[1..12]].concat());
     lists.push([&RISING[..], &[0]].concat());
     lists.push([&[0], &RISING[..]].concat());
     let positions = (0..LIST).map(|position| vec![position]);
-    let several = [vec![3, 8], vec![0, 10], vec![9, 10], (0..LIST).collect()];
+    let several = [vec![3, 8], vec![0, 10], vec![9, 10], vec![11, 12], (0..LIST).collect()];
     lists.extend(positions.chain(several).map(|zeros| zeros_at(&zeros).to_vec()));
     lists
 }
@@ -1022,7 +1103,7 @@ fn gates_feeding(fed: &[bool; 3]) -> Vec<Record> {
 fn gate_and_buffer(gate: u8, buffer: u8) -> Call {
     let mut list = [99; LIST];
     (list[0], list[7]) = (gate, buffer);
-    priced(map_on(&shapes::priced(1, 1), 2, 60), &list)
+    priced(map_on(&shapes::priced(1, 1), 2, 6 * WIDTH), &list)
 }
 
 /// The worked case (specification 8.2) with lists; lists that are refused, alone and with another
@@ -1031,15 +1112,16 @@ fn gate_and_buffer(gate: u8, buffer: u8) -> Call {
 fn priced_mapper() -> Vec<Case> {
     let worked = shapes::worked();
     let mut calls = vec![
-        priced(map_on(&worked, 2, 80), &RISING),
-        priced(map_on(&worked, 2, 80), &RISING[..10]),
-        priced(map_on(&worked, 2, 80), &zeros_at(&[8])),
+        priced(map_on(&worked, 2, 112), &RISING),
+        priced(map_on(&worked, 2, 112), &RISING[..11]),
+        priced(map_on(&worked, 2, 112), &zeros_at(&[8])),
     ];
-    calls.extend([[255; LIST], [1; LIST], MIXED].map(|list| priced(map_on(&worked, 2, 81), &list)));
+    let lists = [[255; LIST], [1; LIST], MIXED];
+    calls.extend(lists.map(|list| priced(map_on(&worked, 2, 113), &list)));
     calls.extend(refused_lists().iter().map(|list| priced(map_on(&worked, 2, 10), list)));
     for call in refused_calls() {
         calls.push(priced(call.clone(), &RISING));
-        calls.push(priced(call.clone(), &RISING[..10]));
+        calls.push(priced(call.clone(), &RISING[..12]));
         calls.push(priced(call, &zeros_at(&[4])));
     }
     let fitting = |source: &[Record], s: usize, b: u32, list: &[u8]| {
@@ -1065,7 +1147,7 @@ fn priced_mapper() -> Vec<Case> {
     }
     // With s = 2 input 0 feeds a gate and two buffers.
     for (s, b) in [(4, 2), (3, 2), (2, 3)] {
-        for list in alike_but_one() {
+        for list in alike_but_one(0..11) {
             calls.push(fitting(&shapes::each_price(), s, b, &list));
         }
     }
@@ -1314,20 +1396,20 @@ fn branching_strip() -> Vec<Case> {
     let mut calls = stripped(&branching_netlists());
     let worked = encode(&shapes::worked_mapped());
     for b in LIMITS {
-        calls.push(on(&worked, 2, b, 50));
-        calls.push(on(&worked, 2, b, 49));
-        calls.push(on(&worked[1..], 2, b, 50));
+        calls.push(on(&worked, 2, b, 70));
+        calls.push(on(&worked, 2, b, 69));
+        calls.push(on(&worked[1..], 2, b, 70));
         calls.push(on(&[], 2, b, 0));
     }
     for (s, b) in [(5, 0), (5, 1), (0, 4096), (1, 65_537)] {
-        calls.push(on(&worked, s, b, 50));
+        calls.push(on(&worked, s, b, 70));
         calls.push(on(&worked[1..], s, b, 0));
     }
     let extras = [Record::buffer(1, 0), Record::buffer(3, 2), Record::buffer(2, 5)];
     for extra in extras {
         let mapped = [shapes::worked_mapped(), vec![extra]].concat();
         for b in [1, 2, 3] {
-            calls.push(on(&encode(&mapped), 2, b, 50));
+            calls.push(on(&encode(&mapped), 2, b, 70));
         }
     }
     for (sinks, b) in CROWDS {
@@ -1363,10 +1445,364 @@ fn branching_block_view() -> Vec<Case> {
     let mut cases = blocks(&mut random, &branching_netlists());
     let source = encode(&shapes::worked());
     for b in LIMITS {
-        cases.push(view_case(source.clone(), Capacities::new(2, b), random.bytes(80), 0));
+        cases.push(view_case(source.clone(), Capacities::new(2, b), random.bytes(112), 0));
     }
-    cases.push(view_case(source[1..].to_vec(), Capacities::new(2, 0), random.bytes(80), 0));
-    cases.push(view_case(source, Capacities::new(5, 0), random.bytes(80), 0));
+    cases.push(view_case(source[1..].to_vec(), Capacities::new(2, 0), random.bytes(112), 0));
+    cases.push(view_case(source, Capacities::new(5, 0), random.bytes(112), 0));
+    cases
+}
+
+/// A subject of at most 9 records with a MAJ5, damaged or not; nothing if there is none by chance.
+fn fives_subject(random: &mut Random) -> Option<Subject> {
+    let input = random.pick(&[1, 1, 1, 2, 3, 4095]);
+    let subject = sound_with(random, 9, input, Gates::UpToFive);
+    if Gates::of(&subject.records) == Gates::UpToThree {
+        return None;
+    }
+    let subject = other_input(random, subject);
+    Some(damaged(random, subject))
+}
+
+/// A call on a netlist with a MAJ5. Where a record is refused, it is a MAJ5, or it is for its kind, for
+/// an inversion bit, or for a slot that only MAJ5 uses.
+fn fives_call(random: &mut Random, name: Name) -> Option<Call> {
+    let subject = fives_subject(random)?;
+    let mut call = any_call(random, &subject, name);
+    if name == Name::Map {
+        call.prices = price_list(random);
+    }
+    let outcome = perform(&PLAIN, &call);
+    let at_record = matches!(outcome.answer[0], 4..=8 | 12..=17);
+    let shows = !at_record || !reach::fives(&call, &outcome).is_empty();
+    shows.then_some(call)
+}
+
+fn fives_case(random: &mut Random, name: Name) -> Option<Case> {
+    fives_call(random, name).map(|call| call_case(&call))
+}
+
+/// The source of such a call whose capacities pass.
+fn fives_reader_case(random: &mut Random) -> Option<Case> {
+    let call = fives_call(random, Name::Count)?;
+    call.capacities.check().ok().map(|()| reader_case(&call.source))
+}
+
+/// A MAJ5 of which one slot has this fanin: 2, which does not stand lower, or 3, an output.
+fn five_naming(slot: usize, fanin: u16) -> Vec<Record> {
+    let mut records = shapes::inputs(2);
+    records.push(Record::new(AND, 0, 1, &[0, 1]));
+    records.push(Record::new(OUTPUT, 0, 2, &[2]));
+    let mut fanins = [0, 1, 0, 1, 0];
+    fanins[slot] = fanin;
+    records.push(Record::new(MAJ5, 0, 1, &fanins));
+    records
+}
+
+/// Sources with a MAJ5: each kind about the limits, each inversion bit of each kind, each slot of each
+/// kind as it may not be, each fanin of a MAJ5 not lower; equal fanins; each pair of checks 4 to 7.
+fn fives_reader() -> Vec<Case> {
+    let five = |level: u16, fanins: &[u16]| Record::new(MAJ5, 0, level, fanins);
+    let behind = |record: Record| [&shapes::inputs(2)[..], &[record]].concat();
+    let mut sources = vec![
+        shapes::one_five(),
+        shapes::direct_five(),
+        shapes::some_fives(),
+        behind(five(1, &[0; SLOTS])),
+        behind(five(4095, &[0, 1, 0, 1, 1])),
+        behind(five(4096, &[0, 1, 0, 1, 1])),
+        behind(five(0, &[0, 1, 0, 1, 1])),
+        vec![five(1, &[])],
+    ];
+    for kind in [BUFFER, MAJ5, 7, 22, 255] {
+        sources.push(behind(Record { kind, ..five(1, &[0, 1, 0, 1, 0]) }));
+        sources.push(behind(Record::new(kind, 0, 1, &[0, 1, 1])));
+    }
+    for kind in [INPUT, AND, MAJ, OUTPUT, MAJ5] {
+        let level = u16::from(kind > INPUT);
+        let sound = Record::new(kind, 0, level, &[0, 1, 0, 1, 1][..used_slots(kind)]);
+        for bit in 2..8 {
+            sources.push(behind(Record { inversion: 1 << bit, ..sound }));
+        }
+        for slot in 0..SLOTS {
+            for to in [0, 2, 65_534, UNUSED] {
+                let mut changed = sound;
+                changed.slots[slot] = to;
+                sources.push(behind(changed));
+            }
+        }
+    }
+    for inversion in [0, 0b11111, 0b10101, 0b111111] {
+        sources.push(behind(Record { inversion, ..five(3, &[1, 1, 0, 0, 1]) }));
+    }
+    for slot in 0..SLOTS {
+        sources.extend([2, 3].map(|fanin| five_naming(slot, fanin)));
+    }
+    let faults: [fn(&mut Record); 4] =
+        [|r| r.kind = 7, |r| r.inversion = 32, |r| r.slots[4] = 9, |r| r.level = 4096];
+    for first in faults {
+        for second in faults {
+            let mut both = five(1, &[0; SLOTS]);
+            second(&mut both);
+            first(&mut both);
+            sources.push(behind(both));
+        }
+    }
+    sources.iter().map(|records| reader_case(&encode(records))).collect()
+}
+
+/// MAJ5 as drivers and as sinks, five on one input, with b at and about what they need; a fanin that
+/// does not stand lower in each slot.
+fn fives_count() -> Vec<Case> {
+    let on = |source: &[Record], s: u32, b: u32, record: u32| Call {
+        number: record,
+        ..bare(Name::Count, source, Capacities::new(s, b))
+    };
+    let mut calls = Vec::new();
+    for (s, sinks) in [(2, 1), (2, 2), (2, 3), (3, 3), (4, 4), (4, 5)] {
+        for distance in 1..=3 {
+            calls.push(on(&shapes::on_a(MAJ5, sinks, distance), s, 4095, 2));
+        }
+    }
+    for (s, b, level) in
+        [(2, 1, 4), (2, 1, 3), (2, 3, 2), (2, 2, 2), (3, 1, 3), (4, 2, 2), (4, 1, 2)]
+    {
+        calls.push(on(&shapes::sinks_of_at(MAJ5, 5, level), s, b, 0));
+    }
+    for b in [4, 5] {
+        calls.push(on(&shapes::sinks_of_at(MAJ5, 5, 1), 3, b, 0));
+    }
+    calls.push(on(&shapes::wide_gates(MAJ5, 14, 2), 2, 1, 0));
+    for record in 5..=7 {
+        calls.push(on(&shapes::one_five(), 2, 1, record));
+    }
+    for slot in 0..SLOTS {
+        calls.push(on(&five_naming(slot, 2), 2, 1, 0));
+    }
+    calls.iter().map(call_case).collect()
+}
+
+/// Lists of the drivers of netlists with MAJ5.
+fn fives_count_nets() -> Vec<Case> {
+    let on = |source: &[Record], s: u32, b: u32, list: &[u16]| {
+        let records: Vec<u8> = list.iter().flat_map(|index| index.to_le_bytes()).collect();
+        let areas = vec![vec![FILL; 2 * records.len()]];
+        Call { records, areas, ..bare(Name::CountNets, source, Capacities::new(s, b)) }
+    };
+    let mut calls = Vec::new();
+    for s in 2..=4 {
+        calls.push(on(&shapes::on_a(MAJ5, 4, 2), s, 2, &[2, 0, 1, 2]));
+        calls.push(on(&shapes::one_five(), s, 1, &[5, 4, 0, 5]));
+        calls.push(on(&shapes::some_fives(), s, 1, &[8, 7, 9, 0]));
+        calls.push(on(&shapes::wide_gates(MAJ5, 9, s as usize), s, 1, &[0, 8, 0]));
+    }
+    calls.push(on(&shapes::one_five(), 2, 1, &[5, 6]));
+    calls.iter().map(call_case).collect()
+}
+
+/// Areas that fit and one byte short; many slots on one input; gates of five that branch or lack a
+/// tree; price lists, also alike but at one position.
+fn fives_mapper() -> Vec<Case> {
+    let fitting = |source: &[Record], s: u32, b: u32| map_fitting(source, Capacities::new(s, b));
+    let mut calls: Vec<Call> =
+        [181, 182, 183].map(|len| map_on(&shapes::one_five(), 2, len)).into();
+    calls.push(fitting(&shapes::direct_five(), 3, 1));
+    for s in 2..=4 {
+        calls.push(fitting(&shapes::some_fives(), s, 1));
+        calls.push(fitting(&shapes::wide_gates(MAJ5, 5, s as usize), s, 1));
+        calls.push(fitting(&shapes::sinks_of_at(MAJ5, 12, 3), s, 2));
+        calls.push(fitting(&shapes::on_a(MAJ5, 2, 1), s, 4095));
+        calls.push(fitting(&shapes::on_a(MAJ5, 2, 2), s, 5));
+    }
+    calls.push(fitting(&shapes::fans_of(MAJ5, 9, 6), 2, 6));
+    calls.push(fitting(&shapes::fans_of(MAJ5, 9, 6), 2, 1));
+    for b in [4, 5] {
+        calls.push(fitting(&shapes::sinks_of_at(MAJ5, 5, 1), 2, b));
+    }
+    for (source, s, b) in [(shapes::one_five(), 2, 1), (shapes::sinks_of_at(MAJ5, 12, 3), 4, 1)] {
+        for list in [RISING, MIXED, [255; LIST]] {
+            calls.push(priced(fitting(&source, s, b), &list));
+        }
+        for len in [11, 12] {
+            calls.push(priced(fitting(&source, s, b), &RISING[..len]));
+        }
+        for position in [11, 12] {
+            calls.push(priced(fitting(&source, s, b), &zeros_at(&[position])));
+        }
+    }
+    // A MAJ5 that feeds a slot, one that feeds none, an OR and buffers.
+    for list in alike_but_one(0..LIST) {
+        calls.push(priced(fitting(&shapes::some_fives(), 2, 1), &list));
+    }
+    calls.iter().map(call_case).collect()
+}
+
+/// The mapped `direct_five` with one of the bytes of its MAJ5, its output or its buffer changed.
+fn changed_fives() -> Vec<Vec<u8>> {
+    let legal = encode(&mapped(&shapes::direct_five(), 2));
+    let bytes = 5 * WIDTH..legal.len();
+    let mut all = Vec::new();
+    for at in bytes {
+        let mut changed = legal.clone();
+        changed[at] = changed[at].wrapping_add(1);
+        all.push(changed);
+    }
+    all
+}
+
+/// Mapped netlists of a MAJ5 in which one slot names the buffer of another, which feeds two then.
+fn rewired_fives() -> Vec<Vec<u8>> {
+    let rewired = |slot: usize| {
+        let mut records = shapes::one_five_mapped();
+        records[5].slots[slot] = records[5].slots[(slot + 1) % SLOTS];
+        encode(&records)
+    };
+    (0..SLOTS).map(rewired).collect()
+}
+
+/// Netlists with MAJ5, as they are, with a byte changed, with a slot rewired, and with a MAJ5 that feeds
+/// two slots.
+fn fives_verifier() -> Vec<Case> {
+    let on = |source: &[Record], b: u32, mapped: Vec<u8>| Call {
+        mapped,
+        ..bare(Name::Verify, source, Capacities::new(2, b))
+    };
+    let mut calls = Vec::new();
+    for source in [shapes::one_five(), shapes::direct_five(), shapes::some_fives()] {
+        let own = mapped(&source, 2);
+        calls.push(on(&source, 1, encode(&own)));
+        let five = source.iter().position(|record| record.kind == MAJ5).unwrap_or(0);
+        let second = Record::buffer(source[five].level + 1, five as u16);
+        for b in [1, 4095] {
+            calls.push(on(&source, b, encode(&[&own[..], &[second]].concat())));
+        }
+    }
+    calls.extend(changed_fives().into_iter().map(|mapped| on(&shapes::direct_five(), 1, mapped)));
+    calls.extend(rewired_fives().into_iter().map(|mapped| on(&shapes::one_five(), 1, mapped)));
+    calls.iter().map(call_case).collect()
+}
+
+/// Every inversion of a MAJ5 under every row of five inputs; equal fanins.
+fn fives_evaluate() -> Vec<Case> {
+    let on = |source: &[Record], row: &[u8]| {
+        call_case(&Call {
+            rows: row.to_vec(),
+            areas: vec![vec![FILL; source.len()]],
+            ..bare(Name::Evaluate, source, Capacities::unbranched(0))
+        })
+    };
+    let mut gates = shapes::inputs(SLOTS);
+    for inversion in 0..=inversion_bits(MAJ5) {
+        gates.push(Record::new(MAJ5, inversion, 1, &[2, 0, 4, 1, 3]));
+    }
+    let row_of = |row: u8| [0, 1, 2, 3, 4].map(|k| row >> k & 1);
+    let mut cases: Vec<Case> = (0..32).map(|row| on(&gates, &row_of(row))).collect();
+    let mut equal = shapes::inputs(2);
+    for fanins in [[0, 0, 0, 1, 1], [1, 0, 1, 0, 1], [0; 5], [1, 1, 1, 1, 0], [0, 1, 1, 0, 0]] {
+        equal.push(Record::new(MAJ5, 0, 1, &fanins));
+        equal.push(Record::new(MAJ5, 0b11000, 2, &fanins));
+    }
+    for row in [[0, 0], [0, 1], [1, 0], [1, 1]] {
+        cases.push(on(&equal, &row));
+    }
+    cases.push(on(&shapes::direct_five(), &[1, 0, 1, 2, 0]));
+    cases.push(on(&shapes::direct_five(), &[1, 0, 1, 0]));
+    cases
+}
+
+/// All rows of five inputs one after the other, with several inversions; a slot rewired.
+fn fives_run() -> Vec<Case> {
+    let rows: Vec<Vec<u8>> =
+        (0..32).map(|row: u8| [0, 1, 2, 3, 4].map(|k| row >> k & 1).to_vec()).collect();
+    let mut calls = Vec::new();
+    for inversion in [0, 0b00010, 0b10100, 0b01101, 0b11110, 0b11111] {
+        let mut source = shapes::direct_five();
+        source[5].inversion = inversion;
+        calls.push(run_on(&source, 2, &rows));
+    }
+    calls.push(run_on(&shapes::one_five(), 2, &rows));
+    calls.push(run_on(&shapes::some_fives(), 3, &[vec![1, 0, 1, 1, 0, 0, 1], vec![0; 7]]));
+    calls.extend(rewired_fives().into_iter().map(|mapped| {
+        let call = run_on(&shapes::one_five(), 2, &rows[11..12]);
+        Call { mapped, ..call }
+    }));
+    calls.iter().map(call_case).collect()
+}
+
+/// One step from every state of five inputs.
+fn fives_step() -> Vec<Case> {
+    let source = shapes::direct_five();
+    let legal = encode(&mapped(&source, 2));
+    let mut calls = Vec::new();
+    for before in 0..32_u8 {
+        let inputs = [0, 1, 2, 3, 4].map(|k| 3 * (before >> k & 1));
+        let state = [&inputs[..], &[FILL; 11]].concat();
+        calls.push(Call {
+            mapped: legal.clone(),
+            rows: [0, 1, 2, 3, 4].map(|k| (before + 5) >> k & 1).to_vec(),
+            areas: vec![state],
+            ..bare(Name::Step, &source, Capacities::unbranched(2))
+        });
+    }
+    calls.iter().map(call_case).collect()
+}
+
+/// Nets of s to the power h sinks, and of one more, all of MAJ5 and outputs; chains; a high fanin, and
+/// one that is an output, in each slot; a chain above the highest level, with a short area.
+fn fives_levels() -> Vec<Case> {
+    let on = |source: &[Record], s: u32, len: usize| Call {
+        areas: vec![vec![FILL; len]],
+        ..bare(Name::Levels, source, Capacities::unbranched(s))
+    };
+    let fitting = |source: &[Record], s: u32| on(source, s, WIDTH * source.len());
+    let mut calls = Vec::new();
+    for s in 2..=4 {
+        for power in [4, 8, 9, 16, 27] {
+            calls.push(fitting(&shapes::sinks_of(MAJ5, power), s));
+            calls.push(fitting(&shapes::sinks_of(MAJ5, power + 1), s));
+        }
+        for source in [shapes::one_five(), shapes::direct_five(), shapes::some_fives()] {
+            calls.push(fitting(&source, s));
+        }
+        calls.push(fitting(&shapes::climb_of(MAJ5, 5, true, true), s));
+    }
+    for slot in 0..SLOTS {
+        let mut records = [shapes::inputs(6), vec![Record::new(OR, 0, 0, &[5, 5])]].concat();
+        let mut fanins = [0, 1, 2, 3, 4];
+        fanins[slot] = 6;
+        records.push(Record::new(MAJ5, 0, 0, &fanins));
+        calls.push(fitting(&records, 2));
+        calls.extend([2, 3].map(|fanin| on(&five_naming(slot, fanin), 2, 5 * WIDTH)));
+    }
+    calls.push(on(&shapes::climb_of(MAJ5, 1024, false, false), 2, 0));
+    calls.iter().map(call_case).collect()
+}
+
+/// The same netlists as the verifier's.
+fn fives_strip() -> Vec<Case> {
+    let mut calls = Vec::new();
+    for source in [shapes::one_five(), shapes::direct_five(), shapes::some_fives()] {
+        let (own, len) = (encode(&mapped(&source, 2)), WIDTH * source.len());
+        for (b, len) in [(1, len), (2, len - 1), (4095, len + 1)] {
+            calls.push(strip_on(&own, 2, b, len));
+        }
+    }
+    let len = WIDTH * shapes::direct_five().len();
+    calls.extend(changed_fives().iter().map(|mapped| strip_on(mapped, 2, 1, len)));
+    calls.extend(rewired_fives().iter().map(|mapped| strip_on(mapped, 2, 1, len)));
+    calls.iter().map(call_case).collect()
+}
+
+/// Blocks of the drivers of netlists with MAJ5.
+fn fives_block_view() -> Vec<Case> {
+    let mut random = Random::new(SEED);
+    let mut cases = Vec::new();
+    for source in [shapes::one_five(), shapes::some_fives()] {
+        let area = random.bytes(WIDTH * mapped(&source, 2).len());
+        for driver in (0..source.len()).filter(|&k| source[k].is_driver()).skip(3) {
+            let capacities = Capacities::unbranched(2);
+            cases.push(view_case(encode(&source), capacities, area.clone(), driver));
+        }
+    }
     cases
 }
 

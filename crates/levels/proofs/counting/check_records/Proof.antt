@@ -14,11 +14,11 @@ decreases-loop source n sinks₀ k₀ sinks k = n - k
 loop-holds : tie.Need-loop-init invariant-loop decreases-loop
 loop-holds c = search counted_start
 
-cast-read-at : tie.Need-overflow-cast-read-at invariant-loop decreases-loop
-cast-read-at c = search rules
+cast-kind-within : tie.Need-overflow-cast-kind-within invariant-loop decreases-loop
+cast-kind-within c = search rules
 
-read-at-requires : tie.Need-read-at-requires invariant-loop decreases-loop
-read-at-requires c κs = search rules
+kind-within-requires : tie.Need-kind-within-requires invariant-loop decreases-loop
+kind-within-requires c κs = search rules
 
 check-record-requires : tie.Need-check-record-requires invariant-loop decreases-loop
 check-record-requires c κs = search (rules, counted_next)
@@ -57,8 +57,8 @@ check-records-spec =
     invariant-loop
     decreases-loop
     loop-holds
-    cast-read-at
-    read-at-requires
+    cast-kind-within
+    kind-within-requires
     check-record-requires
     enum_told
     enum-known-checked

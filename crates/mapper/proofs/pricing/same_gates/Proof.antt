@@ -1,4 +1,4 @@
--- `same_gates` meets its contract: the three kinds of gates.
+-- `same_gates` meets its contract: the kinds of gates, one after the other.
 use Rattle.mapper.specs.PrivatePricing.{same_gates}
 use borrow.Author.Rules.{rules}
 use Rattle.mapper.proofs.pricing.same_gates.Statement.{statement}
@@ -13,10 +13,14 @@ both-are-requires-2 c κs = search rules
 both-are-requires-3 : tie.Need-both-are-requires-3
 both-are-requires-3 c κs = search rules
 
+both-are-requires-4 : tie.Need-both-are-requires-4
+both-are-requires-4 c κs = search rules
+
 returns : tie.Need-returns
 unfolding same_gates
 returns c = cc
 
 pub same-gates-spec : {M : Type 1} → statement M
 same-gates-spec =
-    tie.close (tie.spec both-are-requires both-are-requires-2 both-are-requires-3 returns)
+    tie.close
+    (tie.spec both-are-requires both-are-requires-2 both-are-requires-3 both-are-requires-4 returns)

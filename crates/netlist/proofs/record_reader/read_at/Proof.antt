@@ -1,4 +1,4 @@
--- `read_at` meets its contract: the ten bytes of the record are handed to the reader.
+-- `read_at` meets its contract: the bytes of the record are handed to the reader.
 use borrow.Author.Rules.{rules}
 use Rattle.netlist.proofs.Records.{part_length, read_inside}
 use Rattle.netlist.proofs.record_reader.read_at.Statement.{statement}

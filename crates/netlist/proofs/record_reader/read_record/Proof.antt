@@ -12,14 +12,8 @@ shared-slice-read-t5 c = search rules
 two-bytes-requires : tie.Need-two-bytes-requires
 two-bytes-requires c κs = search rules
 
-two-bytes-requires-2 : tie.Need-two-bytes-requires-2
-two-bytes-requires-2 c κs = search rules
-
-two-bytes-requires-3 : tie.Need-two-bytes-requires-3
-two-bytes-requires-3 c κs = search rules
-
-two-bytes-requires-4 : tie.Need-two-bytes-requires-4
-two-bytes-requires-4 c κs = search rules
+read-slots-requires : tie.Need-read-slots-requires
+read-slots-requires c κs = search rules
 
 returns : tie.Need-returns
 returns c = cc
@@ -31,7 +25,5 @@ read-record-spec =
     shared-slice-read-t3
     shared-slice-read-t5
     two-bytes-requires
-    two-bytes-requires-2
-    two-bytes-requires-3
-    two-bytes-requires-4
+    read-slots-requires
     returns)

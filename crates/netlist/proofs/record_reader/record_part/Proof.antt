@@ -1,4 +1,4 @@
--- `record_part` meets its contract: the part starts at 10 × k and is ten bytes long.
+-- `record_part` meets its contract: the part starts at the width times k and is one record long.
 use borrow.Author.Rules.{rules}
 use Rattle.netlist.proofs.Records.{part_record}
 use Rattle.netlist.proofs.record_reader.record_part.Statement.{statement}

@@ -4,7 +4,7 @@ use borrow.Author.Rules.{rules}
 use Rattle.facts.proofs.Loops.{Scanning, scan_start, scan_more, scan_stop, scan_end}
 use Rattle.netlist.specs.Records.{netlist}
 use Rattle.netlist.specs.Checks.{record_checks}
-use Rattle.netlist.proofs.Checks.{Met, met_start, met_more, met_serves, record_checked}
+use Rattle.netlist.proofs.Checks.{Met, met_start, met_more, met_serves, kind_read}
 use Rattle.netlist.proofs.source_reader.check_records.Statement.{statement}
 use Rattle.netlist.proofs.source_reader.check_records.Tie as tie
 
@@ -27,7 +27,7 @@ with-record-requires : tie.Need-with-record-requires invariant-loop decreases-lo
 with-record-requires c κs = search rules
 
 check-record-requires : tie.Need-check-record-requires invariant-loop decreases-loop
-check-record-requires c κs = search (rules, met_serves)
+check-record-requires c κs = (search rules, (search kind_read, search met_serves))
 
 enum_told : tie.Need-enum-told invariant-loop decreases-loop
 enum_told c = search rules
@@ -36,7 +36,7 @@ enum-known-checked : tie.Need-enum-known-checked invariant-loop decreases-loop
 enum-known-checked c = search rules
 
 returns : tie.Need-returns invariant-loop decreases-loop
-returns c = search (scan_stop, record_checked)
+returns c = search scan_stop
 
 add-k : tie.Need-overflow-add-k invariant-loop decreases-loop
 add-k c = search rules
@@ -45,7 +45,7 @@ loop-less : tie.Need-loop-smaller invariant-loop decreases-loop
 loop-less c = search rules
 
 loop-again : tie.Need-loop-preserved invariant-loop decreases-loop
-loop-again c = (search met_more, search (scan_more, record_checked))
+loop-again c = (search met_more, search scan_more)
 
 returns-2 : tie.Need-returns-2 invariant-loop decreases-loop
 returns-2 c = search scan_end

@@ -1,7 +1,7 @@
--- `link_later_slots` meets its contract: slot 2, then slot 1, or neither.
-use Rattle.nets.proofs.Chains.{slots_above, later_unused, later_used}
-use borrow.Author.Tests.{not-false}
+-- `link_later_slots` meets its contract: the last slots, then slot 1, or none.
 use borrow.Author.Rules.{rules}
+use borrow.Author.Tests.{not-false}
+use Rattle.nets.proofs.Chains.{later_unused, later_used}
 use Rattle.nets.proofs.sinks.link_later_slots.Statement.{statement}
 use Rattle.nets.proofs.sinks.link_later_slots.Tie as tie
 
@@ -11,8 +11,8 @@ is-gate-requires c κs = search rules
 returns : tie.Need-returns
 returns c = search later_unused
 
-link-slot-requires : tie.Need-link-slot-requires
-link-slot-requires c κs = search (rules, slots_above)
+link-last-slots-requires : tie.Need-link-last-slots-requires
+link-last-slots-requires c κs = search rules
 
 link-sink-requires : tie.Need-link-sink-requires
 link-sink-requires c κs = (search rules, (search rules, (search (later_used, not-false), (search rules, search rules))))
@@ -32,7 +32,7 @@ link-later-slots-spec =
     (tie.spec
     is-gate-requires
     returns
-    link-slot-requires
+    link-last-slots-requires
     link-sink-requires
     same_length
     same-length-2

@@ -1,6 +1,5 @@
 -- `used_strays` meets its contract: the used slots are as many as the path taken traces.
 use borrow.Author.Rules.{rules}
-use Rattle.netlist.proofs.Checks.{all_used}
 use Rattle.verifier.proofs.Walking.{traceable_some, traced_none, traced_some}
 use Rattle.verifier.proofs.traces.used_strays.Statement.{statement}
 use Rattle.verifier.proofs.traces.used_strays.Tie as tie
@@ -15,7 +14,10 @@ any-strays-requires-2 : tie.Need-any-strays-requires-2
 any-strays-requires-2 c κs = search traceable_some
 
 any-strays-requires-3 : tie.Need-any-strays-requires-3
-any-strays-requires-3 c κs = search (traceable_some, all_used)
+any-strays-requires-3 c κs = search traceable_some
+
+any-strays-requires-4 : tie.Need-any-strays-requires-4
+any-strays-requires-4 c κs = search (rules, traceable_some)
 
 returns : tie.Need-returns
 returns c = search traced_none
@@ -36,7 +38,13 @@ same-length-3 : tie.Need-same-length-3
 same-length-3 c = search rules
 
 returns-4 : tie.Need-returns-4
-returns-4 c = search (traced_some, all_used)
+returns-4 c = search traced_some
+
+same-length-4 : tie.Need-same-length-4
+same-length-4 c = search rules
+
+returns-5 : tie.Need-returns-5
+returns-5 c = search (rules, traced_some)
 
 pub used-strays-spec : {M : Type 1} → statement M
 used-strays-spec =
@@ -46,10 +54,13 @@ used-strays-spec =
     any-strays-requires
     any-strays-requires-2
     any-strays-requires-3
+    any-strays-requires-4
     returns
     same_length
     returns-2
     same-length-2
     returns-3
     same-length-3
-    returns-4)
+    returns-4
+    same-length-4
+    returns-5)
