@@ -56,15 +56,15 @@ def snake(name):
     return re.sub(r"(?<=[^\s-])-(?=[^\s-])", "_", name)
 
 
-def is_generated(path):
-    """A proof that walks the code by hand has its own names for Rattle's goals; it is turned as a whole later."""
+def is_walk(path):
+    """A proof that walks the code by hand: the names in it are those of Rattle's goals."""
     return os.path.basename(path) == "Proof.antt"
 
 
 def own_names():
     found = set()
     for path in files(".antt"):
-        if is_generated(path):
+        if is_walk(path):
             continue
         for line in read(path).split("\n"):
             if line.lstrip().startswith("--") or line.startswith(("use ", "mod ", "pub mod")):
@@ -107,19 +107,23 @@ def by_token(text, to):
     return TOKEN.sub(lambda m: to.get(m.group(0), m.group(0)), text)
 
 
+def in_camel(to):
+    return {old: new for old, new in to.items() if re.search("[a-z0-9][A-Z]", old)}
+
+
 def in_antt(text, to):
     """Code by tokens; of a comment only names in camel case, since a dash also joins words."""
+    camel = in_camel(to)
     out = []
     for line in text.split("\n"):
         code, mark, comment = line.partition("--") if re.search(r"(^|\s)--(\s|$)", line) else (line, "", "")
-        camel = {old: new for old, new in to.items() if re.search("[a-z0-9][A-Z]", old)}
         out.append(by_token(code, to) + mark + by_token(comment, camel))
     return "\n".join(out)
 
 
 def in_rt(text, to):
     """Clauses name definitions and no lemmas."""
-    camel = {old: new for old, new in to.items() if re.search("[a-z0-9][A-Z]", old)}
+    camel = in_camel(to)
     out = []
     for line in text.split("\n"):
         out.append(line if '"' in line and "extern" not in line else by_token(line, camel))
