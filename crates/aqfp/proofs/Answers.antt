@@ -5,8 +5,9 @@ use mathlib.Core.Path.{◌≡◌, refl, sym, ap, ◌∙◌}
 use mathlib.Core.List.{List, [], ◌∷◌, ◌++◌, append_assoc, append-nil}
 use lib.ListN.{length, get_or, take}
 use lib.Seq.{take_all, take-suc}
-use Rattle.facts.specs.declared.Checked.{Checked}
-use Rattle.facts.specs.declared.Checked.TheVariants.{Passed, Refused}
+use Rattle.std.specs.Prelude.{Result, Ok, Err}
+use Rattle.facts.specs.declared.refusal.Refusal.{Refusal}
+use Rattle.facts.specs.Answers.{Checked, told}
 use Rattle.facts.specs.Checks.{checked_numbers}
 use Rattle.facts.specs.Bytes.{four}
 use Rattle.facts.specs.Lists.{joined}
@@ -14,15 +15,13 @@ use Rattle.facts.proofs.Stored.{fours}
 use Rattle.fanout.specs.declared.Count.{Count}
 use Rattle.fanout.specs.declared.Count.TheVariants as count
 use Rattle.fanout.specs.Answer.{no_tree, count_numbers}
-use Rattle.mapper.specs.declared.Mapping.{Mapping}
-use Rattle.mapper.specs.Answer.{mapping_numbers}
-use Rattle.verifier.specs.declared.Verified.{Verified}
-use Rattle.verifier.specs.declared.Verified.TheVariants as verified
+use Rattle.verifier.specs.Checks.{Verified}
+use Rattle.verifier.specs.Checks as verified
 use Rattle.verifier.specs.Checks.{verified_numbers}
-use Rattle.strip.specs.declared.Stripped.{Stripped}
-use Rattle.strip.specs.declared.Stripped.TheVariants as stripped
+use Rattle.strip.specs.Answer.{Stripped}
+use Rattle.strip.specs.Answer as stripped
 use Rattle.strip.specs.Answer.{stripped_numbers}
-use Rattle.aqfp.specs.Answers.{numbers, first, Answered}
+use Rattle.aqfp.specs.Answers.{numbers, first, counted, refused, Answered}
 
 -- one number more
 numbers_more : (ns : List ℕ) (n : ℕ) → numbers (ns ++ (n ∷ [])) ≡ numbers ns ++ four n
@@ -53,23 +52,8 @@ storing_end ns area x h e =
 
 -- the cases of an answer
 module _ {r : ℕ} {l : List ℕ} where
-  pub checked_passed : {a : Checked} → a ≡ Passed → Answered r l (0 ∷ 0 ∷ []) → Answered r l (checked_numbers a)
-  unfolding checked_numbers
-  checked_passed f g = rw f g
-
-  pub checked_refused :
-      {a : Checked} {number place : ℕ} → a ≡ Refused number place → Answered r l (number ∷ place ∷ []) → Answered r l (checked_numbers a)
-  unfolding checked_numbers
-  checked_refused f g = rw f g
-
   pub checked_as : {a b : Checked} → a ≡ b → Answered r l (checked_numbers a) → Answered r l (checked_numbers b)
   checked_as e g = rw e at g
-
-  pub mapped_as :
-      {a b : Mapping} → a ≡ b → Answered r l (a.number ∷ a.place ∷ a.size ∷ a.buffers ∷ a.depth ∷ a.junctions ∷ a.share ∷ []) →
-      Answered r l (mapping_numbers b)
-  unfolding mapping_numbers
-  mapped_as e g = rw e at g
 
   pub counted_fewest :
       {v w : Count} {buffers : ℕ} → v ≡ w → v ≡ count.Fewest buffers → Answered r l (0 ∷ 0 ∷ buffers ∷ []) → Answered r l (count_numbers w)
@@ -85,22 +69,15 @@ module _ {r : ℕ} {l : List ℕ} where
   unfolding count_numbers
   counted_refused e f g = rw (← e, f) g
 
-  pub verified_accepted :
-      {v w : Verified} {buffers : ℕ} → v ≡ w → v ≡ verified.Buffers buffers → Answered r l (0 ∷ 0 ∷ buffers ∷ []) → Answered r l (verified_numbers w)
+  -- a number counted, or a refusal
+  pub verified_as : (a : Result ℕ Refusal) (v : Verified) → told a verified.Buffers verified.Refused ≡ v → Answered r l (told a counted refused) →
+      Answered r l (verified_numbers v)
   unfolding verified_numbers
-  verified_accepted e f g = rw (← e, f) g
+  verified_as (Ok n) v e g = rw (← e) g
+  verified_as (Err x) v e g = rw (← e) g
 
-  pub verified_refused :
-      {v w : Verified} {number place : ℕ} → v ≡ w → v ≡ verified.Refused number place → Answered r l (number ∷ place ∷ 0 ∷ []) → Answered r l (verified_numbers w)
-  unfolding verified_numbers
-  verified_refused e f g = rw (← e, f) g
-
-  pub stripped_accepted :
-      {v w : Stripped} {records : ℕ} → v ≡ w → v ≡ stripped.Records records → Answered r l (0 ∷ 0 ∷ records ∷ []) → Answered r l (stripped_numbers w)
+  pub stripped_as : (a : Result ℕ Refusal) (v : Stripped) → told a stripped.Records stripped.Refused ≡ v → Answered r l (told a counted refused) →
+      Answered r l (stripped_numbers v)
   unfolding stripped_numbers
-  stripped_accepted e f g = rw (← e, f) g
-
-  pub stripped_refused :
-      {v w : Stripped} {number place : ℕ} → v ≡ w → v ≡ stripped.Refused number place → Answered r l (number ∷ place ∷ 0 ∷ []) → Answered r l (stripped_numbers w)
-  unfolding stripped_numbers
-  stripped_refused e f g = rw (← e, f) g
+  stripped_as (Ok n) v e g = rw (← e) g
+  stripped_as (Err x) v e g = rw (← e) g

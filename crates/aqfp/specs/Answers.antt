@@ -12,6 +12,13 @@ abbrev pub first : List ℕ → ℕ
 first [] = 0
 first (n ∷ ns) = n
 
+-- the numbers of a call that counts one number: accepted, and refused
+abbrev pub counted : ℕ → List ℕ
+counted n = 0 ∷ 0 ∷ n ∷ []
+
+abbrev pub refused : ℕ → ℕ → List ℕ
+refused number place = number ∷ place ∷ 0 ∷ []
+
 -- a call's answer: the first number returned, and all of them in the answer's area
 pub record Answered (returned : ℕ) (area : List ℕ) (answer : List ℕ) : Type 0 where
   pub number : returned ≡ first answer

@@ -2,6 +2,7 @@
 #![tactic(auto)]
 
 ghost use Rattle.std.specs.Prelude.{◌≡◌, ◌*◌, ◌<◌, length};
+ghost use Rattle.facts.specs.Answers.{numbered, told};
 ghost use Rattle.facts.specs.Checks.{checked_numbers};
 ghost use Rattle.netlist.specs.Capacities.{capacities_of};
 ghost use Rattle.fanout.specs.Answer.{count_answer, count_numbers};
@@ -13,13 +14,18 @@ ghost use Rattle.strip.specs.Answer.{strip_answer, strip_area, stripped_numbers}
 ghost use Rattle.simulator.specs.Evaluate.{evaluate_answer, evaluate_area};
 ghost use Rattle.simulator.specs.Step.{step_answer, step_area};
 ghost use Rattle.simulator.specs.Run.{run_answer, run_area, run_outputs};
-ghost use Rattle.aqfp.specs.Answers.{Answered};
+ghost use Rattle.aqfp.specs.Answers.{counted, refused, Answered};
 
-use facts::Checked;
+use facts::Refusal;
 use fanout::{Count, NO_TREE};
 use netlist::Capacities;
-use strip::Stripped;
-use verifier::Verified;
+
+// The capacities of a host's two numbers.
+fn capacities_of(buffer: u32, input: u32) -> Capacities
+    ensures { result ≡ capacities_of buffer input }
+{
+    Capacities { buffer, input }
+}
 
 // Stores the numbers of an answer and returns the first.
 fn write_answer(answer: &mut [u8], numbers: &[u32]) -> u32
@@ -27,21 +33,29 @@ fn write_answer(answer: &mut [u8], numbers: &[u32]) -> u32
     requires numbers_nonzero { 0 < length numbers.now }
     ensures { Answered result answer.new numbers.now }
 {
-    let mut k: usize = 0;
-    while k < numbers.len() {
-        facts::write_four(answer, k, numbers[k]);
-        k += 1;
+    for (k, number) in numbers.iter().enumerate() {
+        facts::write_four(answer, k, *number);
     }
     numbers[0]
 }
 
 // Stores the number and the place of checks.
-fn answer_checked(answer: &mut [u8; 8], checked: Checked) -> u32
-    ensures { Answered result answer.new (checked_numbers checked) }
+fn answer_checked(answer: &mut [u8; 8], checked: Result<(), Refusal>) -> u32
+    ensures { Answered result answer.new (checked_numbers (numbered checked)) }
 {
     match checked {
-        Checked::Passed => write_answer(answer, &[0, 0]),
-        Checked::Refused(number, place) => write_answer(answer, &[number, place]),
+        Ok(()) => write_answer(answer, &[0, 0]),
+        Err(refusal) => write_answer(answer, &[refusal.check.number(), refusal.place]),
+    }
+}
+
+// Stores the number and the place of checks, and what an accepted call counts, 0 if it refuses.
+fn answer_number(answer: &mut [u8; 12], answered: Result<u32, Refusal>) -> u32
+    ensures { Answered result answer.new (told answered counted refused) }
+{
+    match answered {
+        Ok(n) => write_answer(answer, &[0, 0, n]),
+        Err(refusal) => write_answer(answer, &[refusal.check.number(), refusal.place, 0]),
     }
 }
 
@@ -57,23 +71,17 @@ pub fn aqfp_map(
     ensures answer { Answered result answer.new (mapping_numbers (map_answer source.now (capacities_of capacity input_capacity) prices.now mapped.old)) }
     ensures area { mapped.new ≡ map_area source.now (capacities_of capacity input_capacity) prices.now mapped.old }
 {
-    let capacities = Capacities {
-        buffer: capacity,
-        input: input_capacity,
-    };
-    let mapping = mapper::map_netlist(source, capacities, prices, mapped);
-    write_answer(
-        answer,
-        &[
-            mapping.number,
-            mapping.place,
-            mapping.size,
-            mapping.buffers,
-            mapping.depth,
-            mapping.junctions,
-            mapping.share,
-        ],
-    )
+    let capacities = capacities_of(capacity, input_capacity);
+    match mapper::map_netlist(source, capacities, prices, mapped) {
+        Ok(t) => write_answer(
+            answer,
+            &[0, 0, t.size, t.buffers, t.depth, t.junctions, t.share],
+        ),
+        Err(refusal) => write_answer(
+            answer,
+            &[refusal.check.number(), refusal.place, 0, 0, 0, 0, 0],
+        ),
+    }
 }
 
 // The count of one net: number, place, fewest buffers, or what stands for no tree.
@@ -86,12 +94,8 @@ pub fn aqfp_count(
 ) -> u32
     ensures { Answered result answer.new (count_numbers (count_answer source.now (capacities_of capacity input_capacity) «record»)) }
 {
-    let capacities = Capacities {
-        buffer: capacity,
-        input: input_capacity,
-    };
-    let count = fanout::count_net(source, capacities, record);
-    match count {
+    let capacities = capacities_of(capacity, input_capacity);
+    match fanout::count_net(source, capacities, record) {
         Count::Fewest(buffers) => write_answer(answer, &[0, 0, buffers]),
         Count::NoTree => write_answer(answer, &[0, 0, NO_TREE]),
         Count::Refused(number, place) => write_answer(answer, &[number, place, 0]),
@@ -110,10 +114,7 @@ pub fn aqfp_count_nets(
     ensures answer { Answered result answer.new (checked_numbers (counts_answer source.now (capacities_of capacity input_capacity) records.now counts.old)) }
     ensures area { counts.new ≡ counts_area source.now (capacities_of capacity input_capacity) records.now counts.old }
 {
-    let capacities = Capacities {
-        buffer: capacity,
-        input: input_capacity,
-    };
+    let capacities = capacities_of(capacity, input_capacity);
     answer_checked(
         answer,
         nets::count_nets(source, capacities, records, counts),
@@ -130,15 +131,8 @@ pub fn aqfp_verify(
 ) -> u32
     ensures { Answered result answer.new (verified_numbers (verify_answer source.now (capacities_of capacity input_capacity) mapped.now)) }
 {
-    let capacities = Capacities {
-        buffer: capacity,
-        input: input_capacity,
-    };
-    let verified = verifier::verify(source, capacities, mapped);
-    match verified {
-        Verified::Buffers(buffers) => write_answer(answer, &[0, 0, buffers]),
-        Verified::Refused(number, place) => write_answer(answer, &[number, place, 0]),
-    }
+    let capacities = capacities_of(capacity, input_capacity);
+    answer_number(answer, verifier::verify(source, capacities, mapped))
 }
 
 // The plain evaluator: number, place.
@@ -162,10 +156,7 @@ pub fn aqfp_step(
     ensures answer { Answered result answer.new (checked_numbers (step_answer source.now (capacities_of capacity input_capacity) mapped.now row.now state.old)) }
     ensures area { state.new ≡ step_area source.now (capacities_of capacity input_capacity) mapped.now row.now state.old }
 {
-    let capacities = Capacities {
-        buffer: capacity,
-        input: input_capacity,
-    };
+    let capacities = capacities_of(capacity, input_capacity);
     answer_checked(
         answer,
         simulator::step(source, capacities, mapped, row, state),
@@ -188,10 +179,7 @@ pub fn aqfp_run(
     ensures area { state.new ≡ run_area source.now (capacities_of capacity input_capacity) mapped.now row_count rows.now state.old outputs.old }
     ensures outputs { outputs.new ≡ run_outputs source.now (capacities_of capacity input_capacity) mapped.now row_count rows.now state.old outputs.old }
 {
-    let capacities = Capacities {
-        buffer: capacity,
-        input: input_capacity,
-    };
+    let capacities = capacities_of(capacity, input_capacity);
     answer_checked(
         answer,
         simulator::run(source, capacities, mapped, row_count, rows, state, outputs),
@@ -217,13 +205,6 @@ pub fn aqfp_strip(
     ensures answer { Answered result answer.new (stripped_numbers (strip_answer (capacities_of capacity input_capacity) mapped.now source.old)) }
     ensures area { source.new ≡ strip_area (capacities_of capacity input_capacity) mapped.now source.old }
 {
-    let capacities = Capacities {
-        buffer: capacity,
-        input: input_capacity,
-    };
-    let stripped = strip::strip(capacities, mapped, source);
-    match stripped {
-        Stripped::Records(records) => write_answer(answer, &[0, 0, records]),
-        Stripped::Refused(number, place) => write_answer(answer, &[number, place, 0]),
-    }
+    let capacities = capacities_of(capacity, input_capacity);
+    answer_number(answer, strip::strip(capacities, mapped, source))
 }

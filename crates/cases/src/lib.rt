@@ -1,112 +1,94 @@
 // Stored test cases: a file is a four-byte count and then fields, each a four-byte length and its bytes. Low byte first.
 #![tactic(auto)]
 
-ghost use Rattle.std.specs.Prelude.{◌≡◌, ◌<◌, ◌≤◌, length};
+ghost use Rattle.std.specs.Prelude.{ℕ, ◌≡◌, ◌<◌, ◌↔◌, true, length, min, drop, [], slice_index};
+ghost use Rattle.std.specs.Iterator.{at_most};
+ghost use Rattle.std.specs.Option.{MatchOption};
+ghost use Rattle.cases.specs.Numbers.{number_bytes, first_number, number_at};
 
 const NUMBER: usize = 4;
 
-// A byte as a wider number.
-fn wide(x: u8) -> u32
-    ensures { (result ≡ x) × (result < 256) }
+// The number at the start of some bytes, 0 where they end before it does.
+fn first_number(bytes: &[u8]) -> u32
+    ensures { result ≡ first_number bytes.now }
 {
-    x as u32
+    match bytes.first_chunk() {
+        Some(four) => u32::from_le_bytes(*four),
+        None => 0,
+    }
 }
 
-// The four-byte number at a place, 0 where the file ends before it does.
-pub fn number(file: &[u8], at: usize) -> u32 {
-    if file.len() < NUMBER {
-        return 0;
-    }
-    if file.len() - NUMBER < at {
-        return 0;
-    }
-    let low = wide(file[at]) + 256 * wide(file[at + 1]);
-    let high = wide(file[at + 2]) + 256 * wide(file[at + 3]);
-    low + 65536 * high
-}
-
-// Where the field at a place starts, past its length.
-fn start(file: &[u8], at: usize) -> usize
-    ensures { result ≤ length file.now }
+// The bytes behind that number.
+fn after_number(bytes: &[u8]) -> &[u8]
+    ensures { result.now ≡ drop number_bytes bytes.now }
 {
-    if file.len() < NUMBER {
-        return file.len();
-    }
-    if file.len() - NUMBER < at {
-        return file.len();
-    }
-    at + NUMBER
+    bytes.get(NUMBER..).unwrap_or(&[])
 }
 
-// The place past the field at a place, the file's end where the field runs past it.
-pub fn skip(file: &[u8], at: usize) -> usize
-    ensures { result ≤ length file.now }
+// The first N numbers of some bytes.
+pub fn numbers<const N: usize>(bytes: &[u8]) -> [u32; N]
+    ensures { (k : ℕ) → k < N → slice_index result k ≡ number_at bytes.now k }
 {
-    let from = start(file, at);
-    let size = number(file, at) as usize;
-    if size <= file.len() - from {
-        from + size
-    } else {
-        file.len()
+    let mut numbers = [0; N];
+    let mut rest = bytes;
+    for k in 0..N {
+        numbers[k] = first_number(rest);
+        rest = after_number(rest);
+    }
+    numbers
+}
+
+// The fields that a file still has.
+#[derive(Drop)]
+pub struct Fields<'a> {
+    rest: &'a [u8],
+}
+
+impl<'a> Fields<'a> {
+    ghost use Rattle.cases.specs.Fields.{left};
+
+    // The fields behind a file's count; None where the file ends before its count does.
+    pub fn of_file(file: &'a [u8]) -> Option<Fields<'a>>
+        ensures { MatchOption result (length file.now < number_bytes) (λ f. left f ≡ drop number_bytes file.now) }
+    {
+        let rest = file.get(NUMBER..)?;
+        Some(Fields { rest })
+    }
+
+    // Whether nothing is left: the file ended with the last field that was read, or a field ran past its end.
+    pub fn is_done(&self) -> bool
+        ensures { (result ≡ true) ↔ (left self.now ≡ []) }
+    {
+        self.rest.is_empty()
     }
 }
 
-// The bytes of the field at a place.
-pub fn field<'a>(file: &'a [u8], at: usize) -> &'a [u8] {
-    let from = start(file, at);
-    let size = number(file, at) as usize;
-    if size <= file.len() - from {
-        &file[from..from + size]
-    } else {
-        &file[0..0]
+impl<'a> Iterator for Fields<'a> {
+    ghost use Rattle.cases.specs.Fields.{GivesField};
+
+    type Item = &'a [u8];
+
+    ghost next_gives = { GivesField };
+
+    ghost remaining = { λ s. at_most (length s.rest.now) };
+
+    // The bytes of the next field. Behind a field that runs past the file's end there is none.
+    fn next(&mut self) -> Option<&'a [u8]> {
+        let rest = self.rest;
+        self.rest = &[];
+        let size = u32::from_le_bytes(*rest.first_chunk()?);
+        let after = &rest[NUMBER..];
+        let field = after.get(..size as usize)?;
+        self.rest = &after[field.len()..];
+        Some(field)
     }
 }
 
-// The place past n fields from a place on.
-pub fn skip_all(file: &[u8], at: usize, n: usize) -> usize {
-    let mut to = at;
-    let mut k: usize = 0;
-    while k < n {
-        to = skip(file, to);
-        k += 1;
-    }
-    to
-}
-
-// Whether the field at a place ends in the file.
-fn stands(file: &[u8], at: usize) -> bool {
-    let to = skip(file, at);
-    if to < at {
-        return false;
-    }
-    to - at == NUMBER + number(file, at) as usize
-}
-
-// Whether n fields from a place on end in the file.
-pub fn stand_all(file: &[u8], at: usize, n: usize) -> bool {
-    let mut to = at;
-    let mut k: usize = 0;
-    while k < n {
-        if !stands(file, to) {
-            return false;
-        }
-        to = skip(file, to);
-        k += 1;
-    }
-    true
-}
-
-// Copies bytes into an area; how many there was room for.
-pub fn copy(bytes: &[u8], area: &mut [u8]) -> usize
-    ensures { result ≤ length area.new }
+// The start of an area, with as many of the bytes in it as it has room for.
+pub fn filled<'a>(area: &'a mut [u8], bytes: &[u8]) -> &'a mut [u8]
+    ensures { length result.now ≡ min (length bytes.now) (length area.old) }
 {
-    let mut i: usize = 0;
-    while i < bytes.len() {
-        if area.len() <= i {
-            return i;
-        }
-        area[i] = bytes[i];
-        i += 1;
-    }
-    i
+    let n = bytes.len().min(area.len());
+    area[..n].copy_from_slice(&bytes[..n]);
+    &mut area[..n]
 }

@@ -1,13 +1,11 @@
--- Laws of an area: bytes put into it, side by side and one within another, and loops that write it or copy into it from the front on.
+-- Laws of an area: bytes put into it, side by side and one within another, and loops that write it from the front on.
 use Prim.Native.Nat.{ℕ, suc, ◌+◌, ◌-◌, ◌<◌, ◌≤◌}
 use mathlib.Core.Path.{◌≡◌, refl, sym, ◌∙◌, ap, ap₂}
 use mathlib.Core.List.{List, [], ◌∷◌, ◌++◌, append_assoc, append-nil}
-use native.Mathlib.Decide.{ℕ_discrete}
 use native.Mathlib.Omega.{arith}
 use native.Mathlib.Nat.{add-sub_of_le, add-sub_cancel_left, add-zero, zero-add}
-use lib.ListN.{length, get_or, take, drop, set, replicate, length-append, length-take, length-set, length-drop, take-append-drop, drop_of_length-le}
-use lib.Seq.{sets, sets-eq, drop-cons, set_at, append_snoc, take_at, drop_at, drop-drop, drop-append-add, length-take-le, take-append-le, take-take, get_or-set_same, get_or-set_other, ext_get_or}
-use borrow.Author.Fill.{fill_more}
+use lib.ListN.{length, get_or, take, drop, set, length-append, length-take, length-drop, take-append-drop, drop_of_length-le}
+use lib.Seq.{sets, sets-eq, drop-cons, set_at, append_snoc, take_at, drop_at, drop-drop, drop-append-add, length-take-le, take-append-le, take-take}
 use Rattle.facts.specs.Areas.{put, onto}
 
 pub put_none : (xs : List ℕ) (a : ℕ) → put xs a [] ≡ xs
@@ -57,20 +55,9 @@ module _ (xs : List ℕ) (a : ℕ) (bs : List ℕ) where
 pub sets_put : (bs xs : List ℕ) (at : ℕ) → at + length bs ≤ length xs → sets xs at bs ≡ put xs at bs
 sets_put bs xs at l = sets-eq bs xs at l ∙ append_assoc (take at xs) bs (drop (at + length bs) xs)
 
--- one byte stored
-pub set_put : (xs : List ℕ) (at b : ℕ) → at < length xs → set xs at b ≡ put xs at (b ∷ [])
-set_put xs at b l = sets_put (b ∷ []) xs at (omega arith)
-
 -- bytes put from the start on
 pub put_start : (xs bytes : List ℕ) → put xs 0 bytes ≡ onto bytes xs
 put_start xs bytes = ap (λ (k : ℕ). bytes ++ drop k xs) (zero-add (length bytes))
-
--- a part that was stored whole
-pub stored_whole : (part bytes : List ℕ) (w : ℕ) → length part ≡ w → length bytes ≡ w → sets part 0 bytes ≡ bytes
-stored_whole part bytes w p b =
-    sets-eq bytes part 0 (omega arith)
-    ∙ ap (λ (l : List ℕ). bytes ++ l) (drop_of_length-le part {i = 0 + length bytes} (omega arith))
-    ∙ append-nil bytes
 
 -- a part that was written comes back into the area
 pub part_kept : (area part bytes : List ℕ) (at w : ℕ) → part ≡ bytes →
@@ -135,57 +122,3 @@ written_part n old h =
           sym (take-append-drop n old)
           ∙ ap₂ (λ (l : List ℕ) (k : ℕ). l ++ drop k old) (sym (append-nil (take n old))) (sym (add-zero n));
     }
-
--- the first i bytes of an area are zeros
-pub record Zeroing (n : ℕ) (area old : List ℕ) (i : ℕ) : Type 0 where
-  pub within : i ≤ n
-  pub all : n ≡ length old
-  pub same : length area ≡ length old
-  pub so_far : area ≡ replicate i 0 ++ drop i old
-
-module _ (n : ℕ) (old : List ℕ) where
-  pub zeroing_start : n ≡ length old → Zeroing n old old 0
-  zeroing_start e = record { within = omega arith; all = e; same = refl; so_far = refl }
-
-  pub zeroing_more : (area : List ℕ) (i : ℕ) → Zeroing n area old i → i < n → Zeroing n (set area i 0) old (i + 1)
-  zeroing_more area i c h =
-      record {
-        within = omega arith;
-        all = c.all;
-        same = length-set area i 0 ∙ c.same;
-        so_far = ap (λ (l : List ℕ). set l i 0) c.so_far ∙ fill_more i 0 old (omega (arith, c.all));
-      }
-
-  pub zeroing_end : (area : List ℕ) (i : ℕ) → Zeroing n area old i → n ≤ i → area ≡ replicate (length old) 0
-  zeroing_end area i c h =
-      let e : i ≡ length old = omega (arith, c.within, c.all) in
-      c.so_far
-      ∙ ap (λ (l : List ℕ). replicate i 0 ++ l) (drop_of_length-le old {i = i} (omega arith))
-      ∙ append-nil (replicate i 0)
-      ∙ ap (λ (k : ℕ). replicate k 0) e
-
--- the first k bytes of one area are copied into another
-pub record Copying (from to : List ℕ) (n k : ℕ) : Type 0 where
-  pub within : k ≤ n
-  pub all : n ≡ length from
-  pub long : length to ≡ length from
-  pub same : (i : ℕ) → i < k → get_or to i 0 ≡ get_or from i 0
-
-module _ (from to : List ℕ) (n : ℕ) where
-  pub copying_start : length to ≡ length from → n ≡ length from → Copying from to n 0
-  copying_start l e = record { within = omega arith; all = e; long = l; same = λ i h. absurd (omega arith) }
-
-  pub copying_more : (k : ℕ) → Copying from to n k → k < n → Copying from (set to k (get_or from k 0)) n (k + 1)
-  copying_more k c h =
-      record {
-        within = omega arith;
-        all = c.all;
-        long = length-set to k _ ∙ c.long;
-        same = λ i l. elim (ℕ_discrete i k) [
-          | yes e ↦ rw e (get_or-set_same to k (get_or from k 0) 0 (omega (arith, c.long, c.all)))
-          | no g ↦ get_or-set_other to k i (get_or from k 0) 0 g ∙ c.same i (omega arith)
-        ];
-      }
-
-  pub copying_end : (k : ℕ) → Copying from to n k → n ≤ k → to ≡ from
-  copying_end k c h = ext_get_or 0 to from c.long (λ i l. c.same i (omega (arith, c.long, c.all)))

@@ -1,9 +1,9 @@
--- Laws of numbers as bytes: two of them give the number back, four tell it, and two or four stores at a place put a number's bytes there.
-use Prim.Native.Nat.{ℕ, zero, suc, ◌+◌, ◌*◌, ◌/◌, ◌%◌, ◌<◌, ◌≤◌}
+-- Laws of numbers as bytes: two of them give the number back, four tell it, and two stores at a place put a number's bytes there.
+use Prim.Native.Nat.{ℕ, zero, suc, ◌+◌, ◌*◌, ◌/◌, ◌%◌, ◌<◌}
 use native.Mathlib.Omega.{arith}
 use native.Mathlib.Nat.{zero-add, mod-eq_of_lt, div-eq_of_lt, add-mul-div_left, add-mul-mod_self_left}
-use native.Mathlib.Numerals.{add-one, add-two, add-three}
-use mathlib.Core.Path.{◌≡◌, sym, ◌∙◌, ap, ap₂}
+use native.Mathlib.Numerals.{add-one}
+use mathlib.Core.Path.{◌≡◌, sym, ◌∙◌, ap}
 use mathlib.Core.List.{List, [], ◌∷◌}
 use lib.ListN.{length, get_or, set}
 use Rattle.facts.specs.Bytes.{two_bytes, four}
@@ -26,15 +26,8 @@ two_below v zero l = omega arith
 two_below v (suc zero) l = omega arith
 two_below v (suc (suc i)) l = absurd (omega arith)
 
-pub stores_two : (area : List ℕ) (at v x y : ℕ) → at + 1 < length area → x ≡ v % 256 → y ≡ v / 256 % 256 →
-    set (set area at x) (at + 1) y ≡ put area at (two_bytes v)
-stores_two area at v x y l e f =
-    rw (add-one at) (sets_put (x ∷ y ∷ []) area at (omega arith) ∙ ap₂ (λ (x y : ℕ). put area at (x ∷ y ∷ [])) e f)
-
-pub stores_four : (area : List ℕ) (at n : ℕ) → at + 4 ≤ length area →
-    set (set (set (set area at (n % 256)) (at + 1) (n / 256 % 256)) (at + 2) (n / 65536 % 256)) (at + 3) (n / 16777216 % 256)
-    ≡ put area at (four n)
-stores_four area at n l = rw (add-one at, add-two at, add-three at) (sets_put (four n) area at l)
+pub stores_two : (area : List ℕ) (at v : ℕ) → at + 1 < length area → set (set area at (v % 256)) (at + 1) (v / 256 % 256) ≡ put area at (two_bytes v)
+stores_two area at v l = rw (add-one at) (sets_put (two_bytes v) area at (omega arith))
 
 -- a four-byte number from its bytes, which so tell it
 from_four : List ℕ → ℕ

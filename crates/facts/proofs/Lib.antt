@@ -3,6 +3,8 @@ pub mod Bits
 pub mod Blocks
 pub mod Bools
 pub mod Bytes
+pub mod Chains
+pub mod CheckNumbers
 pub mod Lists
 pub mod Loops
 pub mod Powers

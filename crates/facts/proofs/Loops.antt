@@ -6,9 +6,8 @@ use native.Mathlib.Decide.{dec_lt, ℕ_discrete}
 use native.Mathlib.Omega.{arith}
 use mathlib.Core.Path.{◌≡◌, refl, sym, ap, ap₂, subst, ◌∙◌}
 use mathlib.Core.Bool.{Bool, true, false, cond}
-use Rattle.facts.specs.declared.Checked.{Checked}
-use Rattle.facts.specs.declared.Checked.TheVariants.{Passed, Refused}
-use Rattle.facts.specs.Checks.{check, ◌and_then◌, scan}
+use Rattle.facts.specs.Answers.{Checked, Passed, Refused}
+use Rattle.facts.specs.Checks.{◌and_then◌, scan}
 use Rattle.facts.specs.Sums.{any, seek, largest}
 use Rattle.facts.proofs.Bools.{true_false}
 use Rattle.facts.proofs.Sums.{any_some}
@@ -148,31 +147,19 @@ module _ (f : ℕ → Checked) (n : ℕ) where
   unfolding scan
   scan_turn k h = rw (turn n k h)
 
-  pub scan_more : (k : ℕ) (a : Checked) → Scanning f n k → k < n → a ≡ f k → a ≡ Passed → Scanning f n (k + 1)
-  scan_more k a i h e p =
-      let t : scan f (k + 1) (n - (k + 1)) ≡ scan f k (n - k) = sym (scan_turn k h ∙ rw (← e, p, add-one k)) in
+  pub scan_more : (k : ℕ) → Scanning f n k → k < n → Passed ≡ f k → Scanning f n (k + 1)
+  scan_more k i h e =
+      let t : scan f (k + 1) (n - (k + 1)) ≡ scan f k (n - k) = sym (scan_turn k h ∙ rw (← e, add-one k)) in
       record { within = omega arith; rest = t ∙ i.rest }
 
-  pub scan_stop : (k number place : ℕ) (a : Checked) → Scanning f n k → k < n → a ≡ f k → a ≡ Refused number place → Refused number place ≡ scan f 0 n
-  scan_stop k number place a i h e p = sym (sym i.rest ∙ scan_turn k h ∙ rw (← e, p))
+  pub scan_stop : (k number place : ℕ) → Scanning f n k → k < n → Refused number place ≡ f k → Refused number place ≡ scan f 0 n
+  scan_stop k number place i h e = sym (sym i.rest ∙ scan_turn k h ∙ rw (← e))
 
   pub scan_end : (k : ℕ) → Scanning f n k → n ≤ k → Passed ≡ scan f 0 n
   unfolding scan
   scan_end k i h =
       let e : n - k ≡ 0 = omega arith in
       sym (sym i.rest ∙ ap (scan f k) e)
-
--- one check at each place
-module _ (number : ℕ) (bad : ℕ → Bool) (n k : ℕ) (s : Scanning (λ p. check number p (bad p)) n k) where
-  pub check_more : k < n → bad k ≡ false → Scanning (λ p. check number p (bad p)) n (k + 1)
-  check_more h e = scan_more (λ p. check number p (bad p)) n k Passed s h (rw e) refl
-
-  pub check_stop : (m : ℕ) → k < n → bad k ≡ true → n ≡ m → Refused number k ≡ scan (λ p. check number p (bad p)) 0 m
-  check_stop m h e q =
-      scan_stop (λ p. check number p (bad p)) n k number k (Refused number k) s h (rw e) refl ∙ ap (scan (λ p. check number p (bad p)) 0) q
-
-  pub check_end : (m : ℕ) → n ≤ k → n ≡ m → Passed ≡ scan (λ p. check number p (bad p)) 0 m
-  check_end m h q = scan_end (λ p. check number p (bad p)) n k s h ∙ ap (scan (λ p. check number p (bad p)) 0) q
 
 -- checks that agree on every place
 pub scan_cong : (f g : ℕ → Checked) (n : ℕ) → ((k : ℕ) → k < n → f k ≡ g k) → scan f 0 n ≡ scan g 0 n

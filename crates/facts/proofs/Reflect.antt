@@ -8,8 +8,7 @@ use borrow.Author.Tests.{ltb-true, ltb-false, leb-true, leb-false, eqb-true, eqb
 use native.Mathlib.Omega.{arith}
 use native.Mathlib.Decide.{ℕ_discrete}
 use mathlib.Core.Logic.{◌⊎◌, inl, inr, ⊎_elim, ◌≢◌, ◌↔◌}
-use Rattle.facts.specs.declared.Checked.{Checked}
-use Rattle.facts.specs.declared.Checked.TheVariants.{Passed, Refused}
+use Rattle.facts.specs.Answers.{Checked, Passed, Refused}
 use Rattle.facts.specs.Checks.{check, ◌and_then◌, unless_refused, refuses, scan}
 use Rattle.facts.proofs.Sums.{any_none, any_some}
 use Rattle.facts.proofs.Bools.{true_false}
@@ -177,20 +176,20 @@ module _ (number place : ℕ) (b c : Bool) (e : b ≡ c) where
   pub check_good : b ≡ false → Passed ≡ check number place c
   check_good h = rw (← e, h)
 
-module _ (a x y : Checked) (e : a ≡ x) where
-  pub then_stop : (number place : ℕ) → a ≡ Refused number place → Refused number place ≡ (x and_then y)
-  then_stop number place h = rw (← e, h)
+module _ (x y : Checked) where
+  pub then_stop : (number place : ℕ) → Refused number place ≡ x → Refused number place ≡ (x and_then y)
+  then_stop number place h = rw (← h)
 
-  pub then_go : (b : Checked) → a ≡ Passed → b ≡ y → b ≡ (x and_then y)
-  then_go b h q = rw (← e, h) q
+  pub then_go : (b : Checked) → Passed ≡ x → b ≡ y → b ≡ (x and_then y)
+  then_go b h q = rw (← h) q
 
   -- and what it leaves in an area
   module _ (new area : List ℕ) where
-    pub stop_kept : (number place : ℕ) → a ≡ Refused number place → area ≡ unless_refused (x and_then y) new area
-    stop_kept number place h = rw (← e, h)
+    pub stop_kept : (number place : ℕ) → Refused number place ≡ x → area ≡ unless_refused (x and_then y) new area
+    stop_kept number place h = rw (← h)
 
-    pub go_written : (after : List ℕ) → a ≡ Passed → after ≡ unless_refused y new area → after ≡ unless_refused (x and_then y) new area
-    go_written after h q = rw (← e, h) q
+    pub go_written : (after : List ℕ) → Passed ≡ x → after ≡ unless_refused y new area → after ≡ unless_refused (x and_then y) new area
+    go_written after h q = rw (← h) q
 
 module _ (b c : Bool) (e : b ≡ c) (number place : ℕ) (y : Checked) where
   pub check_stop : b ≡ true → Refused number place ≡ (check number place c and_then y)

@@ -5,8 +5,7 @@ use native.Mathlib.Omega.{arith}
 use mathlib.Core.Path.{◌≡◌, refl, sym, ap, subst, ◌∙◌}
 use mathlib.Core.Logic.{◌⊎◌, inl, inr, ⊎_elim, ◌↔◌}
 use mathlib.Core.Bool.{Bool, true, false}
-use Rattle.facts.specs.declared.Checked.{Checked}
-use Rattle.facts.specs.declared.Checked.TheVariants.{Passed, Refused}
+use Rattle.facts.specs.Answers.{Checked, Passed, Refused}
 use Rattle.facts.specs.Checks.{check, ◌and_then◌, scan}
 use Rattle.facts.specs.Refusals.{row_of, Earlier, Conditions, Fails, ◌or◌, Each, Clear, FirstAt, First, Exact}
 use Rattle.facts.proofs.Bools.{true_false}

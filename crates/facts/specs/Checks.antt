@@ -1,7 +1,6 @@
 -- Checks in order: the answer of a call is its first failing check (specification 3.3).
 use Rattle.std.specs.Prelude.{ℕ, zero, suc, Bool, true, false, List, [], ◌∷◌}
-use Rattle.facts.specs.declared.Checked.{Checked}
-use Rattle.facts.specs.declared.Checked.TheVariants.{Passed, Refused}
+use Rattle.facts.specs.Answers.{Checked, Passed, Refused}
 
 infixr 20 ◌and_then◌
 -- one check: refused, with its number and place, where its condition holds

@@ -1,3 +1,4 @@
+pub mod Answers
 pub mod Areas
 pub mod Blocks
 pub mod Bytes

@@ -1,7 +1,6 @@
 -- The table of checks (specification 3.3) as an order, and what it is for an answer to be the first failing check.
 use Rattle.std.specs.Prelude.{ℕ, ◌<◌, ◌≡◌, ◌⊎◌, ◌↔◌, List, [], ◌∷◌, get_or}
-use Rattle.facts.specs.declared.Checked.{Checked}
-use Rattle.facts.specs.declared.Checked.TheVariants.{Passed, Refused}
+use Rattle.facts.specs.Answers.{Checked, Passed, Refused}
 
 infixr 15 ◌or◌
 -- entry n is the row of number n in the table; rows are checked from 1 on

@@ -7,8 +7,8 @@ use mathlib.Core.Logic.{◌↔◌, inl, inr, ⊎_elim}
 use native.Mathlib.Decide.{dec_lt}
 use native.Mathlib.Omega.{arith}
 use borrow.Author.Tests.{not-false, not-true}
-use Rattle.facts.specs.declared.Checked.{Checked}
-use Rattle.facts.specs.declared.Checked.TheVariants as checked
+use Rattle.facts.specs.Answers.{Checked}
+use Rattle.facts.specs.Answers as checked
 use Rattle.facts.specs.Checks.{outcome}
 use Rattle.facts.specs.Refusals.{row_of, First, FirstAt}
 use Rattle.facts.proofs.Refusals.{exact, rows_before, one_row, first_check, first_after}
@@ -145,23 +145,23 @@ refused_exactly source caps d number place = (there (count_checks source caps d)
         by_checks source caps d (checked.Refused number place) (((count_exact source caps d).refused number place).1 f)
 
 -- the call's answer, with premises as the code has them
-module _ (source : List ℕ) (caps : Capacities) (d : ℕ) (c : Checked) (e : c ≡ input_checks source caps) where
-  pub call_input : c ≡ checked.Passed → Input source caps
-  call_input p = input_passed source caps (sym e ∙ p)
-
-  pub call_refused : (number place : ℕ) → c ≡ checked.Refused number place → Refused number place ≡ count_answer source caps d
+module _ (source : List ℕ) (caps : Capacities) (d : ℕ) where
+  pub call_refused : (number place n : ℕ) → checked.Refused number place ≡ input_checks source caps → n ≡ number → Refused n place ≡ count_answer source caps d
   unfolding count_answer
-  call_refused number place p = rw (← e, p)
+  call_refused number place n p e = rw (← p, e)
 
-  module _ (kind : ℕ) (b : Bool) (k : kind ≡ (record_at source d).kind) (q : b ≡ is_driver kind) where
-    pub call_present : b ≡ true → d < record_count source
-    call_present t = driver_inside source d (ap is_driver (sym k) ∙ sym q ∙ t)
+  module _ (e : checked.Passed ≡ input_checks source caps) where
+    pub call_input : Input source caps
+    call_input = input_passed source caps (sym e)
 
-    pub call_counted : (a : Count) → c ≡ checked.Passed → b ≡ true →
-        a ≡ net_count (netlist source) caps d → a ≡ count_answer source caps d
-    unfolding count_answer
-    call_counted a p t h = h ∙ rw (← e, p, ← k, ← q, t)
+    module _ (kind : ℕ) (b : Bool) (k : kind ≡ (record_at source d).kind) (q : b ≡ is_driver kind) where
+      pub call_present : b ≡ true → d < record_count source
+      call_present t = driver_inside source d (ap is_driver (sym k) ∙ sym q ∙ t)
 
-    pub call_no_driver : c ≡ checked.Passed → b ≡ false → Refused 20 d ≡ count_answer source caps d
-    unfolding count_answer
-    call_no_driver p t = rw (← e, p, ← k, ← q, t)
+      pub call_counted : (a : Count) → b ≡ true → a ≡ net_count (netlist source) caps d → a ≡ count_answer source caps d
+      unfolding count_answer
+      call_counted a t h = h ∙ rw (← e, ← k, ← q, t)
+
+      pub call_no_driver : (n : ℕ) → b ≡ false → n ≡ 20 → Refused n d ≡ count_answer source caps d
+      unfolding count_answer
+      call_no_driver n t h = rw (← e, ← k, ← q, t, h)

@@ -5,47 +5,21 @@ use mathlib.Core.List.{List}
 use native.Mathlib.Omega.{arith}
 use native.Mathlib.Nat.{div-eq_of_lt, div_self, mod-lt, pow-le-pow_right}
 use native.Mathlib.Decide.{dec_lt, ℕ_discrete}
-use mir.Val.{Fits}
-use mir.Syntax.{w64}
 use lib.ListN.{length, get_or}
 use lib.Bits.{bit_and, bit_or, or_shr, or_step, and_mask}
-use lib.Count.{count_leading_zeros, leading_top}
 use lib.Pow.{pow_pos, shl_exact, ones_split, ones_lt, high, field, mod-mod-pow}
 use Rattle.facts.proofs.Lists.{added_at}
 use Rattle.facts.proofs.Sums.{bit_other}
 use Rattle.netlist.specs.Kinds.{top_level}
 use Rattle.fanout.specs.Nets.{added}
-use Rattle.fanout.specs.PrivateStretches.{stretch, bit_at, InStretches, NextByStretch, NextSinks}
+use Rattle.fanout.specs.PrivateStretches.{stretch, bit_at, InStretches, NextByStretch}
 
 -- 1 shifted by n, as the code has it
 shifted_one : (n : ℕ) → n < 64 → (1 * 2 ^ n) % 2 ^ 64 ≡ 2 ^ n
 shifted_one n l = shl_exact {a = 1} 1 n 64 (omega arith) (omega arith) ∙ omega arith
 
-pub with_bit_is : (word x : ℕ) → x ≤ top_level → bit_or word ((1 * 2 ^ (x / stretch)) % 2 ^ 64) ≡ bit_or word (2 ^ (x / stretch))
-with_bit_is word x l = ap (bit_or word) (shifted_one (x / stretch) (omega arith))
-
-pub lowest_room : (n : ℕ) → n < stretch → 1 ≤ (1 * 2 ^ n) % 2 ^ 64
-lowest_room n l = rw (shifted_one n l) (pow_pos n)
-
 pub lowest_is : (word n : ℕ) → n < stretch → bit_and word ((1 * 2 ^ n) % 2 ^ 64 - 1) ≡ word % 2 ^ n
 lowest_is word n l = rw (shifted_one n l) (and_mask word n)
-
--- the highest bit, from the zeros above it
-module _ (word : ℕ) (pos : 0 < word) (fits : word < 2 ^ 64) where
-  top_is : 63 - count_leading_zeros 64 word ≡ (leading_top 64 word pos fits).0
-  top_is = omega (arith, (leading_top 64 word pos fits).1)
-
-  pub highest_room : count_leading_zeros 64 word ≤ 63
-  highest_room = omega (arith, (leading_top 64 word pos fits).1)
-
-  pub highest_fits : Fits w64 (count_leading_zeros 64 word)
-  highest_fits = omega (arith, highest_room)
-
-  pub highest_low : 2 ^ (63 - count_leading_zeros 64 word) ≤ word
-  highest_low = rw top_is (leading_top 64 word pos fits).2
-
-  pub highest_high : word < 2 ^ suc (63 - count_leading_zeros 64 word)
-  highest_high = rw top_is (leading_top 64 word pos fits).3
 
 -- bits of two words joined
 or_bit : (a b i : ℕ) → bit_at (bit_or a b) i ≡ max (bit_at a i) (bit_at b i)
@@ -121,9 +95,13 @@ module _ (stretches x : ℕ) (far : (1 < x) × (x ≤ top_level)) where
     next_none z =
         record { above = omega arith; below = omega arith; between = λ y a b. unset y 0 b (omega arith) (omega arith) }
 
-    pub next_found : (h : ℕ) → (2 ^ h ≤ word) × (word < 2 ^ suc h) × (h < stretch) → NextByStretch stretches x (stretch * h + 63)
-    next_found h t =
-        record { above = omega arith; below = near (dec_lt h (x / stretch)); between = λ y a b. unset y (suc h) b t.1 (omega arith) }
+    pub next_found : (h : ℕ) → 2 ^ h ≤ word → word < 2 * 2 ^ h → NextByStretch stretches x (stretch * h + 63)
+    next_found h low high =
+        record {
+          above = omega arith;
+          below = near (dec_lt h (x / stretch));
+          between = λ y a b. unset y (suc h) b (omega arith) (omega arith);
+        }
       where
         near : Dec (h < x / stretch) → stretch * h + 63 < x
         near (yes l) = omega arith
@@ -131,35 +109,8 @@ module _ (stretches x : ℕ) (far : (1 < x) × (x ≤ top_level)) where
             absurd
             (omega (
               arith,
-              t.0,
+              low,
               w,
               mod-lt stretches (pow_pos (x / stretch)),
               pow-le-pow_right {n = 2} (omega arith) {i = x / stretch} {j = h} (omega arith),
             ))
-
--- the way down from k: no sinks stand between x and k
-module _ (counts : List ℕ) (k stretches : ℕ) (far : (1 < k) × (k ≤ suc top_level)) (h : InStretches counts k stretches) where
-  pub seek_start : NextSinks counts k (k - 1)
-  seek_start = record { above = omega arith; below = omega arith; between = λ y a b. absurd (omega arith) }
-
-  module _ (x : ℕ) (s : NextSinks counts k x) where
-    pub seek_range : 1 < x → (1 < x) × (x ≤ top_level)
-    seek_range l = (l, omega (arith, s.below))
-
-    pub seek_more : (r : ℕ) → get_or counts x 0 ≡ 0 → NextByStretch stretches x r → NextSinks counts k r
-    seek_more r z n =
-        record {
-          above = n.above;
-          below = omega (arith, n.below, s.below);
-          between = λ y a b.
-              elim (dec_lt x y) [
-                | yes l ↦ s.between y l b
-                | no l ↦ elim (ℕ_discrete y x) [
-                  | yes e ↦ rw e z
-                  | no e ↦ elim (dec_lt 0 (get_or counts y 0)) [
-                    | yes p ↦ absurd (omega (arith, h.at y b p, n.between y a (omega arith)))
-                    | no p ↦ omega arith
-                  ]
-                ]
-              ];
-        }

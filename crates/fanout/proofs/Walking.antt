@@ -11,20 +11,17 @@ use mir.Val.{Fits}
 use mir.Syntax.{w32}
 use lib.ListN.{length, get_or, drop, set, replicate, length-set, length-drop}
 use lib.Seq.{get_or-set_same, get_or-set_other, get_or-drop}
-use lib.Dec.{leb}
 use Rattle.facts.proofs.Lists.{zeros}
 use Rattle.netlist.specs.Kinds.{top_level}
-use Rattle.netlist.specs.Records.{Netlist, netlist, record_at}
+use Rattle.netlist.specs.Records.{Netlist, netlist}
 use Rattle.netlist.specs.Source.{IsSource}
 use Rattle.netlist.specs.PrivateInput.{Input}
 use Rattle.netlist.specs.declared.Capacities.{Capacities}
-use Rattle.netlist.specs.Capacities.{capacity_of, Allowed}
+use Rattle.netlist.specs.Capacities.{Allowed}
 use Rattle.fanout.specs.declared.TreeTotals.{TreeTotals}
-use Rattle.fanout.specs.declared.Count.TheVariants.{Fewest, NoTree}
 use Rattle.fanout.specs.Nets.{sink_limit, row, up, nodes, buffers, nodes_at, buffers_at, fewest}
-use Rattle.fanout.specs.Answer.{net_count}
 use Rattle.fanout.specs.declared.Reach.{Reach}
-use Rattle.fanout.specs.PrivateStretches.{InStretches, NextSinks, NextDistance}
+use Rattle.fanout.specs.PrivateStretches.{InStretches, NextDistance}
 use Rattle.fanout.specs.PrivateWalk.{node_limit, Filled, Walkable, Walked}
 use Rattle.fanout.proofs.Nets.{up_le, up_zero, up_one, nodes_at_lem, nodes_none, buffers_from, buffers_none, row_length}
 use Rattle.fanout.proofs.EmptyStretches.{stretches_all}
@@ -119,12 +116,6 @@ module _ (s : ℕ) (counts : List ℕ) (reach : Reach) (w : Walkable s counts re
   small_from k x = omega (arith, get_or-drop k counts x 0, w.small (k + x))
 
   module _ (keep : Bool) (row : List ℕ) (k nodes buffers : ℕ) (h : Walking s counts keep row k nodes buffers) where
-    pub walk_range : 1 < k → (1 < k) × (k ≤ suc top_level)
-    walk_range l = (l, h.to)
-
-    pub walk_within : InStretches row k reach.stretches
-    walk_within = record { at = λ x l p. w.within.at x (omega (arith, h.to)) (omega (arith, h.below x l)) }
-
     pub walk_few : nodes ≤ node_limit
     walk_few = omega (arith, h.here, nodes_small s sink_limit (drop k counts) w.low (small_from k))
 
@@ -132,15 +123,6 @@ module _ (s : ℕ) (counts : List ℕ) (reach : Reach) (w : Walkable s counts re
     module _ (to : ℕ) (t : NextDistance row keep nodes k to) where
       pub walk_room : to < suc top_level
       walk_room = omega (arith, h.to, t.next.below)
-
-      pub walk_passed : to ≤ k - 1
-      walk_passed = omega (arith, t.next.below)
-
-      pub walk_less : to < k
-      walk_less = t.next.below
-
-      pub walk_cast : Fits w32 (k - 1 - to)
-      walk_cast = omega (arith, h.to)
 
       between : (x : ℕ) → to < x → x < k → get_or counts x 0 ≡ 0
       between x a b = sym (h.below x b) ∙ t.next.between x a b
@@ -183,9 +165,6 @@ module _ (s : ℕ) (counts : List ℕ) (reach : Reach) (w : Walkable s counts re
               w.size,
             )
 
-        pub walk_gap : Fits w32 (b + (k - 1 - to))
-        walk_gap = omega (arith, few_buffers)
-
         pub walk_buffers : Fits w32 (buffers + (b + (k - 1 - to)))
         walk_buffers = omega (arith, few_buffers)
 
@@ -218,33 +197,6 @@ module _ (s : ℕ) (counts : List ℕ) (reach : Reach) (w : Walkable s counts re
                   | no l ↦ h.above x (omega arith)
                 ]
 
-    pub walk_end : k ≤ 1 → Walked s counts keep row (record { nodes = nodes; buffers = buffers })
-    walk_end l =
-        record {
-          nodes = h.here ∙ ap (nodes_at s counts) last;
-          buffers = h.further ∙ ap (λ (k : ℕ). Rattle.fanout.specs.Nets.buffers s (drop k counts)) last;
-          size = h.size;
-          apart = h.below 0 (omega (arith, h.from)) ∙ w.apart;
-          at = λ x m. h.above x (omega arith);
-        }
-      where
-        last : k ≡ 1
-        last = omega (arith, h.from)
-
--- the distance one below, which passes none
-pub step_down : (counts : List ℕ) (keep : Bool) (nodes k : ℕ) → (1 < k) × (k ≤ suc top_level) → NextDistance counts keep nodes k (k - 1)
-step_down counts keep nodes k h =
-    record {
-      next = record { above = omega arith; below = omega arith; between = λ x a b. absurd (omega arith) };
-      single = λ l. absurd (omega arith);
-      unkept = λ l. absurd (omega arith);
-    }
-
--- the next one with sinks, with a single node
-pub step_over : (counts : List ℕ) (keep : Bool) (nodes k r : ℕ) → NextSinks counts k r → nodes ≡ 1 → keep ≡ false →
-    NextDistance counts keep nodes k r
-step_over counts keep nodes k r h e f = record { next = h; single = λ l. e; unkept = λ l. f }
-
 -- a row whose buffers are not kept is all zero after the walk
 pub walked_clear : (s : ℕ) (counts after : List ℕ) (t : TreeTotals) → Walked s counts false after t → after ≡ replicate (suc top_level) 0
 walked_clear s counts after t w =
@@ -271,14 +223,3 @@ module _ (source : List ℕ) (caps : Capacities) (d far : ℕ) (counts : List �
   input_walkable i =
       walkable (netlist source) caps d counts _ i.is_source.is_source i.allowed f
       (stretches_all counts (ap length f.counted ∙ row_length (netlist source) d))
-
-  module _ (after : List ℕ) (t : TreeTotals) (w : Walked caps.buffer counts false after t) (b : Bool)
-      (e : b ≡ leb t.nodes (capacity_of caps (record_at source d).kind)) where
-    net_count_lem : cond b (Fewest t.buffers) NoTree ≡ net_count (netlist source) caps d
-    net_count_lem = rw (e, w.nodes, w.buffers, f.counted) refl
-
-    pub counted_tree : b ≡ true → Fewest t.buffers ≡ net_count (netlist source) caps d
-    counted_tree h = rw h at net_count_lem
-
-    pub counted_none : b ≡ false → NoTree ≡ net_count (netlist source) caps d
-    counted_none h = rw h at net_count_lem

@@ -1,6 +1,6 @@
 -- Specification 4.2, the count of one net: its answer, and the answer's numbers.
 use Rattle.std.specs.Prelude.{ℕ, cond, not, List, [], ◌∷◌}
-use Rattle.facts.specs.declared.Checked.{Checked}
+use Rattle.facts.specs.Answers.{Checked}
 use Rattle.facts.specs.Checks.{check, ◌and_then◌, outcome}
 use Rattle.netlist.specs.declared.Capacities.{Capacities}
 use Rattle.netlist.specs.Kinds.{is_driver}

@@ -1,6 +1,6 @@
 -- What is promised of trees and of the counts: for any net, any driver capacity c and any buffer capacity s above 0.
 use Rattle.std.specs.Prelude.{ℕ, ◌+◌, ◌^◌, ◌<◌, ◌≤◌, ◌≡◌, ◌⊎◌, ◌↔◌, true, ◌&&◌, List, [], ◌∷◌, get_or, eqb}
-use Rattle.facts.specs.declared.Checked.TheVariants.{Passed}
+use Rattle.facts.specs.Answers.{Passed}
 use Rattle.facts.specs.Sums.{count, count₂}
 use Rattle.facts.specs.Refusals.{Conditions, Fails, ◌or◌, FirstAt, Exact}
 use Rattle.netlist.specs.declared.Capacities.{Capacities}

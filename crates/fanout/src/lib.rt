@@ -1,7 +1,7 @@
 // One net: its sinks by distance and the fewest buffers of a tree.
 #![tactic(auto)]
 
-ghost use Rattle.std.specs.Prelude.{◌≡◌, suc, ◌/◌, ◌<◌, ◌≤◌, cond};
+ghost use Rattle.std.specs.Prelude.{◌≡◌, suc, ◌/◌, ◌<◌, ◌≤◌};
 ghost use Rattle.netlist.specs.Records.{netlist, record_count};
 ghost use Rattle.netlist.specs.Kinds.{top_level};
 ghost use Rattle.netlist.specs.PrivateInput.{Input};
@@ -12,7 +12,7 @@ ghost use Rattle.fanout.specs.PrivateFilling.{RowSoFar, RowAtRecord, Empty, Sink
 ghost use Rattle.fanout.specs.PrivateStretches.{InStretches, NextDistance};
 ghost use Rattle.fanout.specs.PrivateWalk.{node_limit, Filled, Walkable, Walked};
 
-use facts::Checked;
+use facts::Check;
 use netlist::{Capacities, Record, SLOTS};
 
 pub mod stretches;
@@ -39,8 +39,15 @@ pub struct Reach {
     pub stretches: u64,
 }
 
+// The driver of a net: its index and its level.
+#[derive(Clone, Copy)]
+struct Driver {
+    index: usize,
+    level: u16,
+}
+
 // What stands for no tree where a number is asked for.
-pub const NO_TREE: u32 = 4294967295;
+pub const NO_TREE: u32 = u32::MAX;
 
 // Distances of a row, from 0 on.
 pub const DISTANCES: usize = 4096;
@@ -57,23 +64,16 @@ fn add_sink(row: &mut [u32; DISTANCES], distance: usize)
 }
 
 // Slot j of a record: one more sink where it names the driver; an unused slot names none. Answers the largest distance so far.
-fn add_slot(
-    row: &mut [u32; DISTANCES],
-    far: usize,
-    driver: usize,
-    below: u16,
-    r: Record,
-    j: usize,
-) -> usize
-    requires { Slot row.old driver below r j }
-    ensures { (row.new ≡ row_with driver below r j row.old) × (result ≡ far_with driver below r j far) }
+fn add_slot(row: &mut [u32; DISTANCES], far: usize, driver: Driver, r: Record, j: usize) -> usize
+    requires { Slot row.old driver.index driver.level r j }
+    ensures { (row.new ≡ row_with driver.index driver.level r j row.old) × (result ≡ far_with driver.index driver.level r j far) }
 {
-    if netlist::slot(r, j) as usize != driver {
+    if usize::from(netlist::slot(r, j)) != driver.index {
         return far;
     }
-    let distance = (r.level - below) as usize;
+    let distance = usize::from(r.level - driver.level);
     add_sink(row, distance);
-    if far < distance { distance } else { far }
+    far.max(distance)
 }
 
 // The sinks among the slots of record k. Answers the largest distance so far.
@@ -81,35 +81,32 @@ fn add_record(
     source: &[u8],
     row: &mut [u32; DISTANCES],
     far: usize,
-    driver: usize,
-    below: u16,
+    driver: Driver,
     k: usize,
 ) -> usize
-    requires { RowAtRecord (netlist source.now) driver below k row.old far }
-    ensures { RowSoFar (netlist source.now) driver (suc k) 0 row.new result }
+    requires { RowAtRecord (netlist source.now) driver.index driver.level k row.old far }
+    ensures { RowSoFar (netlist source.now) driver.index (suc k) 0 row.new result }
 {
     let r = netlist::record_at(source, k);
     let mut most = far;
-    let mut j: usize = 0;
-    while j < SLOTS {
-        most = add_slot(row, most, driver, below, r, j);
-        j += 1;
+    for j in 0..SLOTS {
+        most = add_slot(row, most, driver, r, j);
     }
     most
 }
 
 // The row of the driver's net. Answers the largest distance.
-fn fill(source: &[u8], row: &mut [u32; DISTANCES], driver: usize) -> usize
-    requires { Empty (netlist source.now) driver row.old }
-    ensures { Filled (netlist source.now) driver row.new result }
+fn fill(source: &[u8], row: &mut [u32; DISTANCES], index: usize) -> usize
+    requires { Empty (netlist source.now) index row.old }
+    ensures { Filled (netlist source.now) index row.new result }
 {
-    let below = netlist::level_at(source, driver);
-    let n = netlist::record_count(source);
-    let mut far: usize = 0;
-    let mut k: usize = 0;
-    while k < n {
-        far = add_record(source, row, far, driver, below, k);
-        k += 1;
+    let driver = Driver {
+        index,
+        level: netlist::level_at(source, index),
+    };
+    let mut far = 0;
+    for k in 0..netlist::record_count(source) {
+        far = add_record(source, row, far, driver, k);
     }
     far
 }
@@ -119,13 +116,11 @@ pub fn divide(x: u32, s: u32) -> u32
     requires { (2 ≤ s) × (s ≤ 4) }
     ensures { result ≡ x / s }
 {
-    if s == 2 {
-        return x / 2;
+    match s {
+        2 => x / 2,
+        3 => x / 3,
+        _ => x / 4,
     }
-    if s == 3 {
-        return x / 3;
-    }
-    x / 4
 }
 
 // n / s, rounded up.
@@ -137,26 +132,13 @@ fn up(s: u32, n: u32) -> u32
     divide(n + (s - 1), s)
 }
 
-// b where it is kept, else 0.
-fn kept(keep: bool, b: u32) -> u32
-    ensures { result ≡ cond keep b 0 }
-{
-    if keep { b } else { 0 }
-}
-
 // The distance to go to from k: the one below; far from the driver, with a single node, and where no buffers are kept, the next one with sinks.
 fn next_distance(row: &[u32; DISTANCES], stretches: u64, keep: bool, nodes: u32, k: usize) -> usize
     requires lt_k { (1 < k) × (k ≤ suc top_level) }
     requires in_stretches { InStretches row.now k stretches }
     ensures { NextDistance row.now keep nodes k result }
 {
-    if keep {
-        return k - 1;
-    }
-    if k <= NEAR {
-        return k - 1;
-    }
-    if nodes != 1 {
+    if keep || k <= NEAR || nodes != 1 {
         return k - 1;
     }
     stretches::next_sinks(row, stretches, k)
@@ -168,15 +150,15 @@ pub fn walk(s: u32, reach: Reach, keep: bool, row: &mut [u32; DISTANCES]) -> Tre
     ensures { Walked s row.old keep row.new result }
 {
     let stretches = reach.stretches;
-    let mut nodes: u32 = 0;
-    let mut buffers: u32 = 0;
+    let mut nodes = 0;
+    let mut buffers = 0;
     let mut k = reach.far + 1;
     while 1 < k {
         let to = next_distance(row, stretches, keep, nodes, k);
         let b = up(s, nodes);
         buffers += b + (k - 1 - to) as u32;
         nodes = b + row[to];
-        row[to] = kept(keep, b);
+        row[to] = if keep { b } else { 0 };
         k = to;
     }
     TreeTotals { nodes, buffers }
@@ -188,7 +170,7 @@ fn count_driver(source: &[u8], capacities: Capacities, driver: usize) -> Count
     requires driver_bound { driver < record_count source.now }
     ensures { result ≡ net_count (netlist source.now) capacities driver }
 {
-    let mut row = [0u32; DISTANCES];
+    let mut row = [0; DISTANCES];
     let far = fill(source, &mut row, driver);
     let reach = Reach {
         far,
@@ -206,16 +188,15 @@ fn count_driver(source: &[u8], capacities: Capacities, driver: usize) -> Count
 pub fn count_net(source: &[u8], capacities: Capacities, record: u32) -> Count
     ensures { result ≡ count_answer source.now capacities «record» }
 {
-    let checked = netlist::check_input(source, capacities);
-    match checked {
-        Checked::Passed => {
+    match netlist::check_input(source, capacities) {
+        Ok(()) => {
             let driver = record as usize;
             if netlist::is_driver(netlist::kind_at(source, driver)) {
                 count_driver(source, capacities, driver)
             } else {
-                Count::Refused(20, record)
+                Count::Refused(Check::NoDriver.number(), record)
             }
         }
-        Checked::Refused(number, place) => Count::Refused(number, place),
+        Err(refusal) => Count::Refused(refusal.check.number(), refusal.place),
     }
 }

@@ -25,14 +25,6 @@ fn lowest(word: u64, n: usize) -> u64
     word & (1u64 << n) - 1
 }
 
-// The highest bit that is set in a word.
-fn highest(word: u64) -> usize
-    requires { 0 < word }
-    ensures { (2 ^ result ≤ word) × (word < 2 ^ suc result) × (result < stretch) }
-{
-    STRETCH - 1 - u64::leading_zeros(word) as usize
-}
-
 // The next distance below x whose stretch has sinks, or 1.
 fn next_by_stretch(stretches: u64, x: usize) -> usize
     requires { (1 < x) × (x ≤ top_level) }
@@ -41,11 +33,10 @@ fn next_by_stretch(stretches: u64, x: usize) -> usize
     if x % STRETCH != 0 {
         return x - 1;
     }
-    let word = lowest(stretches, x / STRETCH);
-    if word == 0 {
-        return 1;
+    match lowest(stretches, x / STRETCH).checked_ilog2() {
+        Some(highest) => STRETCH * highest as usize + (STRETCH - 1),
+        None => 1,
     }
-    STRETCH * highest(word) + (STRETCH - 1)
 }
 
 // The next distance below k with sinks, or 1.
@@ -55,10 +46,7 @@ pub(crate) fn next_sinks(row: &[u32; DISTANCES], stretches: u64, k: usize) -> us
     ensures { NextSinks row.now k result }
 {
     let mut x = k - 1;
-    while 1 < x {
-        if row[x] != 0 {
-            return x;
-        }
+    while 1 < x && row[x] == 0 {
         x = next_by_stretch(stretches, x);
     }
     x

@@ -6,11 +6,10 @@ use mathlib.Core.Path.{◌≡◌, refl, sym, ap, ap₂, subst, ◌∙◌}
 use mathlib.Core.Logic.{◌≢◌}
 use mathlib.Core.List.{List, [], ◌∷◌, ◌++◌}
 use lib.ListN.{length, get_or, take, drop, length-append, get_or-append}
-use lib.Seq.{get_or_at}
+use lib.Seq.{get_or_at, length-take-le}
 use borrow.Author.Tests.{lt-ltb, le-ltb}
 use native.Mathlib.Decide.{dec_lt}
-use Rattle.facts.specs.Areas.{put}
-use Rattle.facts.proofs.Areas.{part_back}
+use Rattle.facts.specs.Areas.{onto}
 use Rattle.facts.proofs.Powers.{below_power}
 use Rattle.io.specs.Digits.{last_digits, IsDigitCount, hex_digit_ascii}
 use Rattle.level_sheet.specs.Text.{digit_zero, decimal_in, decimal}
@@ -160,22 +159,23 @@ decimal_exact =
     }
 
 -- the digits of a number as they are made, then copied into a text
-module _ (n k : ℕ) (out : List ℕ) (counted : (k ≤ length out) × (k ≡ length (take k out))) (f : IsDigitCount 10 1 n k) (e : take k out ≡ last_digits 10 k n) where
+module _ (n wide k : ℕ) (out : List ℕ) (same : wide ≡ n) (counted : (k ≤ length out) × (k ≡ length (take k out))) (f : IsDigitCount 10 1 wide k)
+    (e : take k out ≡ last_digits 10 k wide) where
   digits_are : take k out ≡ decimal n
-  digits_are = e ∙ fewest_decimal k n f
+  digits_are = e ∙ fewest_decimal k wide f ∙ ap decimal same
 
-  digits_count : k ≡ length (decimal n)
-  digits_count = counted.1 ∙ ap length digits_are
+  pub decimal_end : k ≡ length (decimal n)
+  decimal_end = counted.1 ∙ ap length digits_are
 
-  module _ (text : List ℕ) (at : ℕ) where
-    pub decimal_end : at + k ≡ at + length (decimal n)
-    decimal_end = ap (λ (x : ℕ). at + x) digits_count
+  module _ (text : List ℕ) (room : length (decimal n) ≤ length text) where
+    pub decimal_inside : k ≤ length text
+    decimal_inside = omega (arith, decimal_end)
 
-    pub decimal_inside : at + length (decimal n) ≤ length text → at + k ≤ length text
-    decimal_inside room = omega (arith, digits_count)
+    pub decimal_part : k ≡ length (take k text)
+    decimal_part = sym (length-take-le k text decimal_inside)
 
-    pub decimal_fits : at + length (decimal n) ≤ length text → length text < 2 ^ 64 → at + k < 2 ^ 64
-    decimal_fits room long = omega (arith, digits_count)
+    pub decimal_parts : length (take k text) ≡ length (take k out)
+    decimal_parts = sym decimal_part ∙ counted.1
 
-    pub decimal_put : (part : List ℕ) → part ≡ take k out → take at text ++ (part ++ drop (at + k - at) (drop at text)) ≡ put text at (decimal n)
-    decimal_put part p = part_back text part (decimal n) at k (p ∙ digits_are) (sym digits_count)
+  pub decimal_put : (text part : List ℕ) → part ≡ take k out → part ++ drop k text ≡ onto (decimal n) text
+  decimal_put text part p = ap₂ (λ (l : List ℕ) (i : ℕ). l ++ drop i text) (p ∙ digits_are) decimal_end

@@ -10,7 +10,7 @@ use lib.Dec.{eqb}
 use lib.ListN.{length}
 use lib.Seq.{take_all, length-take-le}
 use borrow.Author.Tests.{eq-eqb, eqb-true}
-use Rattle.facts.specs.declared.Checked.TheVariants.{Refused}
+use Rattle.facts.specs.Answers.{Refused}
 use Rattle.facts.specs.Checks.{◌and_then◌}
 use Rattle.facts.specs.Sums.{bit, sum, count, any}
 use Rattle.facts.proofs.Bools.{and_r, and_true}

@@ -1,16 +1,13 @@
 -- Laws of a whole sheet: the lines of the table are those of the netlist, and all of them fit into the text.
-use Prim.Native.Nat.{ℕ, zero, suc, ◌+◌, ◌*◌, ◌^◌, ◌≤◌, ◌<◌}
-use native.Mathlib.Nat.{zero-add}
+use Prim.Native.Nat.{ℕ, zero, suc, ◌+◌, ◌-◌, ◌*◌, ◌^◌, ◌≤◌, ◌<◌}
 use native.Mathlib.Omega.{arith}
 use mathlib.Core.Path.{◌≡◌, refl, sym, ap, ap₂, ◌∙◌}
 use mathlib.Core.List.{List, [], ◌∷◌, ◌++◌}
 use lib.Dec.{eqb}
-use lib.ListN.{length, get_or, length-append}
-use Rattle.facts.specs.declared.Checked.{Checked}
-use Rattle.facts.specs.declared.Checked.TheVariants.{Passed, Refused}
-use Rattle.facts.specs.Areas.{put, onto}
+use lib.ListN.{length, get_or, take, drop, length-append}
+use Rattle.facts.specs.Answers.{Passed, Refused}
+use Rattle.facts.specs.Areas.{onto}
 use Rattle.facts.specs.Lists.{joined}
-use Rattle.facts.proofs.Areas.{length_put, put_behind, put_start}
 use Rattle.facts.proofs.Lists.{length_joined, part_joined, joined_cong, joined_short}
 use Rattle.facts.proofs.Sums.{count_le, largest_le}
 use Rattle.netlist.specs.declared.Capacities.{Capacities}
@@ -25,6 +22,7 @@ use Rattle.level_sheet.specs.PrivateTable.{levels, table_size, table_index, tabl
 use Rattle.level_sheet.proofs.Promises.{countable}
 use Rattle.level_sheet.proofs.Table.{line_counts}
 use Rattle.level_sheet.proofs.Decimals.{decimal_short}
+use Rattle.level_sheet.proofs.Lines.{rest_room, length_onto, onto_behind}
 
 -- numbers of up to w digits behind the first word of a line
 behind_short : (w : ℕ) (ns : List ℕ) → 0 < w → ((i : ℕ) → i < length ns → get_or ns i 0 < 10 ^ w) → length (numbers_behind ns) ≤ suc w * length ns + 1
@@ -98,64 +96,62 @@ module _ (m : Netlist) (c : Countable m) where
           ∙ ap (joined (level_line m)) f
 
       -- the sum line behind them
-      module _ (at : ℕ) (new : List ℕ) (g : at ≡ length (joined (table_line table) lines)) (h : new ≡ put text 0 (joined (table_line table) lines)) where
+      module _ (at : ℕ) (new : List ℕ) (g : at ≡ length (joined (table_line table) lines)) (h : new ≡ onto (joined (table_line table) lines) text) where
         short : at ≤ line_limit * lines
         short = omega (arith, joined_short (table_line table) line_limit lines lines_fit.each)
 
         same : length new ≡ length text
-        same = ap length h ∙ length_put text 0 (joined (table_line table) lines) (omega (arith, short, few))
+        same = ap length h ∙ length_onto (joined (table_line table) lines) text (omega (arith, short, few, g))
 
         module _ (sorts : List ℕ) (q : sorts ≡ totals m) where
           sum_is : sum_word ++ numbers_behind sorts ≡ sum_line m
           sum_is = ap (λ (l : List ℕ). sum_word ++ numbers_behind l) q
 
-          pub sum_room : at + length (sum_word ++ numbers_behind sorts) ≤ length new
-          sum_room = omega (arith, short, few, same, ap length sum_is, sum_line_short)
+          fits : at + length (sum_word ++ numbers_behind sorts) ≤ length new
+          fits = omega (arith, short, few, same, ap length sum_is, sum_line_short)
 
-          pub sheet_end : (end : ℕ) → end ≡ at + length (sum_word ++ numbers_behind sorts) → end ≡ length (sheet_of m)
-          sheet_end end p =
-              omega (arith, p, g, ap length sum_is, ap length lines_are, length-append (joined (level_line m) (line_count m)) (sum_line m))
+          pub sum_room : length (sum_word ++ numbers_behind sorts) ≤ length (take (length new - at) (drop at new))
+          sum_room = rest_room new at (length (sum_word ++ numbers_behind sorts)) fits
 
-          module _ (last : List ℕ) (p : last ≡ put new at (sum_word ++ numbers_behind sorts)) where
-            pub sheet_put : last ≡ put text 0 (sheet_of m)
+          module _ (n : ℕ) (p : n ≡ length (sum_word ++ numbers_behind sorts)) where
+            pub sheet_end : at + n ≡ length (sheet_of m)
+            sheet_end =
+                omega (arith, p, g, ap length sum_is, ap length lines_are, length-append (joined (level_line m) (line_count m)) (sum_line m))
+
+          module _ (part : List ℕ) (p : part ≡ onto (sum_word ++ numbers_behind sorts) (take (length new - at) (drop at new))) where
+            pub sheet_put : take at new ++ (part ++ drop (length new - at) (drop at new)) ≡ onto (sheet_of m) text
             sheet_put =
-                p
-                ∙ ap₂ (put new) (g ∙ sym (zero-add (length (joined (table_line table) lines)))) sum_is
-                ∙ ap (λ (l : List ℕ). put l (0 + length (joined (table_line table) lines)) (sum_line m)) h
-                ∙ put_behind text 0 (joined (table_line table) lines) (sum_line m) (omega (arith, short, few, g))
-                ∙ ap (λ (l : List ℕ). put text 0 (l ++ sum_line m)) lines_are
-
-            pub sheet_same : length last ≡ length text
-            sheet_same = ap length p ∙ length_put new at (sum_word ++ numbers_behind sorts) sum_room ∙ same
+                onto_behind (joined (table_line table) lines) (sum_word ++ numbers_behind sorts) text new part at g h p
+                ∙ ap₂ (λ (u v : List ℕ). onto (u ++ v) text) lines_are sum_is
 
 -- what is printed, by the verifier's checks
-module _ (source : List ℕ) (caps : Capacities) (mapped : List ℕ) (checked : Checked) (e : checked ≡ verify_checks source caps mapped) where
-  module _ (p : checked ≡ Passed) where
+module _ (source : List ℕ) (caps : Capacities) (mapped : List ℕ) where
+  module _ (e : Passed ≡ verify_checks source caps mapped) where
     pub passed_countable : Countable (netlist mapped)
-    passed_countable = countable source caps mapped ((checks_passed source caps mapped).0 (sym e ∙ p))
+    passed_countable = countable source caps mapped ((checks_passed source caps mapped).0 (sym e))
 
     passed_text : sheet_of (netlist mapped) ≡ sheet_text source caps mapped
-    passed_text = rw (← e, p)
+    passed_text = rw (← e)
 
     pub passed_length : (end : ℕ) → end ≡ length (sheet_of (netlist mapped)) → end ≡ length (sheet_text source caps mapped)
     passed_length end f = f ∙ ap length passed_text
 
-    pub passed_onto : (text new : List ℕ) → new ≡ put text 0 (sheet_of (netlist mapped)) → new ≡ onto (sheet_text source caps mapped) text
-    passed_onto text new f = f ∙ put_start text (sheet_of (netlist mapped)) ∙ ap (λ (l : List ℕ). onto l text) passed_text
+    pub passed_onto : (text new : List ℕ) → new ≡ onto (sheet_of (netlist mapped)) text → new ≡ onto (sheet_text source caps mapped) text
+    passed_onto text new f = f ∙ ap (λ (l : List ℕ). onto l text) passed_text
 
-  module _ (number place : ℕ) (p : checked ≡ Refused number place) where
+  module _ (number place n : ℕ) (e : Refused n place ≡ verify_checks source caps mapped) (q : number ≡ n) where
     refused_text : refusal_line number place ≡ sheet_text source caps mapped
-    refused_text = rw (← e, p)
+    refused_text = rw (q, ← e)
 
-    pub refused_length : (end : ℕ) → end ≡ 0 + length (line number (place ∷ [])) → end ≡ length (sheet_text source caps mapped)
-    refused_length end f = f ∙ zero-add (length (refusal_line number place)) ∙ ap length refused_text
+    pub refused_length : (end : ℕ) → end ≡ length (line number (place ∷ [])) → end ≡ length (sheet_text source caps mapped)
+    refused_length end f = f ∙ ap length refused_text
 
-    pub refused_onto : (text new : List ℕ) → new ≡ put text 0 (line number (place ∷ [])) → new ≡ onto (sheet_text source caps mapped) text
-    refused_onto text new f = f ∙ put_start text (refusal_line number place) ∙ ap (λ (l : List ℕ). onto l text) refused_text
+    pub refused_onto : (text new : List ℕ) → new ≡ onto (line number (place ∷ [])) text → new ≡ onto (sheet_text source caps mapped) text
+    refused_onto text new f = f ∙ ap (λ (l : List ℕ). onto l text) refused_text
 
 -- the line of a refusal fits
 pub refusal_room : (number place : ℕ) (text : List ℕ) → number < 2 ^ 32 → place < 2 ^ 32 → text_limit ≤ length text →
-    0 + length (line number (place ∷ [])) ≤ length text
+    length (line number (place ∷ [])) ≤ length text
 refusal_room number place text a b room =
     omega (
       arith,

@@ -3,7 +3,7 @@ use Prim.Native.Nat.{ℕ, zero, suc, ◌+◌, ◌*◌, ◌/◌, ◌%◌, ◌^◌
 use native.Mathlib.Decide.{ℕ_discrete}
 use native.Mathlib.Numerals.{add-one}
 use native.Mathlib.Omega.{arith}
-use mathlib.Core.Path.{◌≡◌, refl, sym, ap, ap₂, ◌∙◌}
+use mathlib.Core.Path.{◌≡◌, refl, sym, ap, ◌∙◌}
 use mathlib.Core.Bool.{Bool, true, false, cond, not, ◌&&◌}
 use mathlib.Core.List.{List, [], ◌∷◌}
 use lib.Dec.{eqb}
@@ -13,10 +13,9 @@ use borrow.Author.Tests.{eq-eqb, ne_eqb}
 use Rattle.facts.specs.Lists.{joined}
 use Rattle.facts.specs.Sums.{bit, sum, count, any, largest}
 use Rattle.facts.proofs.Lists.{zeros_at, added_at, length_joined, get_or_joined}
-use Rattle.facts.proofs.Loops.{LargestSoFar, largest_start, largest_more, largest_end}
 use Rattle.facts.proofs.Sums.{count_cong, count_le, count_suc, any_none}
 use Rattle.netlist.specs.declared.Record.{Record}
-use Rattle.netlist.specs.Kinds.{top_level, mapped_limit, input, output, buffer, is_gate}
+use Rattle.netlist.specs.Kinds.{mapped_limit, input, output, buffer, is_gate}
 use Rattle.netlist.specs.Records.{Netlist, netlist, record_count, record_at}
 use Rattle.netlist.specs.Counts.{count_kind, count_of, gates, buffer_count}
 use Rattle.level_sheet.specs.Counts.{columns, count_at, counts_at, totals, line_count}
@@ -44,28 +43,6 @@ column_inside kind = go (eqb kind input) (is_gate kind) (eqb kind buffer)
     go false true b = omega arith
     go false false true = omega arith
     go false false false = omega arith
-
--- the column of what is no input: a gate's, a buffer's, an output's
-module _ (kind : ℕ) (gate : Bool) (h : kind ≡ input → ⊥) (e : gate ≡ is_gate kind) where
-  pub gate_column : gate ≡ true → 1 ≡ column_of kind
-  gate_column t = rw (ne_eqb kind input h, ← e, t)
-
-  pub buffer_column : gate ≡ false → kind ≡ buffer → 2 ≡ column_of kind
-  buffer_column t f = rw (ne_eqb kind input h, ← e, t, eq-eqb kind buffer f)
-
-  pub output_column : gate ≡ false → (kind ≡ buffer → ⊥) → 3 ≡ column_of kind
-  output_column t f = rw (ne_eqb kind input h, ← e, t, ne_eqb kind buffer f)
-
--- a record at a level of at most 4,095 has an entry
-module _ (r : Record) (l : r.level ≤ top_level) (level column : ℕ) (f : level ≡ r.level) (e : column ≡ column_of r.kind) where
-  pub index_fits : columns * level + column < 2 ^ 64
-  index_fits = omega (arith, column_inside r.kind)
-
-  pub index_is : columns * level + column ≡ table_index r
-  index_is = ap₂ (λ (x y : ℕ). columns * x + y) f e
-
-  pub index_low : columns * level + column < table_size
-  index_low = omega (arith, column_inside r.kind)
 
 -- two entries are the same exactly if column and level are
 same_index : (level column k j : ℕ) → column < columns → j < columns →
@@ -101,7 +78,6 @@ module _ (m : Netlist) (c : Countable m) where
 
 -- the records below k are counted
 pub record Counting (m : Netlist) (all : ℕ) (table : List ℕ) (k : ℕ) : Type 0 where
-  pub within : k ≤ all
   pub size : all ≡ m.size
   pub long : length table ≡ table_size
   pub so_far : (x : ℕ) → get_or table x 0 ≡ count (λ i. eqb (table_index (m.at i)) x) k
@@ -110,16 +86,10 @@ module _ (m : Netlist) (all : ℕ) where
   pub counting_start : (table : List ℕ) → all ≡ m.size → table ≡ replicate table_size 0 → Counting m all table 0
   unfolding count sum
   counting_start table e z =
-      record { within = omega arith; size = e; long = ap length z ∙ length-replicate {A = ℕ} table_size 0; so_far = zeros_at table_size table z }
+      record { size = e; long = ap length z ∙ length-replicate {A = ℕ} table_size 0; so_far = zeros_at table_size table z }
 
   module _ (c : Countable m) (table : List ℕ) (k : ℕ) (s : Counting m all table k) where
-    pub table_same : (old : List ℕ) → old ≡ replicate table_size 0 → length table ≡ length old
-    table_same old z = s.long ∙ sym (ap length z ∙ length-replicate {A = ℕ} table_size 0)
-
     module _ (h : k < all) (r : Record) (e : r ≡ m.at k) where
-      pub level_low : r.level ≤ top_level
-      level_low = rw e (c.low k (omega (arith, s.size)))
-
       module _ (x : ℕ) (f : (x ≡ table_index r) × (x < table_size)) where
         pub index_inside : x < length table
         index_inside = omega (arith, f.1, s.long)
@@ -130,7 +100,6 @@ module _ (m : Netlist) (all : ℕ) where
         pub counting_more : Counting m all (set table x (get_or table x 0 + 1)) (k + 1)
         counting_more =
             record {
-              within = omega arith;
               size = s.size;
               long = length-set table x _ ∙ s.long;
               so_far = λ y.
@@ -145,15 +114,15 @@ module _ (m : Netlist) (all : ℕ) where
             }
 
     -- once all are, the table is the counts of every level
-    pub counting_end : all ≤ k → table ≡ table_of m
+    pub counting_end : k ≤ all → all ≤ k → table ≡ table_of m
     unfolding table_of
-    counting_end h =
-        ext_get_or 0 table (joined (counts_at m) levels) (s.long ∙ sym (length_joined (counts_at m) columns (λ i. refl) levels)) (λ x l. entry x (omega (arith, s.long)))
+    counting_end l h =
+        ext_get_or 0 table (joined (counts_at m) levels) (s.long ∙ sym (length_joined (counts_at m) columns (λ i. refl) levels)) (λ x b. entry x (omega (arith, s.long)))
       where
         entry : (x : ℕ) → x < table_size → get_or table x 0 ≡ get_or (joined (counts_at m) levels) x 0
-        entry x l =
+        entry x b =
             let parts : columns * (x / columns) + x % columns ≡ x = omega arith in
-            let k_all : k ≡ m.size = omega (arith, s.size, s.within) in
+            let k_all : k ≡ m.size = omega (arith, s.size) in
             s.so_far x
             ∙ ap (count (λ i. eqb (table_index (m.at i)) x)) k_all
             ∙ ap (λ (y : ℕ). count (λ i. eqb (table_index (m.at i)) y) m.size) (sym parts)
@@ -162,25 +131,26 @@ module _ (m : Netlist) (all : ℕ) where
             ∙ ap (λ (y : ℕ). get_or (joined (counts_at m) levels) y 0) parts
 
 -- one more than the highest level of the records below k
-pub record LinesSoFar (mapped : List ℕ) (all lines k : ℕ) : Type 0 where
-  pub size : all ≡ record_count mapped
-  pub highest : LargestSoFar (λ i. suc (record_at mapped i).level) all lines k
+abbrev pub LinesSoFar : List ℕ → ℕ → ℕ → Type 0
+LinesSoFar mapped lines k = lines ≡ largest (λ i. suc (record_at mapped i).level) k
 
-module _ (mapped : List ℕ) (all : ℕ) where
-  pub lines_start : all ≡ record_count mapped → LinesSoFar mapped all 0 0
-  lines_start e = record { size = e; highest = largest_start (λ i. suc (record_at mapped i).level) all }
+module _ (mapped : List ℕ) where
+  pub lines_start : LinesSoFar mapped 0 0
+  unfolding largest
+  lines_start = refl
 
-  module _ (lines k : ℕ) (s : LinesSoFar mapped all lines k) where
-    pub lines_more : (r : Record) (x next : ℕ) → k < all → r ≡ record_at mapped k → x ≡ r.level → next ≡ max lines (x + 1) → LinesSoFar mapped all next (k + 1)
-    lines_more r x next h e f g =
-        record {
-          size = s.size;
-          highest = largest_more (λ i. suc (record_at mapped i).level) all lines k s.highest (x + 1) next h (add-one x ∙ ap suc (f ∙ ap (λ (q : Record). q.level) e)) g;
-        }
+  module _ (lines k : ℕ) (s : LinesSoFar mapped lines k) where
+    pub lines_more : (r : Record) (x next : ℕ) → r ≡ record_at mapped k → x ≡ r.level → next ≡ max lines (x + 1) → LinesSoFar mapped next (k + 1)
+    unfolding largest
+    lines_more r x next e f g =
+        let level : x + 1 ≡ suc (record_at mapped k).level = add-one x ∙ ap suc (f ∙ ap (λ (q : Record). q.level) e) in
+        g ∙ rw (add-one k, level, s) refl
 
-    pub lines_end : all ≤ k → lines ≡ line_count (netlist mapped)
+    pub lines_end : (all : ℕ) → all ≡ record_count mapped → k ≤ all → all ≤ k → lines ≡ line_count (netlist mapped)
     unfolding line_count
-    lines_end h = largest_end (λ i. suc (record_at mapped i).level) all lines k s.highest h ∙ ap (largest (λ i. suc (record_at mapped i).level)) s.size
+    lines_end all e l h =
+        let q : k ≡ record_count mapped = omega arith in
+        s ∙ ap (largest (λ i. suc (record_at mapped i).level)) q
 
 -- the totals, counted one by one
 module _ (m : Netlist) where

@@ -1,11 +1,11 @@
 -- What a sheet says of a netlist: its lines, its columns and its totals, over the bytes that were handed in.
 use Rattle.std.specs.Prelude.{ℕ, suc, ◌+◌, ◌*◌, ◌-◌, ◌≤◌, ◌<◌, ◌≡◌, ◌↔◌, ◌≢◌, List, [], ◌∷◌, length, get_or, take}
-use Rattle.facts.specs.declared.Checked.TheVariants.{Passed, Refused}
+use Rattle.facts.specs.Answers.{Passed, Refused}
 use Rattle.facts.specs.Sums.{sum}
 use Rattle.netlist.specs.declared.Capacities.{Capacities}
 use Rattle.netlist.specs.Records.{netlist, record_count, record_at}
 use Rattle.netlist.specs.Checks.{input_checks}
-use Rattle.verifier.specs.declared.Verified.TheVariants.{Buffers}
+use Rattle.verifier.specs.Checks.{Buffers}
 use Rattle.verifier.specs.Checks.{verify_answer}
 use Rattle.level_sheet.specs.Counts.{columns, counts_at, totals, line_count}
 use Rattle.level_sheet.specs.Text.{digit_zero, decimal, refusal_line, sheet_text}

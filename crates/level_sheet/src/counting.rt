@@ -20,23 +20,12 @@ pub(crate) const TABLE_SIZE: usize = COLUMNS * LEVELS;
 fn column_of(kind: u8) -> usize
     ensures { result ≡ column_of kind }
 {
-    if kind == INPUT {
-        return 0;
+    match kind {
+        INPUT => 0,
+        _ if netlist::is_gate(kind) => 1,
+        BUFFER => 2,
+        _ => 3,
     }
-    if netlist::is_gate(kind) {
-        return 1;
-    }
-    if kind == BUFFER {
-        return 2;
-    }
-    3
-}
-
-// A level as a wider number; its contract tells callers that it is small.
-fn wide_level(level: u16) -> usize
-    ensures { (result ≡ level) × (result < 65536) }
-{
-    level as usize
 }
 
 // Where in the table a record is counted.
@@ -44,22 +33,17 @@ fn index_of(r: Record) -> usize
     requires { r.level ≤ top_level }
     ensures { (result ≡ table_index r) × (result < table_size) }
 {
-    COLUMNS * wide_level(r.level) + column_of(r.kind)
+    COLUMNS * usize::from(r.level) + column_of(r.kind)
 }
 
 // Every record, counted at its level and in its column.
 pub(crate) fn count_records(mapped: &[u8], table: &mut [u32])
     requires countable { Countable (netlist mapped.now) }
-    requires table_value { table.old ≡ replicate table_size 0 }
+    requires table_before { table.old ≡ replicate table_size 0 }
     ensures { table.new ≡ table_of (netlist mapped.now) }
 {
-    let m = netlist::record_count(mapped);
-    let mut k: usize = 0;
-    while k < m {
-        let r = record_reader::read_at(mapped, k);
-        let x = index_of(r);
-        table[x] += 1;
-        k += 1;
+    for k in 0..netlist::record_count(mapped) {
+        table[index_of(record_reader::read_at(mapped, k))] += 1;
     }
 }
 
@@ -67,13 +51,9 @@ pub(crate) fn count_records(mapped: &[u8], table: &mut [u32])
 pub(crate) fn line_count(mapped: &[u8]) -> usize
     ensures { result ≡ line_count (netlist mapped.now) }
 {
-    let m = netlist::record_count(mapped);
     let mut lines: usize = 0;
-    let mut k: usize = 0;
-    while k < m {
-        let r = record_reader::read_at(mapped, k);
-        lines = facts::larger(lines, wide_level(r.level) + 1);
-        k += 1;
+    for k in 0..netlist::record_count(mapped) {
+        lines = lines.max(usize::from(record_reader::read_at(mapped, k).level) + 1);
     }
     lines
 }

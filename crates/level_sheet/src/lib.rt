@@ -2,13 +2,12 @@
 #![tactic(auto)]
 
 ghost use Rattle.std.specs.Prelude.{◌≡◌, ◌≤◌, length};
-ghost use Rattle.facts.specs.Areas.{onto, put};
+ghost use Rattle.facts.specs.Areas.{onto};
 ghost use Rattle.netlist.specs.Records.{netlist};
 ghost use Rattle.level_sheet.specs.Text.{sheet_of, sheet_text, text_limit};
 ghost use Rattle.level_sheet.specs.PrivateTable.{Countable};
 
 use counting::{LEVELS, TABLE_SIZE};
-use facts::Checked;
 use netlist::Capacities;
 
 mod counting;
@@ -28,13 +27,13 @@ fn put_sheet(mapped: &[u8], text: &mut [u8]) -> usize
     requires countable { Countable (netlist mapped.now) }
     requires text_limit_in_bounds { text_limit ≤ length text.old }
     ensures value { result ≡ length (sheet_of (netlist mapped.now)) }
-    ensures text_after { text.new ≡ put text.old 0 (sheet_of (netlist mapped.now)) }
+    ensures text_after { text.new ≡ onto (sheet_of (netlist mapped.now)) text.old }
 {
     let mut table = [0u32; TABLE_SIZE];
     counting::count_records(mapped, &mut table);
-    let at = writing::put_levels(&table, counting::line_count(mapped), text);
+    let end = writing::put_levels(&table, counting::line_count(mapped), text);
     let totals = counting::count_sorts(mapped);
-    writing::put_sum(&totals, text, at)
+    end + writing::put_sum(&totals, &mut text[end..])
 }
 
 // What is printed of a source, capacities and a mapped netlist, at the start of the text: the sheet where the verifier accepts, else its refusal. Answers its length.
@@ -43,9 +42,8 @@ pub fn write_sheet(source: &[u8], capacities: Capacities, mapped: &[u8], text: &
     ensures value { result ≡ length (sheet_text source.now capacities mapped.now) }
     ensures text_after { text.new ≡ onto (sheet_text source.now capacities mapped.now) text.old }
 {
-    let checked = verifier::check_mapping(source, capacities, mapped);
-    match checked {
-        Checked::Passed => put_sheet(mapped, text),
-        Checked::Refused(number, place) => writing::put_line(number, &[place], text, 0),
+    match verifier::check_mapping(source, capacities, mapped) {
+        Ok(()) => put_sheet(mapped, text),
+        Err(refusal) => writing::put_line(refusal.check.number(), &[refusal.place], text),
     }
 }

@@ -1,11 +1,10 @@
 -- The call's answer from its parts: 1, then 2 to 6, then 22 and 23.
 use Prim.Native.Nat.{ℕ, suc, ◌≤◌}
 use native.Mathlib.Omega.{arith}
-use mathlib.Core.Path.{◌≡◌, sym, ap, ◌∙◌}
+use mathlib.Core.Path.{◌≡◌, refl, sym, ap, ◌∙◌}
 use mathlib.Core.List.{List}
 use lib.ListN.{replicate, length-replicate}
-use Rattle.facts.specs.declared.Checked.{Checked}
-use Rattle.facts.specs.declared.Checked.TheVariants.{Passed, Refused}
+use Rattle.facts.specs.Answers.{Checked, Passed, Refused}
 use Rattle.facts.specs.Checks.{◌and_then◌, unless_refused}
 use Rattle.facts.proofs.Lists.{get_or_replicated}
 use Rattle.facts.proofs.Reflect.{then_assoc, then_go, then_stop, stop_kept, go_written}
@@ -22,32 +21,32 @@ pub zeros_start : Zeros (replicate (suc source_limit) 0)
 zeros_start = record { long = length-replicate {A = ℕ} (suc source_limit) 0; zeros = λ d. get_or_replicated (suc source_limit) d 0 }
 
 -- where 2 to 6 pass, levels can be worked out
-pub unraised : (source : List ℕ) (s : ℕ) (a : Checked) (before reach : List ℕ) → (2 ≤ s) × (s ≤ 4) → Zeros before →
-    SourceCounted source a before reach → a ≡ Passed → Unraised source s reach (replicate source_limit 0)
+pub unraised : (source : List ℕ) (s : ℕ) (before reach : List ℕ) → (2 ≤ s) × (s ≤ 4) → Zeros before →
+    SourceCounted source Passed before reach → Unraised source s reach (replicate source_limit 0)
 unfolding feeds
-unraised source s a before reach cap z c p =
-    let whole = (structured_passed source).0 (sym c.answer ∙ p) in
+unraised source s before reach allowed z c =
+    let whole = (structured_passed source).0 (sym c.answer) in
     let few = whole.structured.few in
     record {
-      unlevelled = record { low = cap.0; high = cap.1; source = whole };
+      unlevelled = record { low = allowed.0; high = allowed.1; source = whole };
       raised =
           record {
             room = omega (arith, few, z.long, c.long);
             below = λ d l. absurd (omega arith);
-            rest = λ d l h. (c.counted p).at d h;
+            rest = λ d l h. (c.counted refl).at d h;
           };
       enough = omega (arith, few, length-replicate {A = ℕ} source_limit 0);
     }
 
 -- 1, then the rest
-module _ (s : ℕ) (a : Checked) (e : a ≡ capacity_check s) (p : a ≡ Passed) where
+module _ (s : ℕ) (p : Passed ≡ capacity_check s) where
   pub allowed_low : 2 ≤ s
-  allowed_low = ((capacity_passed s).0 (sym e ∙ p)).0
+  allowed_low = ((capacity_passed s).0 (sym p)).0
 
   pub allowed_high : s ≤ 4
-  allowed_high = ((capacity_passed s).0 (sym e ∙ p)).1
+  allowed_high = ((capacity_passed s).0 (sym p)).1
 
-module _ (source : List ℕ) (s : ℕ) (area : List ℕ) (a : Checked) (e : a ≡ capacity_check s) where
+module _ (source : List ℕ) (s : ℕ) (area : List ℕ) where
   abbrev rest : Checked
   rest = structure_checks source and_then least_checks source s area
 
@@ -55,21 +54,22 @@ module _ (source : List ℕ) (s : ℕ) (area : List ℕ) (a : Checked) (e : a �
   unfolding levels_answer
   whole = sym (then_assoc (capacity_check s) (structure_checks source) (least_checks source s area))
 
-  pub allowed_answered : (b : Checked) → a ≡ Passed → b ≡ (structure_checks source and_then least_checks source s area) → b ≡ levels_answer source s area
-  allowed_answered b p f = then_go a (capacity_check s) rest e b p f ∙ whole
+  module _ (p : Passed ≡ capacity_check s) where
+    pub allowed_answered : (b : Checked) → b ≡ (structure_checks source and_then least_checks source s area) → b ≡ levels_answer source s area
+    allowed_answered b f = then_go (capacity_check s) rest b p f ∙ whole
 
-  pub allowed_written : (after : List ℕ) → a ≡ Passed → after ≡ unless_refused (structure_checks source and_then least_checks source s area) (least_copy source s) area →
-      after ≡ levels_area source s area
-  unfolding levels_area
-  allowed_written after p f =
-      go_written a (capacity_check s) rest e (least_copy source s) area after p f ∙ ap (λ (c : Checked). unless_refused c (least_copy source s) area) whole
+    pub allowed_written : (after : List ℕ) → after ≡ unless_refused (structure_checks source and_then least_checks source s area) (least_copy source s) area →
+        after ≡ levels_area source s area
+    unfolding levels_area
+    allowed_written after f =
+        go_written (capacity_check s) rest (least_copy source s) area after p f ∙ ap (λ (c : Checked). unless_refused c (least_copy source s) area) whole
 
-  module _ (number place : ℕ) (p : a ≡ Refused number place) where
+  module _ (number place : ℕ) (p : Refused number place ≡ capacity_check s) where
     pub capacity_refused : Refused number place ≡ levels_answer source s area
-    capacity_refused = then_stop a (capacity_check s) rest e number place p ∙ whole
+    capacity_refused = then_stop (capacity_check s) rest number place p ∙ whole
 
     pub capacity_kept : area ≡ levels_area source s area
     unfolding levels_area
     capacity_kept =
-        stop_kept a (capacity_check s) rest e (least_copy source s) area number place p
+        stop_kept (capacity_check s) rest (least_copy source s) area number place p
         ∙ ap (λ (c : Checked). unless_refused c (least_copy source s) area) whole

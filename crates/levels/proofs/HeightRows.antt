@@ -6,14 +6,14 @@ use native.Mathlib.Omega.{arith}
 use mathlib.Core.Path.{◌≡◌, sym, ap, subst, ◌∙◌}
 use mathlib.Core.Bool.{Bool, false, cond, not, ◌||◌}
 use mathlib.Core.List.{List, []}
-use lib.Dec.{ltb, eqb}
+use lib.Dec.{leb, ltb, eqb}
 use lib.ListN.{length, get_or}
 use lib.Seq.{ext_get_or}
 use borrow.Author.Tests.{leb-true, le-leb, lt-ltb, le-ltb}
 use Rattle.facts.specs.Sums.{any}
 use Rattle.facts.proofs.Sums.{any_none}
 use Rattle.facts.proofs.Lists.{length_tabulate, get_d_tabulate}
-use Rattle.facts.proofs.Loops.{seek_true, seek_least}
+use Rattle.facts.proofs.Loops.{seek_within, seek_true, seek_least}
 use Rattle.facts.proofs.Reflect.{or_none, unlike_none}
 use Rattle.fanout.specs.Nets.{sink_limit}
 use Rattle.levels.specs.Levels.{height}
@@ -60,6 +60,11 @@ looked_up_least : (row : List ℕ) (n h : ℕ) → n ≤ get_or row h 0 → heig
 unfolding height_in
 looked_up_least row n h l = seek_least _ 0 heights h (omega arith) (le-leb n (get_or row h 0) l)
 
+-- and is 15 at the most
+pub height_few : (row : List ℕ) (n h : ℕ) → h ≡ height_in row n → h ≤ heights
+unfolding height_in
+height_few row n h e = omega (arith, e, seek_within (λ i. leb n (get_or row i 0)) 0 heights)
+
 module _ (s n : ℕ) (two : 2 ≤ s) (few : n ≤ sink_limit) where
   entry : (h : ℕ) → h < heights → get_or (height_row s) h 0 ≡ most_sinks s h
   entry h l = get_d_tabulate (most_sinks s) heights h 0 l
@@ -84,43 +89,34 @@ module _ (s n : ℕ) (two : 2 ≤ s) (few : n ≤ sink_limit) where
         | no g ↦ omega (arith, in_row)
       ]
 
-  pub row_has : (row : List ℕ) → row ≡ height_row s → height_in row n < heights
-  row_has row e = rw e in_row
-
 pub looked_up : LookedUp
 looked_up s n two few = omega (arith, not_lower s n two few, not_higher s n two few)
 
--- a row in which some entry is at least n
-module _ (row : List ℕ) (n : ℕ) (has : height_in row n < heights) where
-  -- no height below h is the one
-  module _ (h : ℕ) (low : h ≤ height_in row n) where
-    above : get_or row h 0 < n → h < height_in row n
-    above l =
-        elim (dec_lt h (height_in row n)) [
-          | yes b ↦ b
-          | no g ↦
-              let e : height_in row n ≡ h = omega arith in
-              absurd (omega (arith, subst (λ (i : ℕ). n ≤ get_or row i 0) e (looked_up_enough row n has)))
-        ]
+-- a row in which some entry is at least n, and no height below h is the one
+module _ (row : List ℕ) (n : ℕ) (has : height_in row n < heights) (h : ℕ) (low : h ≤ height_in row n) where
+  above : get_or row h 0 < n → h < height_in row n
+  above l =
+      elim (dec_lt h (height_in row n)) [
+        | yes b ↦ b
+        | no g ↦
+            let e : height_in row n ≡ h = omega arith in
+            absurd (omega (arith, subst (λ (i : ℕ). n ≤ get_or row i 0) e (looked_up_enough row n has)))
+      ]
 
-    pub look_on : get_or row h 0 < n → h + 1 ≤ height_in row n
-    look_on l = omega (arith, above l)
+  -- what is picked at h, of which y need be right only if the height is above h
+  picked : (y : ℕ) → (h < height_in row n → y ≡ suc (height_in row n)) → cond (ltb (get_or row h 0) n) y (suc h) ≡ suc (height_in row n)
+  picked y rest =
+      elim (dec_lt (get_or row h 0) n) [
+        | yes b ↦ rw (lt-ltb (get_or row h 0) n b) (rest (above b))
+        | no g ↦
+            let e : h ≡ height_in row n = omega (arith, low, looked_up_least row n h (omega arith)) in
+            rw (le-ltb (get_or row h 0) n (omega arith)) (ap suc e)
+      ]
 
-    pub look_less : get_or row h 0 < n → height_in row n - (h + 1) < height_in row n - h
-    look_less l = omega (arith, above l)
-
-    pub look_end : n ≤ get_or row h 0 → h ≡ height_in row n
-    look_end l = omega (arith, low, looked_up_least row n h l)
-
-    -- what is picked at h, of which y need be right only if the height is above h
-    picked : (y : ℕ) → (h < height_in row n → y ≡ suc (height_in row n)) → cond (ltb (get_or row h 0) n) y (suc h) ≡ suc (height_in row n)
-    picked y rest =
-        elim (dec_lt (get_or row h 0) n) [
-          | yes b ↦ rw (lt-ltb (get_or row h 0) n b) (rest (above b))
-          | no g ↦ rw (le-ltb (get_or row h 0) n (omega arith)) (ap suc (look_end (omega arith)))
-        ]
-
-  pub rise_of_few : (x y z : ℕ) → n ≤ get_or row 3 0 → z ≡ cond (ltb (get_or row 2 0) n) 4 3 → y ≡ cond (ltb (get_or row 1 0) n) z 2 →
-      x ≡ cond (ltb (get_or row 0 0) n) y 1 → x ≡ suc (height_in row n)
-  rise_of_few x y z l p q r =
-      r ∙ rw (q, p) (picked 0 (omega arith) _ (λ a. picked 1 a _ (λ b. picked 2 b _ (λ c. omega (arith, looked_up_least row n 3 l)))))
+-- few sinks are compared with the first entries
+pub rise_of_few : (row : List ℕ) (n x y z : ℕ) → n ≤ get_or row 3 0 → z ≡ cond (ltb (get_or row 2 0) n) 4 3 → y ≡ cond (ltb (get_or row 1 0) n) z 2 →
+    x ≡ cond (ltb (get_or row 0 0) n) y 1 → x ≡ suc (height_in row n)
+rise_of_few row n x y z l p q r =
+    let three : height_in row n ≤ 3 = looked_up_least row n 3 l in
+    let has : height_in row n < heights = omega (arith, three) in
+    r ∙ rw (q, p) (picked row n has 0 (omega arith) _ (λ a. picked row n has 1 a _ (λ b. picked row n has 2 b _ (λ c. omega (arith, three)))))

@@ -1,33 +1,33 @@
 -- Laws of checks 22 and 23 and of the copy, by levels in an array.
-use Prim.Native.Nat.{ℕ, ◌+◌, ◌*◌, ◌≤◌, ◌<◌}
+use Prim.Native.Nat.{ℕ, ◌+◌, ◌≤◌, ◌<◌}
 use native.Mathlib.Numerals.{add-one}
 use native.Mathlib.Omega.{arith}
 use mathlib.Core.Path.{◌≡◌, refl, sym, ap, ◌∙◌}
 use mathlib.Core.List.{List}
-use lib.ListN.{length, get_or}
+use lib.ListN.{length, get_or, take}
+use Rattle.std.proofs.lemmas.List.{get_or-take, length-take}
 use lib.Dec.{ltb}
 use borrow.Author.Tests.{lt-ltb, le-ltb, eq-eqb, ne_eqb}
-use Rattle.facts.specs.declared.Checked.{Checked}
-use Rattle.facts.specs.declared.Checked.TheVariants.{Passed, Refused}
+use Rattle.facts.specs.Answers.{Checked, Passed, Refused}
 use Rattle.facts.specs.Checks.{check, ◌and_then◌, unless_refused, scan}
 use Rattle.facts.specs.Sums.{largest}
 use Rattle.facts.proofs.Loops.{Scanning, scan_more, scan_stop, scan_cong}
 use Rattle.facts.proofs.Reflect.{check_passed, scan_passed}
 use Rattle.facts.proofs.Sums.{le_largest}
-use Rattle.netlist.specs.Kinds.{width, top_level}
+use Rattle.netlist.specs.Kinds.{top_level}
 use Rattle.netlist.specs.Records.{record_count}
 use Rattle.netlist.specs.Bytes.{with_level, with_levels}
-use Rattle.netlist.proofs.Levels.{length_levels, levels_cong}
+use Rattle.netlist.proofs.Levels.{levels_cong}
 use Rattle.levels.specs.Levels.{high_check, length_check, copy_checks, levelled}
 use Rattle.levels.specs.PrivateLevels.{entries}
 
 -- 22, record by record
 module _ (levels : List ℕ) (n k : ℕ) (c : Scanning (high_check (entries levels)) n k) (h : k < n) where
   pub high_here : top_level < get_or levels k 0 → Refused 22 k ≡ scan (high_check (entries levels)) 0 n
-  high_here g = scan_stop (high_check (entries levels)) n k 22 k (Refused 22 k) c h (rw (lt-ltb top_level (get_or levels k 0) g)) refl
+  high_here g = scan_stop (high_check (entries levels)) n k 22 k c h (rw (lt-ltb top_level (get_or levels k 0) g))
 
   pub low_here : get_or levels k 0 ≤ top_level → Scanning (high_check (entries levels)) n (k + 1)
-  low_here g = scan_more (high_check (entries levels)) n k Passed c h (rw (le-ltb top_level (get_or levels k 0) g)) refl
+  low_here g = scan_more (high_check (entries levels)) n k c h (rw (le-ltb top_level (get_or levels k 0) g))
 
 -- where the largest level is not too high, none is
 pub all_low : (levels : List ℕ) (n high : ℕ) → high ≡ largest (entries levels) n → high ≤ top_level → Passed ≡ scan (high_check (entries levels)) 0 n
@@ -35,35 +35,18 @@ all_low levels n high e h =
     sym ((scan_passed (high_check (entries levels)) n).1
     (λ k l. (check_passed 22 k _).1 (le-ltb top_level (get_or levels k 0) (omega (arith, le_largest (entries levels) k n l)))))
 
--- the levels of the records below k are written
-pub record LevelsWrittenBelow (level : ℕ → ℕ) (source : List ℕ) (n k : ℕ) (area : List ℕ) : Type 0 where
-  pub all : n ≡ record_count source
-  pub within : k ≤ n
-  pub so_far : area ≡ with_levels level source k
-
-module _ (level : ℕ → ℕ) (source : List ℕ) (n : ℕ) where
-  pub written_start : (area : List ℕ) → n ≡ record_count source → area ≡ source → LevelsWrittenBelow level source n 0 area
+-- the levels of the records below k are written, k the next of the first n levels
+module _ (levels source : List ℕ) where
+  pub written_start : (area : List ℕ) → area ≡ source → area ≡ with_levels (entries levels) source 0
   unfolding with_levels
-  written_start area e f = record { all = e; within = omega arith; so_far = f }
+  written_start area e = e
 
-  module _ (k : ℕ) (area : List ℕ) (c : LevelsWrittenBelow level source n k area) where
-    written_length : length area ≡ length source
-    written_length = ap length c.so_far ∙ length_levels level source k (omega (arith, c.all, c.within))
-
-    pub written_same : (old : List ℕ) → length old ≡ length source → length area ≡ length old
-    written_same old e = written_length ∙ sym e
-
-    pub written_room : k < n → width * k + width ≤ length area
-    written_room h = omega (arith, c.all, written_length)
-
-    pub written_more : (after : List ℕ) → k < n → after ≡ with_level area k (level k) → LevelsWrittenBelow level source n (k + 1) after
-    unfolding with_levels
-    written_more after h p = record { all = c.all; within = omega arith; so_far = p ∙ rw (add-one k, c.so_far) refl }
-
-    pub written_end : n ≤ k → area ≡ levelled level source
-    written_end h =
-        let e : k ≡ record_count source = omega (arith, c.all, c.within) in
-        c.so_far ∙ ap (with_levels level source) e
+  pub written_more : (n k : ℕ) (area after : List ℕ) → area ≡ with_levels (entries levels) source k → k < length (take n levels) →
+      after ≡ with_level area k (get_or (take n levels) k 0) → after ≡ with_levels (entries levels) source (k + 1)
+  unfolding with_levels
+  written_more n k area after c h p =
+      let level : get_or (take n levels) k 0 ≡ entries levels k = get_or-take n levels k 0 (omega (arith, length-take n levels)) in
+      p ∙ rw (add-one k, level, c) refl
 
 -- 23, then the copy
 module _ (source area : List ℕ) where

@@ -8,8 +8,7 @@ use mathlib.Core.List.{List}
 use lib.ListN.{length}
 use lib.Dec.{ltb}
 use borrow.Author.Tests.{ltb-true, ltb-false, lt-ltb}
-use Rattle.facts.specs.declared.Checked.{Checked}
-use Rattle.facts.specs.declared.Checked.TheVariants.{Passed, Refused}
+use Rattle.facts.specs.Answers.{Checked, Passed, Refused}
 use Rattle.facts.specs.Checks.{◌and_then◌, scan}
 use Rattle.facts.specs.Refusals.{Conditions, row_of, Fails, ◌or◌, Each, First, FirstAt}
 use Rattle.facts.proofs.Reflect.{unlike, check_passed, then_passed, scan_passed}

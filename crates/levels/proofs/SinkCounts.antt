@@ -7,8 +7,7 @@ use mathlib.Core.Path.{◌≡◌, refl, sym, ap, subst, ◌∙◌}
 use mathlib.Core.List.{List}
 use lib.ListN.{length, get_or, set, length-set, get_or-eq_default}
 use lib.Dec.{eqb}
-use Rattle.facts.specs.declared.Checked.{Checked}
-use Rattle.facts.specs.declared.Checked.TheVariants.{Passed, Refused}
+use Rattle.facts.specs.Answers.{Checked, Passed, Refused}
 use Rattle.facts.specs.Checks.{scan}
 use Rattle.facts.specs.Sums.{bit, sum, count, count₂}
 use Rattle.facts.proofs.Lists.{added_at}
@@ -25,65 +24,50 @@ use Rattle.netlist.proofs.Source.{size_passed}
 use Rattle.levels.specs.PrivateSinks.{SlotsFit, SinksAdded, SinksSoFar, Counting, RecordCounted, Uncounted, RecordsCounted, Zeros, SourceCounted}
 
 -- the first j slots are counted, of those that fit
-pub record Adding (r : Record) (used j : ℕ) (before sinks : List ℕ) : Type 0 where
-  pub within : j ≤ used
-  pub added : SinksAdded r j before sinks
-
 module _ (r : Record) (used : ℕ) (before : List ℕ) where
-  pub adding_start : Adding r used 0 before before
+  pub adding_start : SinksAdded r 0 before before
   unfolding count sum
-  adding_start = record { within = omega arith; added = record { long = refl; at = λ d. omega arith } }
+  adding_start = record { long = refl; at = λ d. omega arith }
 
-  module _ (j : ℕ) (sinks : List ℕ) (c : Adding r used j before sinks) where
-    pub adding_same : length sinks ≡ length before
-    adding_same = c.added.long
+  module _ (j : ℕ) (sinks : List ℕ) (c : SinksAdded r j before sinks) (fit : SlotsFit r used before) (h : j < used)
+      (x d : ℕ) (p : x ≡ slot r j) (q : d ≡ x) where
+    sink_inside : d < length sinks
+    sink_inside = omega (arith, fit.inside j h, c.long)
 
-    module _ (fit : SlotsFit r used before) (h : j < used) (x d : ℕ) (p : x ≡ slot r j) (q : d ≡ x) where
-      pub sink_inside : d < length sinks
-      sink_inside = omega (arith, fit.inside j h, c.added.long)
+    pub sink_fits : get_or sinks d 0 + 1 < 65536
+    sink_fits = omega (arith, c.at d, fit.room d, few)
+      where
+        few : count (λ i. eqb (slot r i) d) j < used
+        few = omega (arith, count_le (λ i. eqb (slot r i) d) j)
 
-      pub sink_fits : get_or sinks d 0 + 1 < 65536
-      sink_fits = omega (arith, c.added.at d, fit.room d, few)
-        where
-          few : count (λ i. eqb (slot r i) d) j < used
-          few = omega (arith, count_le (λ i. eqb (slot r i) d) j)
-
-      pub adding_more : Adding r used (j + 1) before (set sinks d (get_or sinks d 0 + 1))
-      adding_more =
-          record {
-            within = omega arith;
-            added =
-                record {
-                  long = length-set sinks d _ ∙ c.added.long;
-                  at = λ y.
-                      added_at sinks d y sink_inside
-                      ∙ omega (
-                        arith,
-                        c.added.at y,
-                        ap (count (λ i. eqb (slot r i) y)) (add-one j),
-                        count_suc (λ i. eqb (slot r i) y) j,
-                        ap (λ (z : ℕ). bit (eqb z y)) (q ∙ p),
-                      );
-                };
-          }
-
-    pub adding_end : used ≤ j → SinksAdded r used before sinks
-    adding_end h = let e : used ≡ j = omega (arith, c.within) in rw e c.added
+    pub adding_more : SinksAdded r (j + 1) before (set sinks d (get_or sinks d 0 + 1))
+    adding_more =
+        record {
+          long = length-set sinks d _ ∙ c.long;
+          at = λ y.
+              added_at sinks d y sink_inside
+              ∙ omega (
+                arith,
+                c.at y,
+                ap (count (λ i. eqb (slot r i) y)) (add-one j),
+                count_suc (λ i. eqb (slot r i) y) j,
+                ap (λ (z : ℕ). bit (eqb z y)) (q ∙ p),
+              );
+        }
 
 -- record k, by the answer of its checks
-module _ (source : List ℕ) (k : ℕ) (sinks : List ℕ) (c : Counting source k sinks) (r : Record) (e : r ≡ record_at source k)
-    (a : Checked) (g : a ≡ structure_of (netlist source) k r) where
-  answer_is : a ≡ structure_at (netlist source) k
-  answer_is = g ∙ ap (structure_of (netlist source) k) e
+module _ (source : List ℕ) (k : ℕ) (sinks : List ℕ) (c : Counting source k sinks) (r : Record) (e : r ≡ record_at source k) where
+  answer_is : (a : Checked) → a ≡ structure_of (netlist source) k r → a ≡ structure_at (netlist source) k
+  answer_is a g = g ∙ ap (structure_of (netlist source) k) e
 
-  module _ (used : ℕ) (f : used ≡ arity r.kind) where
-    pub slots_fit : a ≡ Passed → SlotsFit r used sinks
-    slots_fit p =
+  module _ (g : Passed ≡ structure_of (netlist source) k r) (used : ℕ) (f : used ≡ arity r.kind) where
+    pub slots_fit : SlotsFit r used sinks
+    slots_fit =
         record {
           inside = λ j h.
               omega (
                 arith,
-                fanin_inside (netlist source) k r j (slot r j) used refl f (record_count source) c.present h (slots_good (netlist source) k r a g p),
+                fanin_inside (netlist source) k r j (slot r j) used refl f (record_count source) c.present h (slots_good (netlist source) k r Passed g refl),
                 c.long,
               );
           room = λ d. elim (dec_lt d (length sinks)) [
@@ -92,11 +76,11 @@ module _ (source : List ℕ) (k : ℕ) (sinks : List ℕ) (c : Counting source k
           ];
         }
 
-    pub record_counted : (after : List ℕ) → a ≡ Passed → SinksAdded r used sinks after → RecordCounted source k Passed sinks after
+    pub record_counted : (after : List ℕ) → SinksAdded r used sinks after → RecordCounted source k Passed sinks after
     unfolding count₂ sum
-    record_counted after p s =
+    record_counted after s =
         record {
-          answer = sym p ∙ answer_is;
+          answer = answer_is Passed g;
           long = s.long;
           counted = λ _. record { at = λ d l. omega (arith, s.at d, c.so_far.at d (omega (arith, s.long)), here d) };
         }
@@ -105,9 +89,9 @@ module _ (source : List ℕ) (k : ℕ) (sinks : List ℕ) (c : Counting source k
         here d =
             rw (f, e) (count_used (λ i. eqb (slot (record_at source k) i) d) (arity (record_at source k).kind) slots (arity_slots (record_at source k).kind))
 
-  pub record_refused : (number place : ℕ) → a ≡ Refused number place → RecordCounted source k (Refused number place) sinks sinks
+  pub record_refused : (number place : ℕ) → Refused number place ≡ structure_of (netlist source) k r → RecordCounted source k (Refused number place) sinks sinks
   record_refused number place p =
-      record { answer = sym p ∙ answer_is; long = refl; counted = λ h. absurd (passed_refused number place (sym h)) }
+      record { answer = answer_is (Refused number place) p; long = refl; counted = λ h. absurd (passed_refused number place (sym h)) }
 
 -- the records below k are checked and counted
 pub record CountedBelow (source : List ℕ) (n k : ℕ) (before sinks : List ℕ) : Type 0 where
@@ -139,30 +123,31 @@ module _ (source : List ℕ) (n : ℕ) (before : List ℕ) where
     counted_next h =
         record { present = omega (arith, c.all); few = c.few; long = omega (arith, c.room, c.long); so_far = c.so_far }
 
-    module _ (h : k < n) (a : Checked) (after : List ℕ) (d : RecordCounted source k a sinks after) where
-      pub counted_more : a ≡ Passed → CountedBelow source n (k + 1) before after
-      counted_more p =
+    module _ (h : k < n) (after : List ℕ) where
+      pub counted_more : RecordCounted source k Passed sinks after → CountedBelow source n (k + 1) before after
+      counted_more d =
           record {
             all = c.all;
             few = c.few;
             room = c.room;
             long = d.long ∙ c.long;
-            so_far = rw (add-one k) (d.counted p);
-            rest = scan_more (structure_at (netlist source)) n k a c.rest h d.answer p;
+            so_far = rw (add-one k) (d.counted refl);
+            rest = scan_more (structure_at (netlist source)) n k c.rest h d.answer;
           }
 
-      pub counted_longer : length after ≡ length before
-      counted_longer = d.long ∙ c.long
+      module _ (number place : ℕ) (d : RecordCounted source k (Refused number place) sinks after) where
+        pub counted_longer : length after ≡ length before
+        counted_longer = d.long ∙ c.long
 
-      pub counted_stop : (number place : ℕ) → a ≡ Refused number place → RecordsCounted source (Refused number place) before after
-      counted_stop number place p =
-          record {
-            answer =
-                scan_stop (structure_at (netlist source)) n k number place a c.rest h d.answer p
-                ∙ ap (scan (structure_at (netlist source)) 0) c.all;
-            long = counted_longer;
-            counted = λ q. absurd (passed_refused number place (sym q));
-          }
+        pub counted_stop : RecordsCounted source (Refused number place) before after
+        counted_stop =
+            record {
+              answer =
+                  scan_stop (structure_at (netlist source)) n k number place c.rest h d.answer
+                  ∙ ap (scan (structure_at (netlist source)) 0) c.all;
+              long = counted_longer;
+              counted = λ q. absurd (passed_refused number place (sym q));
+            }
 
     pub counted_end : n ≤ k → RecordsCounted source Passed before sinks
     counted_end h =
@@ -174,10 +159,10 @@ module _ (source : List ℕ) (n : ℕ) (before : List ℕ) where
         }
 
 -- 2 and 3, then the records
-module _ (source sinks : List ℕ) (z : Zeros sinks) (a : Checked) (e : a ≡ size_checks source) where
-  module _ (p : a ≡ Passed) (n : ℕ) (f : n ≡ record_count source) where
+module _ (source sinks : List ℕ) (z : Zeros sinks) where
+  module _ (p : Passed ≡ size_checks source) (n : ℕ) (f : n ≡ record_count source) where
     few : record_count source ≤ source_limit
-    few = ((size_passed source).0 (sym e ∙ p)).1
+    few = ((size_passed source).0 (sym p)).1
 
     pub count_fits : n < 2 ^ 32
     count_fits = omega (arith, few)
@@ -185,12 +170,12 @@ module _ (source sinks : List ℕ) (z : Zeros sinks) (a : Checked) (e : a ≡ si
     pub uncounted : Uncounted source n sinks
     uncounted = record { all = f; few = few; long = omega (arith, few, z.long); zeros = z.zeros }
 
-  pub structure_passed : (b : Checked) (after : List ℕ) → a ≡ Passed → RecordsCounted source b sinks after → SourceCounted source b sinks after
+  pub structure_passed : (b : Checked) (after : List ℕ) → Passed ≡ size_checks source → RecordsCounted source b sinks after → SourceCounted source b sinks after
   unfolding structure_checks
   structure_passed b after p c =
-      record { answer = then_go a (size_checks source) _ e b p c.answer; long = c.long; counted = c.counted }
+      record { answer = then_go (size_checks source) _ b p c.answer; long = c.long; counted = c.counted }
 
-  pub structure_refused : (number place : ℕ) → a ≡ Refused number place → SourceCounted source (Refused number place) sinks sinks
+  pub structure_refused : (number place : ℕ) → Refused number place ≡ size_checks source → SourceCounted source (Refused number place) sinks sinks
   unfolding structure_checks
   structure_refused number place p =
-      record { answer = then_stop a (size_checks source) _ e number place p; long = refl; counted = λ h. absurd (passed_refused number place (sym h)) }
+      record { answer = then_stop (size_checks source) _ number place p; long = refl; counted = λ h. absurd (passed_refused number place (sym h)) }

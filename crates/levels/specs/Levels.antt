@@ -1,6 +1,6 @@
 -- Specification 2.7, 4.10: the least levels as they are worked out, the call's answer, and what its area holds afterwards.
 use Rattle.std.specs.Prelude.{ℕ, zero, suc, ◌+◌, ◌^◌, Bool, cond, not, List, [], ◌∷◌, ◌++◌, length, get_or, ltb, leb, eqb}
-use Rattle.facts.specs.declared.Checked.{Checked}
+use Rattle.facts.specs.Answers.{Checked}
 use Rattle.facts.specs.Checks.{check, ◌and_then◌, unless_refused, scan}
 use Rattle.facts.specs.Sums.{largest, seek}
 use Rattle.netlist.specs.Kinds.{top_level, arity}

@@ -1,7 +1,6 @@
 -- For functions inside the engine alone: each record's number of sinks in a local array, while records are checked.
 use Rattle.std.specs.Prelude.{ℕ, suc, ◌+◌, ◌≤◌, ◌<◌, ◌≡◌, List, length, get_or, eqb}
-use Rattle.facts.specs.declared.Checked.{Checked}
-use Rattle.facts.specs.declared.Checked.TheVariants.{Passed}
+use Rattle.facts.specs.Answers.{Checked, Passed}
 use Rattle.facts.specs.Checks.{scan}
 use Rattle.facts.specs.Sums.{count, count₂}
 use Rattle.netlist.specs.declared.Record.{Record}

@@ -1,6 +1,6 @@
 -- What is promised of the least levels: over any source bytes, whatever their levels hold.
 use Rattle.std.specs.Prelude.{ℕ, suc, ◌%◌, ◌≤◌, ◌<◌, ◌≡◌, ◌↔◌, ◌≢◌, List, length, get_or}
-use Rattle.facts.specs.declared.Checked.TheVariants.{Passed, Refused}
+use Rattle.facts.specs.Answers.{Passed, Refused}
 use Rattle.facts.specs.Refusals.{Conditions, Fails, ◌or◌, Each, Exact}
 use Rattle.netlist.specs.Kinds.{width, top_level}
 use Rattle.netlist.specs.Records.{Netlist, netlist, record_count, record_at}

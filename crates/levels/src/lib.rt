@@ -2,12 +2,13 @@
 #![tactic(auto)]
 
 ghost use Rattle.std.specs.Prelude.{◌≡◌, ◌≤◌};
+ghost use Rattle.facts.specs.Answers.{numbered};
 ghost use Rattle.facts.specs.Checks.{◌and_then◌, unless_refused};
 ghost use Rattle.netlist.specs.Checks.{structure_checks};
 ghost use Rattle.levels.specs.Levels.{least_checks, least_copy, levels_answer, levels_area};
 ghost use Rattle.levels.specs.PrivateLevels.{Unraised};
 
-use facts::Checked;
+use facts::Refusal;
 use netlist::SOURCE_LIMIT;
 
 mod counting;
@@ -25,9 +26,9 @@ fn level_counted(
     reach: &mut [u16],
     levels: &mut [u16],
     area: &mut [u8],
-) -> Checked
+) -> Result<(), Refusal>
     requires { Unraised source.now capacity reach.old levels.old }
-    ensures value { result ≡ least_checks source.now capacity area.old }
+    ensures value { numbered result ≡ least_checks source.now capacity area.old }
     ensures area_after { area.new ≡ unless_refused (least_checks source.now capacity area.old) (least_copy source.now capacity) area.old }
 {
     let n = netlist::record_count(source) as u32;
@@ -37,30 +38,22 @@ fn level_counted(
 }
 
 // Checks 2 to 6, 22 and 23; accepted, the source with its least levels.
-fn level_source(source: &[u8], capacity: u32, area: &mut [u8]) -> Checked
+fn level_source(source: &[u8], capacity: u32, area: &mut [u8]) -> Result<(), Refusal>
     requires { (2 ≤ capacity) × (capacity ≤ 4) }
-    ensures value { result ≡ (structure_checks source.now and_then least_checks source.now capacity area.old) }
+    ensures value { numbered result ≡ (structure_checks source.now and_then least_checks source.now capacity area.old) }
     ensures area_after { area.new ≡ unless_refused (structure_checks source.now and_then least_checks source.now capacity area.old) (least_copy source.now capacity) area.old }
 {
     let mut reach = [0u16; ENTRIES];
-    let checked = counting::check_structured(source, &mut reach);
-    match checked {
-        Checked::Passed => {
-            let mut levels = [0u16; SOURCE_LIMIT];
-            level_counted(source, capacity, &mut reach, &mut levels, area)
-        }
-        Checked::Refused(number, place) => Checked::Refused(number, place),
-    }
+    counting::check_structured(source, &mut reach)?;
+    let mut levels = [0u16; SOURCE_LIMIT];
+    level_counted(source, capacity, &mut reach, &mut levels, area)
 }
 
 // Least levels: checks 1 to 6, 22 and 23; accepted, the area holds the source with its least levels.
-pub fn assign_levels(source: &[u8], capacity: u32, area: &mut [u8]) -> Checked
-    ensures answer { result ≡ levels_answer source.now capacity area.old }
+pub fn assign_levels(source: &[u8], capacity: u32, area: &mut [u8]) -> Result<(), Refusal>
+    ensures answer { numbered result ≡ levels_answer source.now capacity area.old }
     ensures area { area.new ≡ levels_area source.now capacity area.old }
 {
-    let allowed = netlist::check_capacity(capacity);
-    match allowed {
-        Checked::Passed => level_source(source, capacity, area),
-        Checked::Refused(number, place) => Checked::Refused(number, place),
-    }
+    netlist::check_capacity(capacity)?;
+    level_source(source, capacity, area)
 }

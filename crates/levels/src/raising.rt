@@ -1,36 +1,19 @@
 // Levels worked out (specification 2.7): how low each record may stand over its fanins.
-ghost use Rattle.std.specs.Prelude.{◌≡◌, cond, suc, ◌+◌, max, ◌≤◌, ◌<◌, eqb, length};
+ghost use Rattle.std.specs.Prelude.{◌≡◌, ◌≤◌, length};
 ghost use Rattle.facts.specs.Sums.{largest};
-ghost use Rattle.netlist.specs.Kinds.{slots, output};
+ghost use Rattle.netlist.specs.Kinds.{slots};
 ghost use Rattle.netlist.specs.Records.{netlist, record_count};
-ghost use Rattle.levels.specs.HeightTable.{heights, height_in};
 ghost use Rattle.levels.specs.PrivateLevels.{entry_place, fanin_entry, EntriesInside, Unraised, WorkedOut, WithOutputs};
 
 use crate::height_table;
-use crate::height_table::HEIGHTS;
-use netlist::{OUTPUT, Record, SLOTS, UNUSED};
-
-// The larger of two levels.
-pub(crate) fn larger(a: u16, b: u16) -> u16
-    ensures { result ≡ max a b }
-{
-    if a < b { b } else { a }
-}
-
-// How low the sinks of a record may stand, by its own level and their number.
-fn sink_level(row: &[u16; HEIGHTS], level: u16, sinks: u16) -> u16
-    requires sinks_bound { height_in row.now sinks < heights }
-    requires sinks_bound_2 { level + suc (height_in row.now sinks) < 65536 }
-    ensures { result ≡ level + suc (height_in row.now sinks) }
-{
-    (level as usize + height_table::rise(row, sinks)) as u16
-}
+use netlist::{OUTPUT, Record, UNUSED};
+use std::hint::select_unpredictable;
 
 // Where a slot's fanin has its entry: an unused slot has entry n.
 fn entry_of(slot: u16, n: usize) -> usize
     ensures { result ≡ entry_place n slot }
 {
-    if slot == UNUSED { n } else { slot as usize }
+    if slot == UNUSED { n } else { usize::from(slot) }
 }
 
 // The largest entry of a record's slots.
@@ -39,10 +22,8 @@ fn over_fanins(reach: &[u16], n: usize, r: Record) -> u16
     ensures { result ≡ largest (fanin_entry reach.now n r) slots }
 {
     let mut level: u16 = 0;
-    let mut j: usize = 0;
-    while j < SLOTS {
-        level = larger(level, reach[entry_of(netlist::slot(r, j), n)]);
-        j += 1;
+    for slot in r.slots {
+        level = level.max(reach[entry_of(slot, n)]);
     }
     level
 }
@@ -53,16 +34,9 @@ fn level_of(reach: &[u16], n: usize, r: Record) -> u16
     ensures { result ≡ largest (fanin_entry reach.now n r) slots }
 {
     if r.kind == OUTPUT {
-        return reach[entry_of(netlist::slot(r, 0), n)];
+        return reach[entry_of(r.slots[0], n)];
     }
     over_fanins(reach, n, r)
-}
-
-// One of two levels: the first for an output.
-fn by_kind(kind: u8, common: u16, own: u16) -> u16
-    ensures { result ≡ cond (eqb kind output) common own }
-{
-    if kind == OUTPUT { common } else { own }
 }
 
 // How low each record may stand over its fanins; in the other array, how low its sinks may, in the place of their number. Answers the level that all outputs share.
@@ -79,14 +53,12 @@ pub(crate) fn raise(
 {
     let row = height_table::row_of(capacity);
     let mut top: u16 = 0;
-    let mut k: usize = 0;
-    while k < n {
+    for k in 0..n {
         let r = netlist::record_reader::read_at(source, k);
         let level = level_of(reach, n, r);
-        top = larger(top, by_kind(r.kind, level, 0));
-        reach[k] = sink_level(&row, level, reach[k]);
+        top = top.max(select_unpredictable(r.kind == OUTPUT, level, 0));
+        reach[k] = level + height_table::rise(&row, reach[k]);
         levels[k] = level;
-        k += 1;
     }
     top
 }
@@ -97,13 +69,8 @@ pub(crate) fn set_outputs(source: &[u8], n: usize, top: u16, levels: &mut [u16])
     requires n_in_bounds { n ≤ length levels.old }
     ensures { WithOutputs (netlist source.now) top levels.old levels.new }
 {
-    let mut k: usize = 0;
-    while k < n {
-        levels[k] = by_kind(
-            netlist::record_reader::kind_within(source, k),
-            top,
-            levels[k],
-        );
-        k += 1;
+    for k in 0..n {
+        let kind = netlist::record_reader::kind_within(source, k);
+        levels[k] = select_unpredictable(kind == OUTPUT, top, levels[k]);
     }
 }

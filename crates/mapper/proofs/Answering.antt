@@ -9,8 +9,7 @@ use mir.Val.{Fits}
 use mir.Syntax.{w32, w64}
 use lib.ListN.{length}
 use borrow.Author.Tests.{lt-ltb, le-ltb, not-false}
-use Rattle.facts.specs.declared.Checked.{Checked}
-use Rattle.facts.specs.declared.Checked.TheVariants.{Passed, Refused}
+use Rattle.facts.specs.Answers.{Checked, Passed, Refused}
 use Rattle.facts.specs.Checks.{check, ◌and_then◌}
 use Rattle.facts.specs.Sums.{sum}
 use Rattle.facts.specs.Areas.{onto}
@@ -21,7 +20,7 @@ use Rattle.netlist.specs.Records.{Netlist, netlist, record_count, depth}
 use Rattle.netlist.specs.Checks.{capacity_checks, source_checks, input_checks}
 use Rattle.netlist.specs.Bytes.{bytes_of}
 use Rattle.fanout.specs.Nets.{fewest_in_all}
-use Rattle.mapper.specs.declared.Mapping.{Mapping}
+use Rattle.mapper.specs.Answer.{Mapping}
 use Rattle.mapper.specs.Mapped.{mapped_size, mapped}
 use Rattle.mapper.specs.PrivateWriting.{Ready, Counted, Sized}
 use Rattle.prices.specs.Prices.{junctions, buffer_junctions}
@@ -30,17 +29,15 @@ use Rattle.prices.specs.PrivatePrices.{AppliedPrices}
 use Rattle.mapper.specs.PrivatePricing.{tree_price, driver_price}
 use Rattle.mapper.specs.Answer.{share, figures, refusal, too_large, too_short, source_maps, map_checks, map_answer, map_area}
 use Rattle.nets.specs.Checks.{tree_check, tree_checks, no_tree}
-use Rattle.nets.specs.declared.trees.Sizing.{Sizing}
-use Rattle.nets.specs.declared.trees.Sizing.TheVariants.{Total, Stops}
 use Rattle.nets.specs.PrivateCounts.{NetNumbers}
-use Rattle.nets.specs.PrivateChains.{Chained, sizing_of}
-use Rattle.nets.proofs.TreeCounts.{total_small, refusing, counting, input_source, input_allowed}
+use Rattle.nets.specs.PrivateChains.{Chained}
+use Rattle.nets.proofs.TreeCounts.{total_small, input_source, input_allowed}
 use Rattle.mapper.proofs.NetPrices.{part_price, whole_price, trees_small, drivers_small}
 
 -- the numbers of an accepted source
-pub accepted : (n : Netlist) (N bs part whole D percent : ℕ) → N ≡ n.size → D ≡ depth n → percent ≡ share part whole →
+pub accepted_is : (n : Netlist) (N bs part whole D percent : ℕ) → N ≡ n.size → D ≡ depth n → percent ≡ share part whole →
     record { number = 0; place = 0; size = N + bs; buffers = bs; depth = D; junctions = whole; share = percent } ≡ figures n bs part whole
-accepted n N bs part whole D percent e f h = cc
+accepted_is n N bs part whole D percent e f h = cc
 
 -- what the mapper checks: the call, then the trees, the size and the area
 abbrev call_checks : List ℕ → Capacities → List ℕ → Checked
@@ -59,28 +56,29 @@ module _ (bytes : List ℕ) (caps : Capacities) (list area : List ℕ) where
       ∙ ap (λ (a : Checked). capacity_checks caps and_then a) (then_assoc (price_list_checks list) (source_checks bytes) (late_checks bytes caps area)))
 
   -- 1, 26, 27, 28 and 2 to 7
-  module _ (number place : ℕ) (a : Checked) (e : a ≡ call_checks bytes caps list) (f : a ≡ Refused number place) where
+  module _ (number place : ℕ) (f : Refused number place ≡ call_checks bytes caps list) where
     call_refused : map_checks bytes caps list area ≡ Refused number place
-    call_refused = split ∙ ap (λ (a : Checked). a and_then late_checks bytes caps area) (sym e ∙ f)
+    call_refused = split ∙ ap (λ (a : Checked). a and_then late_checks bytes caps area) (sym f)
 
-    pub refused_call : (r : Mapping) → r ≡ refusal number place → r ≡ map_answer bytes caps list area
+    pub refused_call : refusal number place ≡ map_answer bytes caps list area
     unfolding map_answer
-    refused_call r g = cc call_refused
+    refused_call = cc call_refused
 
     pub kept_call : area ≡ map_area bytes caps list area
     unfolding map_area
     kept_call = cc call_refused
 
   -- once they pass
-  pub passed_source : (a : Checked) → a ≡ call_checks bytes caps list → a ≡ Passed → input_checks bytes caps ≡ Passed
-  passed_source a e f =
-      let c = (then_passed (capacity_checks caps) (price_list_checks list and_then source_checks bytes)).0 (sym e ∙ f) in
-      (then_passed (capacity_checks caps) (source_checks bytes)).1 (c.0, ((then_passed (price_list_checks list) (source_checks bytes)).0 c.1).1)
+  module _ (f : Passed ≡ call_checks bytes caps list) where
+    pub passed_source : input_checks bytes caps ≡ Passed
+    passed_source =
+        let c = (then_passed (capacity_checks caps) (price_list_checks list and_then source_checks bytes)).0 (sym f) in
+        (then_passed (capacity_checks caps) (source_checks bytes)).1 (c.0, ((then_passed (price_list_checks list) (source_checks bytes)).0 c.1).1)
 
-  pub passed_list : (a : Checked) → a ≡ call_checks bytes caps list → a ≡ Passed → price_list_checks list ≡ Passed
-  passed_list a e f =
-      let c = (then_passed (capacity_checks caps) (price_list_checks list and_then source_checks bytes)).0 (sym e ∙ f) in
-      ((then_passed (price_list_checks list) (source_checks bytes)).0 c.1).0
+    pub passed_list : price_list_checks list ≡ Passed
+    passed_list =
+        let c = (then_passed (capacity_checks caps) (price_list_checks list and_then source_checks bytes)).0 (sym f) in
+        ((then_passed (price_list_checks list) (source_checks bytes)).0 c.1).0
 
   pub checked : input_checks bytes caps ≡ Passed → price_list_checks list ≡ Passed → map_checks bytes caps list area ≡ late_checks bytes caps area
   unfolding map_checks
@@ -111,31 +109,26 @@ module _ (bytes : List ℕ) (caps : Capacities) (list area : List ℕ) where
   )
 
   -- 8
-  module _ (i : input_checks bytes caps ≡ Passed) (l : AppliedPrices list) (number place total : ℕ) (z : Sizing)
-      (e : z ≡ sizing_of (tree_checks (netlist bytes) caps) total) (f : z ≡ Stops number place) where
+  module _ (i : input_checks bytes caps ≡ Passed) (l : AppliedPrices list) (number place : ℕ) (f : Refused number place ≡ tree_checks (netlist bytes) caps) where
     tree_refused : map_checks bytes caps list area ≡ Refused number place
-    tree_refused = checked i l.passes ∙ rw (refusing (netlist bytes) caps number place total z e f) refl
+    tree_refused = checked i l.passes ∙ rw (← f) refl
 
-    pub refused_tree : (r : Mapping) → r ≡ refusal number place → r ≡ map_answer bytes caps list area
+    pub refused_tree : refusal number place ≡ map_answer bytes caps list area
     unfolding map_answer
-    refused_tree r g = cc tree_refused
+    refused_tree = cc tree_refused
 
     pub kept_tree : area ≡ map_area bytes caps list area
     unfolding map_area
     kept_tree = cc tree_refused
 
 -- what 1, 26 and 2 to 8 show
-module _ (bytes : List ℕ) (caps : Capacities) (i : input_checks bytes caps ≡ Passed) (N : ℕ) (size : N ≡ record_count bytes) where
-  pub counted_all : (total : ℕ) (z : Sizing) → z ≡ sizing_of (tree_checks (netlist bytes) caps) (fewest_in_all (netlist bytes) caps) →
-      z ≡ Total total → (first next : List ℕ) (end : ℕ) → Chained (netlist bytes) first next 0 end →
-      Counted bytes caps N first next end total
-  counted_all total z e f first next end l =
-      let c = counting (netlist bytes) caps (record_count bytes) total z e f in search
+module _ (bytes : List ℕ) (caps : Capacities) (i : input_checks bytes caps ≡ Passed) (N : ℕ) (size : N ≡ record_count bytes) (total : ℕ)
+    (p : Passed ≡ tree_checks (netlist bytes) caps) (e : total ≡ fewest_in_all (netlist bytes) caps) where
+  pub counted_all : (first next : List ℕ) (end : ℕ) → Chained (netlist bytes) first next 0 end → Counted bytes caps N first next end total
+  counted_all first next end l = let t = sym p in search
 
-  pub sized_all : (total : ℕ) (z : Sizing) → z ≡ sizing_of (tree_checks (netlist bytes) caps) (fewest_in_all (netlist bytes) caps) →
-      z ≡ Total total → (totals : List ℕ) → NetNumbers (netlist bytes) caps N totals → N ≤ length totals → Sized bytes caps N totals total
-  sized_all total z e f totals t l =
-      let c = counting (netlist bytes) caps (record_count bytes) total z e f in search
+  pub sized_all : (totals : List ℕ) → NetNumbers (netlist bytes) caps N totals → N ≤ length totals → Sized bytes caps N totals total
+  sized_all totals n l = let t = sym p in search
 
 -- what 1, 26 and 2 to 9 show
 pub passed_ready : (bytes : List ℕ) (caps : Capacities) → input_checks bytes caps ≡ Passed → tree_checks (netlist bytes) caps ≡ Passed →
@@ -177,9 +170,9 @@ module _ (bytes : List ℕ) (caps : Capacities) (N : ℕ) (first next : List ℕ
       large : map_checks bytes caps list area ≡ Refused 9 0
       large = sized ∙ rw (lt-ltb mapped_limit (mapped_size (netlist bytes) caps) (omega (arith, h.records, h.buffers))) refl
 
-      pub refused_large : (r : Mapping) → r ≡ refusal 9 0 → r ≡ map_answer bytes caps list area
+      pub refused_large : refusal 9 0 ≡ map_answer bytes caps list area
       unfolding map_answer
-      refused_large r e = cc large
+      refused_large = cc large
 
       pub kept_large : area ≡ map_area bytes caps list area
       unfolding map_area
@@ -194,9 +187,9 @@ module _ (bytes : List ℕ) (caps : Capacities) (N : ℕ) (first next : List ℕ
         short : too_short (netlist bytes) caps area ≡ true
         short = lt-ltb (length area) (width * mapped_size (netlist bytes) caps) (omega (arith, h.records, h.buffers))
 
-        pub refused_short : (r : Mapping) → r ≡ refusal 10 0 → r ≡ map_answer bytes caps list area
+        pub refused_short : refusal 10 0 ≡ map_answer bytes caps list area
         unfolding map_answer
-        refused_short r e = cc (late, short)
+        refused_short = cc (late, short)
 
         pub kept_short : area ≡ map_area bytes caps list area
         unfolding map_area

@@ -10,12 +10,11 @@ use lib.Seq.{get_or-set_same, get_or-set_other}
 use borrow.Author.Tests.{eq-eqb, ne_eqb}
 use Rattle.facts.proofs.Bools.{and_i, true_false}
 use Rattle.netlist.specs.declared.Capacities.{Capacities}
-use Rattle.netlist.specs.Kinds.{mapped_limit}
 use Rattle.netlist.specs.Records.{Netlist}
 use Rattle.nets.specs.PrivateChains.{slot_end, used_slot, fanin_slot, names_slot, next_sink, slot_distance, Chained}
 use Rattle.mapper.specs.PrivateWriting.{ParentsSet, ParentsWritten, on_parent, line_parent, on_line}
 use Rattle.nets.proofs.Chains.{next_within, next_none}
-use Rattle.nets.proofs.OneChain.{OnChain, chain_first, chain_start, chain_linked, chain_inside, chain_names, chain_near, chain_on, chain_less}
+use Rattle.nets.proofs.OneChain.{OnChain, chain_first, chain_start, chain_linked, chain_inside, chain_names, chain_on, chain_less}
 
 -- d's sinks below slot p hold what f says; from p on d's chain stands
 pub record ParentsSoFar (n : Netlist) (d : ℕ) (f : ℕ → ℕ) (before : List ℕ) (p : ℕ) (after : List ℕ) : Type 0 where
@@ -43,10 +42,6 @@ module _ (n : Netlist) (first before : List ℕ) (end d : ℕ) (h : Chained n fi
 
       names : names_slot n d p ≡ true
       names = chain_names n first before end d h p t.chain l
-
-      -- a parent on a line fits its slot
-      pub parents_reach : (start k : ℕ) → start ≤ mapped_limit → k ≡ slot_distance n d p → start + k < 65536
-      parents_reach start k a e = omega (arith, chain_near n first before end d h p t.chain l k e)
 
       module _ (q : ℕ) (e : q ≡ get_or after p 0) where
         pub parents_next : q ≡ next_sink n d (suc p)
@@ -80,14 +75,6 @@ module _ (n : Netlist) (first before : List ℕ) (end d : ℕ) (h : Chained n fi
                   | yes m ↦ t.below y m b c
                   | no m ↦ absurd (next_none n d (suc p) y (omega arith) (omega (arith, parents_next)) c)
                 ]
-
-    pub parents_end : end ≤ p → ParentsWritten n d f before after
-    parents_end l =
-        record {
-          size = t.size;
-          at = λ y a c. t.below y (omega (arith, t.chain.within, h.stop)) a c;
-          others = t.others;
-        }
 
 pub line_parent_is : (n : Netlist) (d start p k v : ℕ) → k ≡ slot_distance n d p → v ≡ line_parent d start k → v ≡ on_line n d start p
 unfolding on_line

@@ -1,36 +1,31 @@
--- Laws of clearing a row.
-use Prim.Native.Nat.{ℕ, suc, ◌+◌, ◌≤◌, ◌<◌}
-use mathlib.Core.Path.{◌≡◌, ◌∙◌}
-use mathlib.Core.List.{List}
+-- A row is all zero once the entries up to top are: none beyond is anything else.
+use Prim.Native.Nat.{ℕ, suc, ◌+◌, ◌-◌}
+use mathlib.Core.Path.{◌≡◌, ◌∙◌, ap}
+use mathlib.Core.List.{List, ◌++◌}
 use native.Mathlib.Omega.{arith}
-use native.Mathlib.Decide.{dec_lt, ℕ_discrete}
-use lib.ListN.{length, get_or, set, replicate, length-set}
-use lib.Seq.{get_or-set_same, get_or-set_other}
-use Rattle.facts.proofs.Lists.{zeros}
+use native.Mathlib.Decide.{dec_lt}
+use lib.ListN.{length, take, drop, replicate, length-append, length-drop, length-replicate, get_or-append}
+use lib.Seq.{length-take-le, get_or-append_right, get_or-drop}
+use Rattle.facts.proofs.Lists.{zeros, zeros_at}
 use Rattle.netlist.specs.Kinds.{top_level}
+use Rattle.mapper.specs.PrivateWriting.{Stale}
 
--- entries below k are zero, and those beyond top
-pub record Clearing (counts : List ℕ) (top k : ℕ) : Type 0 where
-  pub size : length counts ≡ suc top_level
-  pub near : top ≤ top_level
-  pub before : (x : ℕ) → x < k → get_or counts x 0 ≡ 0
-  pub beyond : (x : ℕ) → top < x → get_or counts x 0 ≡ 0
-
-module _ (counts : List ℕ) (top : ℕ) where
-  pub clear_more : (k : ℕ) → Clearing counts top k → k ≤ top → Clearing (set counts k 0) top (k + 1)
-  clear_more k h l =
-      record {
-        size = length-set counts k 0 ∙ h.size;
-        near = h.near;
-        before = λ x m. at x m (ℕ_discrete x k);
-        beyond = λ x m. get_or-set_other counts k x 0 0 (λ e. omega arith) ∙ h.beyond x m;
-      }
+module _ (counts : List ℕ) (top : ℕ) (h : Stale counts top) where
+  pub cleared : (xs : List ℕ) → xs ≡ replicate (length (take (top + 1) counts)) 0 → xs ++ drop (top + 1) counts ≡ replicate (suc top_level) 0
+  cleared xs e =
+      zeros (suc top_level) (xs ++ drop (top + 1) counts)
+      (omega (arith, length-append xs (drop (top + 1) counts), length-drop (top + 1) counts, long, h.size, h.near))
+      (λ k.
+      elim (dec_lt k (length xs)) [
+        | yes l ↦ get_or-append xs (drop (top + 1) counts) 0 k l ∙ zeros_at (length (take (top + 1) counts)) xs e k
+        | no g ↦
+            get_or-append_right xs (drop (top + 1) counts) k 0 (omega arith)
+            ∙ get_or-drop (top + 1) counts (k - length xs) 0
+            ∙ h.beyond (top + 1 + (k - length xs)) (omega arith)
+      ])
     where
-      at : (x : ℕ) → x < k + 1 → Dec (x ≡ k) → get_or (set counts k 0) x 0 ≡ 0
-      at x m (yes e) = rw e (get_or-set_same counts k 0 0 (omega (arith, h.size, h.near)))
-      at x m (no e) = get_or-set_other counts k x 0 0 e ∙ h.before x (omega arith)
-
-  pub clear_end : (k : ℕ) → Clearing counts top k → top < k → counts ≡ replicate (suc top_level) 0
-  clear_end k h l =
-      zeros (suc top_level) counts h.size
-      (λ x. elim (dec_lt x k) [ yes b ↦ h.before x b | no b ↦ h.beyond x (omega arith) ])
+      long : length xs ≡ top + 1
+      long =
+          ap length e
+          ∙ length-replicate {A = ℕ} (length (take (top + 1) counts)) 0
+          ∙ length-take-le (top + 1) counts (omega (arith, h.size, h.near))

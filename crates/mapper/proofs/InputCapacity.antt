@@ -4,7 +4,7 @@ use native.Mathlib.Omega.{arith}
 use mathlib.Core.Path.{◌≡◌, refl, sym, ap}
 use mathlib.Core.Bool.{not}
 use borrow.Author.Tests.{leb-true, le-leb, not-false}
-use Rattle.facts.specs.declared.Checked.TheVariants.{Passed}
+use Rattle.facts.specs.Answers.{Passed}
 use Rattle.facts.specs.Areas.{onto}
 use Rattle.facts.specs.Sums.{sum}
 use Rattle.facts.proofs.Reflect.{check_passed, then_passed, scan_passed}

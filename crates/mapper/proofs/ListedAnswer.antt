@@ -2,8 +2,7 @@
 use Prim.Native.Nat.{ℕ}
 use mathlib.Core.Path.{◌≡◌, refl, sym, ◌∙◌, ap, ap₂}
 use mathlib.Core.List.{List}
-use Rattle.facts.specs.declared.Checked.{Checked}
-use Rattle.facts.specs.declared.Checked.TheVariants.{Passed, Refused}
+use Rattle.facts.specs.Answers.{Checked, Passed, Refused}
 use Rattle.netlist.specs.declared.Capacities.{Capacities}
 use Rattle.netlist.specs.Records.{netlist}
 use Rattle.netlist.specs.Checks.{input_checks}
@@ -11,7 +10,7 @@ use Rattle.fanout.specs.Nets.{fewest_in_all}
 use Rattle.prices.specs.Checks.{price_list_checks}
 use Rattle.prices.specs.PrivatePrices.{applied}
 use Rattle.prices.proofs.Lists.{applied_passes}
-use Rattle.mapper.specs.declared.Mapping.{Mapping}
+use Rattle.mapper.specs.Answer.{Mapping}
 use Rattle.mapper.specs.Answer.{figures, map_checks, answer_of, area_of, map_answer, map_area}
 use Rattle.mapper.proofs.Answering.{checked, map_passed}
 use Rattle.mapper.proofs.NetPrices.{applied_whole, applied_part}

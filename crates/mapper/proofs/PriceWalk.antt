@@ -4,7 +4,7 @@ use mathlib.Core.Path.{◌≡◌, refl, sym, ◌∙◌, ap, ap₂}
 use mathlib.Core.Bool.{Bool, true, false, cond}
 use mathlib.Core.List.{List}
 use native.Mathlib.Omega.{arith}
-use native.Mathlib.Nat.{div-add-mod, div-le_self, zero-div, zero-mod, div-eq_of_lt, mod-eq_of_lt, mul-le-mul_left, mul-suc, mul_comm, mod-lt, mul-zero}
+use native.Mathlib.Nat.{div-add-mod, zero-div, zero-mod, div-eq_of_lt, mod-eq_of_lt, mul-le-mul_left, mul-suc, mul_comm, mod-lt, mul-zero}
 use native.Mathlib.Numerals.{add-one}
 use native.Mathlib.Decide.{dec_lt, ℕ_discrete}
 use mir.Val.{Fits}
@@ -36,17 +36,12 @@ use Rattle.mapper.specs.PrivatePricing.{rest_price, level_price, distance_price,
 use Rattle.mapper.proofs.Nodes.{pos}
 use Rattle.mapper.proofs.NetPrices.{tree_small, trees_small, drivers_small}
 
--- a price or nothing
-bit_price : (b x : ℕ) → b ≤ 1 → x ≤ 255 → b * x ≤ 255
-bit_price b x l m = omega (arith, mul-le-mul_left {m = b} {n = 1} x l, mul_comm b x, mul_comm x 1)
-
 -- what is left of a distance
 module _ (prices : List ℕ) (rest b x : ℕ) (e : b ≡ bit (ltb 0 rest)) where
   pub rest_small : x ≤ 255 → b * x ≤ 255
-  rest_small l = bit_price b x (omega (arith, bit_le (ltb 0 rest))) l
-
-  pub rest_fits : x ≤ 255 → Fits w32 (b * x)
-  rest_fits l = omega (arith, rest_small l)
+  rest_small l =
+      let one : b ≤ 1 = omega (arith, bit_le (ltb 0 rest)) in
+      omega (arith, mul-le-mul_left {m = b} {n = 1} x one, mul_comm b x, mul_comm x 1)
 
   pub rest_is : x ≡ price_of prices buffer rest → b * x ≡ rest_price prices rest
   unfolding rest_price
@@ -60,22 +55,6 @@ module _ (prices : List ℕ) (rest b x : ℕ) (e : b ≡ bit (ltb 0 rest)) where
 module _ (s n full : ℕ) (e : full ≡ n / s) where
   whole_part : s * full + n % s ≡ n
   whole_part = ap (λ (x : ℕ). s * x + n % s) e ∙ div-add-mod n s
-
-  pub level_full : n ≤ 4 * mapped_limit → Fits w32 (s * full)
-  level_full l = omega (arith, whole_part)
-
-  pub level_rest : s * full ≤ n
-  level_rest = omega (arith, whole_part)
-
-  module _ (l : n ≤ 4 * mapped_limit) (x : ℕ) (b : x ≤ 255) where
-    product : full * x ≤ 255 * (4 * mapped_limit)
-    product = omega (arith, mul-le-mul_left {m = x} {n = 255} full b, mul_comm full 255, div-le_self n s)
-
-    pub level_product : Fits w32 (full * x)
-    level_product = omega (arith, product)
-
-    pub level_both : (y : ℕ) → y ≤ 255 → Fits w32 (full * x + y)
-    level_both y c = omega (arith, product)
 
   pub level_is : (prices : List ℕ) (x y : ℕ) → x ≡ price_of prices buffer s → y ≡ rest_price prices (n - s * full) → full * x + y ≡ level_price prices s n
   unfolding level_price
@@ -129,7 +108,7 @@ module _ (prices : List ℕ) (n : Netlist) (caps : Capacities) (d top : ℕ) (co
   pricing_start = record { i = 0; at = refl; within = omega arith; so_far = refl }
 
   module _ (total k : ℕ) (t : TreePricing prices n caps d total k) where
-    module _ (l : k ≤ top) where
+    module _ (l : k < top + 1) where
       counted : get_or counts k 0 ≡ nodes_at caps.buffer (row n d) (suc (suc t.i))
       counted = h.nodes.at k (omega (arith, t.at)) (omega (arith, h.near)) ∙ ap (nodes_at caps.buffer (row n d)) t.at
 
@@ -166,7 +145,7 @@ module _ (prices : List ℕ) (n : Netlist) (caps : Capacities) (d top : ℕ) (co
       pricing_more x e =
           record { i = t.i + 1; at = omega (arith, t.at); within = omega (arith, t.at, h.near); so_far = next x e }
 
-    pub pricing_end : top < k → total ≡ tree_price prices n caps d
+    pub pricing_end : top + 1 ≤ k → total ≡ tree_price prices n caps d
     unfolding tree_price
     pricing_end l =
         t.so_far
@@ -222,32 +201,10 @@ module _ (prices : List ℕ) (n : Netlist) (caps : Capacities) (d top : ℕ) (co
       ap₂ ◌*◌ e k ∙ mul_comm (tree_size n caps d) (price_of prices buffer 1) ∙ sym (same_tree prices (sym f ∙ g) n caps d h.ready)
 
 -- a line of buffers
-module _ (prices : List ℕ) (p : AppliedPrices prices) (n other : ℕ) (near : n < top_level) (behind : other ≤ n + 1) (pairs : ℕ) (e : pairs ≡ bit (ltb 1 other)) where
-  pub line_pairs : pairs ≤ n
-  line_pairs =
-      elim (dec_lt 1 other) [
-        | yes l ↦ omega (arith, bit_le (ltb 1 other))
-        | no l ↦ omega (arith, ap bit (le-ltb 1 other (omega arith)))
-      ]
-
-  single : (x : ℕ) → x ≤ 255 → (n - pairs) * x ≤ 255 * top_level
-  single x a = omega (arith, mul-le-mul_left {m = x} {n = 255} (n - pairs) a, mul_comm (n - pairs) 255)
-
-  double : (y : ℕ) → y ≤ 255 → pairs * y ≤ 255
-  double y b = bit_price pairs y (omega (arith, bit_le (ltb 1 other))) b
-
-  pub line_single : (x : ℕ) → x ≤ 255 → Fits w32 ((n - pairs) * x)
-  line_single x a = omega (arith, single x a)
-
-  pub line_double : (y : ℕ) → y ≤ 255 → Fits w32 (pairs * y)
-  line_double y b = omega (arith, double y b)
-
-  pub line_both : (x y : ℕ) → x ≤ 255 → y ≤ 255 → Fits w32 ((n - pairs) * x + pairs * y)
-  line_both x y a b = omega (arith, single x a, double y b)
-
-  pub line_is : (x y : ℕ) → x ≡ price_of prices buffer 1 → y ≡ price_of prices buffer 2 → (n - pairs) * x + pairs * y ≡ line_price prices n other
-  unfolding line_price
-  line_is x y f g = rw (e, f, g) refl
+pub line_is : (prices : List ℕ) (n other pairs x y : ℕ) → pairs ≡ bit (ltb 1 other) → x ≡ price_of prices buffer 1 → y ≡ price_of prices buffer 2 →
+    (n - pairs) * x + pairs * y ≡ line_price prices n other
+unfolding line_price
+line_is prices n other pairs x y e f g = rw (e, f, g) refl
 
 -- it is the tree of a net with one or two sinks
 module _ (prices : List ℕ) (n : Netlist) (caps : Capacities) (d top other : ℕ) (two : 2 ≤ caps.buffer) (h : ShortChain n d top other) where
@@ -407,9 +364,6 @@ module _ (prices : List ℕ) (n : Netlist) where
     pub drivers_more : (x : ℕ) → d < N → x ≡ driver_price prices n d → DriversPriced prices n (total + x) (d + 1)
     drivers_more x l e = record { within = omega arith; so_far = ap₂ ◌+◌ t.so_far e ∙ sum_last (driver_price prices n) d }
 
-    pub drivers_end : N ≤ d → total ≡ sum (driver_price prices n) N
-    drivers_end l = let e : d ≡ N = omega (arith, t.within) in t.so_far ∙ ap (sum (driver_price prices n)) e
-
 -- the nets below d: none
 pub nets_price_start : (prices : List ℕ) (n : Netlist) (caps : Capacities) → 0 ≡ sum (tree_price prices n caps) 0
 unfolding sum
@@ -430,8 +384,3 @@ module _ (prices : List ℕ) (p : AppliedPrices prices) (n : Netlist) (caps : Ca
         sum_more (tree_size n caps) (d + 1) n.size (omega arith),
         r.fits,
       )
-
--- all
-pub nets_price_end : (prices : List ℕ) (n : Netlist) (caps : Capacities) (total d : ℕ) → total ≡ sum (tree_price prices n caps) d →
-    (N : ℕ) → d ≤ n.size → N ≡ n.size → N ≤ d → total ≡ sum (tree_price prices n caps) n.size
-nets_price_end prices n caps total d t N w e l = let s : d ≡ n.size = omega arith in t ∙ ap (sum (tree_price prices n caps)) s

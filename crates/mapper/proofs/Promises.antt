@@ -9,8 +9,7 @@ use native.Mathlib.Nat.{zero-add}
 use lib.ListN.{length, take, drop, length-append, length-drop}
 use lib.Seq.{take_at, drop_at}
 use borrow.Author.Tests.{le-leb, not-true}
-use Rattle.facts.specs.declared.Checked.{Checked}
-use Rattle.facts.specs.declared.Checked.TheVariants.{Passed, Refused}
+use Rattle.facts.specs.Answers.{Checked, Passed, Refused}
 use Rattle.facts.specs.Checks.{check, ◌and_then◌}
 use Rattle.facts.specs.Sums.{sum}
 use Rattle.facts.proofs.Sums.{sum_more}
@@ -35,7 +34,7 @@ use Rattle.fanout.specs.Trees.{Tree, Legal, net_of}
 use Rattle.fanout.specs.Promises.{LeastNetTree}
 use Rattle.fanout.proofs.Promises.{tree_exactly, least_tree}
 use Rattle.fanout.proofs.Rows.{row_of_net, no_sinks}
-use Rattle.mapper.specs.declared.Mapping.{Mapping}
+use Rattle.mapper.specs.Answer.{Mapping}
 use Rattle.mapper.specs.Mapped.{block_start, mapped_size, mapped}
 use Rattle.mapper.specs.PrivateWriting.{Ready}
 use Rattle.mapper.specs.View.{no_ends, ends_of, block_ends, between}

@@ -9,8 +9,7 @@ use mir.Val.{Fits}
 use mir.Syntax.{w64}
 use lib.ListN.{length, get_or, take, drop}
 use borrow.Author.Tests.{le-leb, lt-leb, le-ltb, lt-ltb}
-use Rattle.facts.specs.declared.Checked.{Checked}
-use Rattle.facts.specs.declared.Checked.TheVariants.{Passed, Refused}
+use Rattle.facts.specs.Answers.{Checked, Passed, Refused}
 use Rattle.facts.specs.Sums.{sum}
 use Rattle.facts.proofs.Sums.{sum_more}
 use Rattle.netlist.specs.declared.Capacities.{Capacities}
@@ -19,29 +18,25 @@ use Rattle.netlist.specs.Records.{netlist, record_count, record_at}
 use Rattle.netlist.specs.Checks.{input_checks}
 use Rattle.netlist.proofs.Records.{record_past}
 use Rattle.fanout.specs.Nets.{tree_size}
-use Rattle.nets.specs.declared.trees.Sizing.{Sizing}
-use Rattle.nets.specs.declared.trees.Sizing.TheVariants.{Stops}
 use Rattle.mapper.specs.declared.Ends.{Ends}
 use Rattle.mapper.specs.Mapped.{block_start, mapped_size}
 use Rattle.mapper.specs.Answer.{source_maps}
 use Rattle.nets.specs.Checks.{tree_checks}
-use Rattle.nets.specs.PrivateChains.{sizing_of}
 use Rattle.mapper.specs.PrivateWriting.{Sized, Mappable}
-use Rattle.nets.proofs.TreeCounts.{input_source, input_allowed, total_small, numbers_sum, refusing}
+use Rattle.nets.proofs.TreeCounts.{input_source, input_allowed, total_small, numbers_sum}
 use Rattle.mapper.specs.View.{no_ends, own_ends, ends_of, block_ends, between}
 
 module _ (bytes : List ℕ) (caps : Capacities) (d : ℕ) where
   -- 1, 26 and 2 to 7
-  pub ends_input : (number place : ℕ) (a : Checked) (r : Ends) → a ≡ input_checks bytes caps → a ≡ Refused number place → r ≡ no_ends →
-      r ≡ block_ends bytes caps d
+  pub ends_input : (number place : ℕ) (r : Ends) → Refused number place ≡ input_checks bytes caps → r ≡ no_ends → r ≡ block_ends bytes caps d
   unfolding block_ends source_maps
-  ends_input number place a r e f g = cc
+  ends_input number place r e g = cc
 
   -- 8
-  pub ends_tree : input_checks bytes caps ≡ Passed → (number place total : ℕ) (z : Sizing) (r : Ends) → z ≡ sizing_of (tree_checks (netlist bytes) caps) total →
-      z ≡ Stops number place → r ≡ no_ends → r ≡ block_ends bytes caps d
+  pub ends_tree : input_checks bytes caps ≡ Passed → (number place : ℕ) (r : Ends) → Refused number place ≡ tree_checks (netlist bytes) caps → r ≡ no_ends →
+      r ≡ block_ends bytes caps d
   unfolding block_ends source_maps
-  ends_tree i number place total z r e f g = cc (refusing (netlist bytes) caps number place total z e f)
+  ends_tree i number place r e g = cc
 
 -- 9
 module _ (bytes : List ℕ) (caps : Capacities) (N : ℕ) (totals : List ℕ) (total : ℕ) (h : Sized bytes caps N totals total) where

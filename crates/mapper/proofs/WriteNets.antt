@@ -157,10 +157,6 @@ module _ (n : Netlist) (caps : Capacities) (first : List ℕ) (end : ℕ) (area�
       let bytes = sym (records_none (mapped n caps) n.size area₀) in search arith
 
   module _ (d at N : ℕ) (next counts base area : List ℕ) (h : NetsWritten n caps first end area₀ d at next counts base area) (size : N ≡ n.size) where
-    pub nets_writable : d < N → Writable n caps d at first next end counts base area
-    nets_writable l =
-        search rules
-
     pub nets_more : (after : ℕ) (next' counts' base' area' : List ℕ) → d < N →
         Wrote n caps d at first next' end counts' base' area area' after → NetsWritten n caps first end area₀ (d + 1) after next' counts' base' area'
     nets_more after next' counts' base' area' l w =
@@ -178,11 +174,3 @@ module _ (n : Netlist) (caps : Capacities) (first : List ℕ) (end : ℕ) (area�
       where
         inside : at + tree_size n caps d ≤ mapped_size n caps
         inside = omega (arith, h.start, block_before (tree_size n caps) d n.size (omega arith))
-
-    pub nets_parents : N ≤ d → ParentsSet n caps first next n.size end
-    nets_parents l = let e : d ≡ n.size = omega (arith, h.within) in subst (λ (x : ℕ). ParentsSet n caps first next x end) e h.parents
-
-    pub nets_bytes : N ≤ d → area ≡ with_records (mapped n caps) n.size (sum (tree_size n caps) n.size) area₀
-    nets_bytes l =
-        let e : d ≡ n.size = omega (arith, h.within) in
-        h.bytes ∙ ap (λ (d : ℕ). with_records (mapped n caps) n.size (sum (tree_size n caps) d) area₀) e

@@ -12,8 +12,8 @@ use Rattle.facts.specs.Areas.{put}
 use Rattle.netlist.specs.declared.Record.{Record}
 use Rattle.netlist.specs.Kinds.{width, slots}
 use Rattle.netlist.specs.Records.{record_at}
-use Rattle.netlist.specs.Bytes.{encode, encoded}
-use Rattle.netlist.proofs.Bytes.{RecordsSoFar, written_more, written_end}
+use Rattle.netlist.specs.Bytes.{encode}
+use Rattle.netlist.proofs.Bytes.{RecordsSoFar, written_more}
 use Rattle.mapper.specs.Mapped.{buffer_of}
 use Rattle.mapper.specs.PrivateWriting.{behind, level_record, line_parent, line_record, relinked, relinked_at}
 
@@ -90,6 +90,3 @@ module _ (bytes parents area₀ : List ℕ) (n : ℕ) (area : List ℕ) (i : ℕ
       written_more area₀ 0 (relinked_at bytes parents) n area i h (relinked r parents i) after (omega arith) l
       (ap (λ (r : Record). relinked r parents i) e)
       (g ∙ ap (λ (k : ℕ). put area (width * k) (encode (relinked r parents i))) (sym (zero-add i)))
-
-  pub source_end : (N : ℕ) → N ≡ n → N ≤ i → area ≡ put area₀ 0 (encoded (relinked_at bytes parents) n)
-  source_end N e l = written_end area₀ 0 (relinked_at bytes parents) n area i h (omega arith)

@@ -5,7 +5,7 @@ use mathlib.Core.List.{List}
 use native.Mathlib.Omega.{arith}
 use native.Mathlib.Nat.{zero-div}
 use native.Mathlib.Numerals.{add-one}
-use native.Mathlib.Decide.{dec_lt, ℕ_discrete}
+use native.Mathlib.Decide.{ℕ_discrete}
 use mir.Val.{Fits}
 use mir.Syntax.{w16, w64}
 use lib.ListN.{length, get_or, set, length-set}
@@ -22,7 +22,7 @@ use Rattle.netlist.proofs.Bytes.{encoded_cong, records_none, records_more, recor
 use Rattle.fanout.specs.Nets.{up, tree_size}
 use Rattle.fanout.proofs.Nets.{up_zero}
 use Rattle.mapper.specs.Mapped.{buffers_of, block_start, mapped_size, place, parent, buffer_of, buffer_record, mapped_at, mapped}
-use Rattle.mapper.specs.PrivateWriting.{Ready, behind, level_record, CountedNet, FirstParents}
+use Rattle.mapper.specs.PrivateWriting.{Ready, behind, level_record, CountedNet}
 use Rattle.facts.proofs.Blocks.{block_before}
 use Rattle.mapper.proofs.Mapped.{tree_sum, at_place}
 use Rattle.mapper.proofs.Nodes.{pos}
@@ -97,7 +97,7 @@ module _ (n : Netlist) (caps : Capacities) (d start top : ℕ) (counts area₀ :
           block_before (tree_size n caps) d n.size h.driver,
         )
 
-    module _ (l : k ≤ top) where
+    module _ (l : k < top + 1) where
       counted : get_or counts k 0 ≡ buffers_of n caps d k
       counted = h.buffers.at k p.above (omega (arith, h.near))
 
@@ -118,9 +118,6 @@ module _ (n : Netlist) (caps : Capacities) (d start top : ℕ) (counts area₀ :
 
       pub tree_next : (c : ℕ) → c ≡ get_or counts k 0 → Fits w64 (at + c)
       tree_next c m = omega (arith, ends, h.ready.fits)
-
-      pub tree_level : (low : ℕ) → low ≡ (n.at d).level → Fits w16 (low + k)
-      tree_level low f = omega (arith, h.near, h.ready.source.levels d h.driver)
 
       pub tree_more : (low c : ℕ) (after : List ℕ) → low ≡ (n.at d).level → c ≡ get_or counts k 0 →
           after ≡ put area (width * at) (encoded (level_record caps.buffer k (low + k) from) (get_or counts k 0)) →
@@ -158,7 +155,7 @@ module _ (n : Netlist) (caps : Capacities) (d start top : ℕ) (counts area₀ :
     no_buffers zero l = refl
     no_buffers (suc k) l = ap (up caps.buffer) (h.beyond (suc (suc k)) (omega arith)) ∙ up_zero caps.buffer (pos n caps h.ready)
 
-    whole : top < k → sum (buffers_of n caps d) k ≡ tree_size n caps d
+    whole : top + 1 ≤ k → sum (buffers_of n caps d) k ≡ tree_size n caps d
     whole l =
         omega (
           arith,
@@ -171,19 +168,8 @@ module _ (n : Netlist) (caps : Capacities) (d start top : ℕ) (counts area₀ :
         rest : k + (suc top_level - k) ≡ suc top_level
         rest = omega (arith, p.within, h.near)
 
-    pub tree_end : top < k → at ≡ block_start n caps (d + 1)
+    pub tree_end : top + 1 ≤ k → at ≡ block_start n caps (d + 1)
     tree_end l = omega (arith, p.here, whole l, sum_last (tree_size n caps) d)
 
-    pub tree_first_parents : top < k → FirstParents n caps d base
-    tree_first_parents l =
-        record {
-          size = p.size;
-          at = λ x a b.
-              elim (dec_lt x k) [
-                | yes m ↦ p.first_parents x a m
-                | no m ↦ absurd (omega (arith, h.beyond x (omega arith)))
-              ];
-        }
-
-    pub tree_bytes : top < k → area ≡ with_records (mapped n caps) start (tree_size n caps d) area₀
+    pub tree_bytes : top + 1 ≤ k → area ≡ with_records (mapped n caps) start (tree_size n caps d) area₀
     tree_bytes l = p.bytes ∙ ap (λ (c : ℕ). with_records (mapped n caps) start c area₀) (whole l)

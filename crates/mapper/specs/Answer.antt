@@ -1,6 +1,6 @@
 -- The mapper's answer (specification 4.1, 2.6, 3.3): checks 1, 26, 27, 28 and 2 to 10, seven numbers, the area.
 use Rattle.std.specs.Prelude.{ℕ, ◌+◌, ◌*◌, Bool, List, [], ◌∷◌, length, ltb}
-use Rattle.facts.specs.declared.Checked.{Checked}
+use Rattle.facts.specs.Answers.{Checked}
 use Rattle.facts.specs.Checks.{check, ◌and_then◌, outcome, unless_refused}
 use Rattle.facts.specs.Areas.{onto}
 use Rattle.facts.specs.Rounding.{rounded}
@@ -13,7 +13,7 @@ use Rattle.fanout.specs.Nets.{fewest_in_all}
 use Rattle.nets.specs.Checks.{tree_checks}
 use Rattle.prices.specs.Prices.{junctions, buffer_junctions}
 use Rattle.prices.specs.Checks.{price_list_checks}
-use Rattle.mapper.specs.declared.Mapping.{Mapping}
+use Rattle.mapper.specs.declared.MapTotals.{MapTotals}
 use Rattle.mapper.specs.Mapped.{mapped_size, mapped}
 
 -- 9: too many records
@@ -43,6 +43,16 @@ map_checks bytes caps list area =
 abbrev pub share : ℕ → ℕ → ℕ
 share part whole = rounded (100 * part) whole
 
+-- the mapper's seven numbers (specification 4.1)
+pub record Mapping : Type 0 where
+  pub number : ℕ
+  pub place : ℕ
+  pub size : ℕ
+  pub buffers : ℕ
+  pub depth : ℕ
+  pub junctions : ℕ
+  pub share : ℕ
+
 -- a refusal: what follows the place is 0
 abbrev pub refusal : ℕ → ℕ → Mapping
 refusal number place =
@@ -60,6 +70,11 @@ figures n bs part whole =
       junctions = whole;
       share = share part whole;
     }
+
+-- the numbers of an accepted source: number and place are 0
+abbrev pub accepted : MapTotals → Mapping
+accepted t =
+    record { number = 0; place = 0; size = t.size; buffers = t.buffers; depth = t.depth; junctions = t.junctions; share = t.share }
 
 -- the answer that the checks leave; the mapped netlist is priced
 abbrev pub answer_of : Checked → Netlist → Capacities → List ℕ → Mapping

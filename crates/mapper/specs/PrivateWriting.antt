@@ -1,6 +1,6 @@
 -- For private functions alone: what the mapper's local arrays and its area hold while nets are written.
 use Rattle.std.specs.Prelude.{ℕ, zero, suc, ◌+◌, ◌*◌, ◌≤◌, ◌<◌, ◌/◌, ◌%◌, ◌≡◌, true, false, List, length, get_or, replicate}
-use Rattle.facts.specs.declared.Checked.TheVariants.{Passed}
+use Rattle.facts.specs.Answers.{Passed}
 use Rattle.facts.specs.Lists.{tabulate}
 use Rattle.netlist.specs.declared.Capacities.{Capacities}
 use Rattle.netlist.specs.declared.Record.{Record}

@@ -1,6 +1,6 @@
 -- What is promised of the mapper and of the block view, on any bytes, capacities, price list and area.
 use Rattle.std.specs.Prelude.{ℕ, ◌+◌, ◌*◌, ◌≤◌, ◌<◌, ◌≡◌, true, false, List, [], length, take, eqb}
-use Rattle.facts.specs.declared.Checked.TheVariants.{Passed, Refused}
+use Rattle.facts.specs.Answers.{Passed, Refused}
 use Rattle.facts.specs.Sums.{count}
 use Rattle.facts.specs.Refusals.{Conditions, Fails, ◌or◌, Each, Exact}
 use Rattle.netlist.specs.declared.Capacities.{Capacities}

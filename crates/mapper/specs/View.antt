@@ -1,6 +1,6 @@
 -- The block view (specification 4.8): the block of one driver's buffers as a part of the lent mapped netlist.
 use Rattle.std.specs.Prelude.{ℕ, suc, ◌*◌, ◌-◌, cond, List, [], take, drop, leb}
-use Rattle.facts.specs.declared.Checked.{Checked}
+use Rattle.facts.specs.Answers.{Checked}
 use Rattle.facts.specs.Checks.{unless_refused}
 use Rattle.netlist.specs.declared.Capacities.{Capacities}
 use Rattle.netlist.specs.Kinds.{width, is_driver}

@@ -1,5 +1,6 @@
 // Where one driver's block stands.
 ghost use Rattle.std.specs.Prelude.{◌≡◌, ◌≤◌};
+ghost use Rattle.facts.specs.Answers.{Passed};
 ghost use Rattle.netlist.specs.Records.{netlist};
 ghost use Rattle.netlist.specs.Checks.{input_checks};
 ghost use Rattle.mapper.specs.Mapped.{block_start};
@@ -7,11 +8,9 @@ ghost use Rattle.mapper.specs.View.{no_ends, block_ends};
 ghost use Rattle.mapper.specs.PrivateWriting.{Sized, Mappable};
 
 use crate::Ends;
-use facts::Checked;
 use fanout::DISTANCES;
 use netlist::{Capacities, MAPPED_LIMIT, SLOTS, UNUSED};
 use nets::sinks::{RECORDS, SINKS};
-use nets::trees::Sizing;
 use nets::{sinks, trees};
 
 // No block.
@@ -66,7 +65,7 @@ fn counted_ends(
 
 // Check 8 of a source that passes 1, 26 and 2 to 7, and the block of record d.
 fn source_ends(source: &[u8], capacities: Capacities, d: usize) -> Ends
-    requires { input_checks source.now capacities ≡ Checked.Passed }
+    requires { input_checks source.now capacities ≡ Passed }
     ensures { result ≡ block_ends source.now capacities d }
 {
     let n = netlist::record_count(source);
@@ -76,7 +75,7 @@ fn source_ends(source: &[u8], capacities: Capacities, d: usize) -> Ends
     let mut next = [UNUSED; SINKS];
     let mut row = [0u32; DISTANCES];
     let mut totals = [0u32; RECORDS];
-    let sizing = trees::size_trees(
+    let sized = trees::size_trees(
         source,
         capacities,
         n,
@@ -86,9 +85,9 @@ fn source_ends(source: &[u8], capacities: Capacities, d: usize) -> Ends
         &mut row,
         &mut totals,
     );
-    match sizing {
-        Sizing::Total(total) => counted_ends(source, capacities, n, &totals, total, d),
-        Sizing::Stops(_, _) => no_ends(),
+    match sized {
+        Ok(total) => counted_ends(source, capacities, n, &totals, total, d),
+        Err(_) => no_ends(),
     }
 }
 
@@ -96,9 +95,8 @@ fn source_ends(source: &[u8], capacities: Capacities, d: usize) -> Ends
 pub(crate) fn block_ends(source: &[u8], capacities: Capacities, d: usize) -> Ends
     ensures { result ≡ block_ends source.now capacities d }
 {
-    let checked = netlist::check_input(source, capacities);
-    match checked {
-        Checked::Passed => source_ends(source, capacities, d),
-        Checked::Refused(_, _) => no_ends(),
+    match netlist::check_input(source, capacities) {
+        Ok(()) => source_ends(source, capacities, d),
+        Err(_) => no_ends(),
     }
 }

@@ -13,13 +13,11 @@ use netlist::{BUFFER, Record, SLOTS, UNUSED, record_writer};
 pub(crate) fn buffer_of(level: u16, fanin: u16) -> Record
     ensures { result ≡ buffer_of level fanin }
 {
-    let mut slots = [UNUSED; SLOTS];
-    slots[0] = fanin;
     Record {
         kind: BUFFER,
         inversion: 0,
         level,
-        slots,
+        slots: [fanin, UNUSED, UNUSED],
     }
 }
 
@@ -29,20 +27,8 @@ fn write_relinked(area: &mut [u8], i: usize, r: Record, parents: &[u16])
     ensures { area.new ≡ put area.old (width * i) (encode (relinked r parents.now i)) }
 {
     let at = SLOTS * i;
-    let a = parents[at];
-    let b = parents[at + 1];
-    let c = parents[at + 2];
-    let slots = [a, b, c];
-    record_writer::write_record(
-        area,
-        i,
-        Record {
-            kind: r.kind,
-            inversion: r.inversion,
-            level: r.level,
-            slots,
-        },
-    );
+    let slots = [parents[at], parents[at + 1], parents[at + 2]];
+    record_writer::write_record(area, i, Record { slots, ..r });
 }
 
 // The source's records at their old indices.
@@ -51,9 +37,7 @@ pub(crate) fn write_source(source: &[u8], parents: &[u16], area: &mut [u8])
     requires source_in_bounds_2 { width * record_count source.now ≤ length area.old }
     ensures { area.new ≡ put area.old 0 (encoded (relinked_at source.now parents.now) (record_count source.now)) }
 {
-    let mut i: usize = 0;
-    while i < netlist::record_count(source) {
+    for i in 0..netlist::record_count(source) {
         write_relinked(area, i, netlist::record_at(source, i), parents);
-        i += 1;
     }
 }

@@ -10,15 +10,13 @@ ghost use Rattle.fanout.specs.Nets.{tree_size};
 ghost use Rattle.mapper.specs.Mapped.{block_start, mapped_size, mapped};
 ghost use Rattle.mapper.specs.PrivateWriting.{Ready, Stale, behind, level_record, line_parent, line_record, CountedNet, FirstParents, ParentsSet, ParentsWritten, on_parent, on_line, ParentsDue, NodeCounts, Writable, Wrote};
 ghost use Rattle.nets.specs.PrivateChains.{Chained};
-ghost use Rattle.prices.specs.PrivatePrices.{AppliedPrices};
 ghost use Rattle.mapper.specs.PrivatePricing.{tree_price, NodesCounted};
 
-use crate::{pricing, records};
+use crate::{Job, pricing, records};
 use fanout::DISTANCES;
 use netlist::{Capacities, record_writer};
-use nets::sinks::Chain;
-use nets::{numbers, sinks};
-use prices::LIST_LENGTH;
+use nets::sinks;
+use nets::sinks::{Chain, Chains};
 
 // The buffers of one net as they are written: the record behind the last, and their price.
 #[derive(Clone, Copy)]
@@ -32,11 +30,7 @@ fn clear_row(top: usize, row: &mut [u32; DISTANCES])
     requires { Stale row.old top }
     ensures { row.new ≡ replicate (suc top_level) 0 }
 {
-    let mut k: usize = 0;
-    while k <= top {
-        row[k] = 0;
-        k += 1;
-    }
+    row[..=top].fill(0);
 }
 
 // What node q of distance k hangs on, where the first node hangs on base: at distance 1 all hang on the driver.
@@ -56,14 +50,12 @@ fn write_level(area: &mut [u8], s: u32, k: usize, at: usize, level: u16, base: u
     requires n_bound { base + n < 65536 }
     ensures { area.new ≡ put area.old (width * at) (encoded (level_record s k level base) n) }
 {
-    let mut j: u32 = 0;
-    while j < n {
+    for j in 0..n {
         record_writer::write_record(
             area,
             at + j as usize,
             records::buffer_of(level, parent_of(base, s, k, j)),
         );
-        j += 1;
     }
 }
 
@@ -89,14 +81,12 @@ fn write_buffers(
     let low = netlist::level_at(source, d);
     let mut at = start;
     let mut from = d as u16;
-    let mut k: usize = 1;
-    while k <= top {
+    for k in 1..top + 1 {
         let n = row[k];
         base[k] = from;
         write_level(area, capacities.buffer, k, at, low + k as u16, from, n);
         from = at as u16;
-        at += numbers::amount(n);
-        k += 1;
+        at += n as usize;
     }
     at
 }
@@ -117,9 +107,9 @@ fn set_parents(
     ensures node_counts { NodeCounts (netlist source.now) capacities d row.new }
 {
     let low = netlist::level_at(source, d);
-    let mut p = numbers::index(first[d]);
+    let mut p = usize::from(first[d]);
     while p < end {
-        let after = numbers::index(next[p]);
+        let after = usize::from(next[p]);
         let k = sinks::distance(source, low, p);
         let q = row[k];
         row[k] = q + 1;
@@ -132,48 +122,36 @@ fn set_parents(
 fn count_buffers(
     source: &[u8],
     capacities: Capacities,
-    end: usize,
-    first: &[u16],
-    next: &[u16],
+    chains: Chains<'_>,
     d: usize,
     row: &mut [u32; DISTANCES],
 ) -> usize
     requires ready { Ready (netlist source.now) capacities }
-    requires chained { Chained (netlist source.now) first.now next.now d end }
+    requires chained { Chained (netlist source.now) chains.first.now chains.next.now d chains.end }
     requires d_bound { d < (netlist source.now).size }
     requires row_value { row.old ≡ replicate (suc top_level) 0 }
     ensures { CountedNet (netlist source.now) capacities d row.new result }
 {
-    let reach = sinks::fill_row(source, end, first, next, d, row);
+    let reach = chains.fill_row(source, d, row);
     fanout::walk(capacities.buffer, reach, true, row);
     reach.far
 }
 
 // The price of d's tree, which has so many buffers, by its row of nodes; then the row is all zero again.
-fn price_row(
-    source: &[u8],
-    capacities: Capacities,
-    d: usize,
-    size: usize,
-    top: usize,
-    row: &mut [u32; DISTANCES],
-    prices: &[u32; LIST_LENGTH],
-) -> u32
-    requires nodes_counted { NodesCounted (netlist source.now) capacities d row.old top }
-    requires size_value { size ≡ tree_size (netlist source.now) capacities d }
-    requires applied_prices { AppliedPrices prices.now }
-    ensures value { result ≡ tree_price prices.now (netlist source.now) capacities d }
+fn price_row(job: Job<'_>, d: usize, size: usize, top: usize, row: &mut [u32; DISTANCES]) -> u32
+    requires nodes_counted { NodesCounted (netlist job.source.now) job.capacities d row.old top }
+    requires size_value { size ≡ tree_size (netlist job.source.now) job.capacities d }
+    ensures value { result ≡ tree_price job.entry.prices.now.list (netlist job.entry.source.now) job.entry.capacities d }
     ensures row_after { row.new ≡ replicate (suc top_level) 0 }
 {
-    let price = pricing::price_tree(source, capacities, d, size, top, row, prices);
+    let price = pricing::price_tree(job, d, size, top, row);
     clear_row(top, row);
     price
 }
 
 // The tree of d: its buffers go to the area from record start on, its sinks' parents to their slots; then the row counts its nodes, by which it is priced.
 fn write_tree(
-    source: &[u8],
-    capacities: Capacities,
+    job: Job<'_>,
     end: usize,
     first: &[u16],
     next: &mut [u16],
@@ -181,20 +159,19 @@ fn write_tree(
     start: usize,
     row: &mut [u32; DISTANCES],
     base: &mut [u16; DISTANCES],
-    prices: &[u32; LIST_LENGTH],
     area: &mut [u8],
 ) -> NetBlock
-    requires writable { Writable (netlist source.now) capacities d start first.now next.old end row.old base.old area.old }
-    requires applied_prices { AppliedPrices prices.now }
-    ensures wrote { Wrote (netlist source.now) capacities d start first.now next.new end row.new base.new area.old area.new result.after }
-    ensures price_value { result.price ≡ tree_price prices.now (netlist source.now) capacities d }
+    requires writable { Writable (netlist job.source.now) job.capacities d start first.now next.old end row.old base.old area.old }
+    ensures wrote { Wrote (netlist job.entry.source.now) job.entry.capacities d start first.now next.new end row.new base.new area.old area.new result.after }
+    ensures price_value { result.price ≡ tree_price job.entry.prices.now.list (netlist job.entry.source.now) job.entry.capacities d }
 {
-    let top = count_buffers(source, capacities, end, first, next, d, row);
-    let after = write_buffers(source, capacities, d, start, top, row, base, area);
-    set_parents(source, capacities, end, first, next, d, base, row);
+    let chains = Chains { first, next, end };
+    let top = count_buffers(job.source, job.capacities, chains, d, row);
+    let after = write_buffers(job.source, job.capacities, d, start, top, row, base, area);
+    set_parents(job.source, job.capacities, end, first, next, d, base, row);
     NetBlock {
         after,
-        price: price_row(source, capacities, d, after - start, top, row, prices),
+        price: price_row(job, d, after - start, top, row),
     }
 }
 
@@ -204,9 +181,10 @@ fn line_parent(d: usize, start: usize, k: usize) -> u16
     ensures { result ≡ line_parent d start k }
 {
     if k < 2 {
-        return d as u16;
+        d as u16
+    } else {
+        (start + (k - 2)) as u16
     }
-    (start + (k - 2)) as u16
 }
 
 // n buffers in a line, from record start on, above d, which stands at level low.
@@ -215,15 +193,13 @@ fn write_line(area: &mut [u8], d: usize, start: usize, low: u16, n: usize)
     requires d_bound { (d < 65536) × (start + n < 65536) × (low + n < 65536) }
     ensures { area.new ≡ put area.old (width * start) (encoded (line_record d start low) n) }
 {
-    let mut j: usize = 0;
-    while j < n {
+    for j in 0..n {
         let k = j + 1;
         record_writer::write_record(
             area,
             start + j,
             records::buffer_of(low + k as u16, line_parent(d, start, k)),
         );
-        j = k;
     }
 }
 
@@ -242,9 +218,9 @@ fn set_line_parents(
     ensures { ParentsWritten (netlist source.now) d (on_line (netlist source.now) d start) next.old next.new }
 {
     let low = netlist::level_at(source, d);
-    let mut p = numbers::index(first[d]);
+    let mut p = usize::from(first[d]);
     while p < end {
-        let after = numbers::index(next[p]);
+        let after = usize::from(next[p]);
         next[p] = line_parent(d, start, sinks::distance(source, low, p));
         p = after;
     }
@@ -252,8 +228,7 @@ fn set_line_parents(
 
 // The net of d, by its sinks: nothing, a line or a tree, from record start on.
 fn write_net(
-    source: &[u8],
-    capacities: Capacities,
+    job: Job<'_>,
     end: usize,
     first: &[u16],
     next: &mut [u16],
@@ -261,15 +236,14 @@ fn write_net(
     start: usize,
     row: &mut [u32; DISTANCES],
     base: &mut [u16; DISTANCES],
-    prices: &[u32; LIST_LENGTH],
     area: &mut [u8],
 ) -> NetBlock
-    requires writable { Writable (netlist source.now) capacities d start first.now next.old end row.old base.old area.old }
-    requires applied_prices { AppliedPrices prices.now }
-    ensures wrote { Wrote (netlist source.now) capacities d start first.now next.new end row.new base.new area.old area.new result.after }
-    ensures price_value { result.price ≡ tree_price prices.now (netlist source.now) capacities d }
+    requires writable { Writable (netlist job.source.now) job.capacities d start first.now next.old end row.old base.old area.old }
+    ensures wrote { Wrote (netlist job.entry.source.now) job.entry.capacities d start first.now next.new end row.new base.new area.old area.new result.after }
+    ensures price_value { result.price ≡ tree_price job.entry.prices.now.list (netlist job.entry.source.now) job.entry.capacities d }
 {
-    let chain = sinks::chain_of(source, end, first, next, d);
+    let chains = Chains { first, next, end };
+    let chain = chains.of_driver(job.source, d);
     match chain {
         Chain::Empty => NetBlock {
             after: start,
@@ -277,76 +251,66 @@ fn write_net(
         },
         Chain::Short(top, other) => {
             let n = top - 1;
-            set_line_parents(source, end, first, next, d, start);
-            write_line(area, d, start, netlist::level_at(source, d), n);
+            set_line_parents(job.source, end, first, next, d, start);
+            write_line(area, d, start, netlist::level_at(job.source, d), n);
             NetBlock {
                 after: start + n,
-                price: pricing::price_line(prices, n, other),
+                price: pricing::price_line(job.prices, n, other),
             }
         }
-        Chain::Long => write_tree(
-            source, capacities, end, first, next, d, start, row, base, prices, area,
-        ),
+        Chain::Long => write_tree(job, end, first, next, d, start, row, base, area),
     }
 }
 
 // The nets of all drivers, rising: their buffers behind the source's records, and what each sink hangs on. The row is all zero before each. Their price is handed back.
 fn write_nets(
-    source: &[u8],
-    capacities: Capacities,
+    job: Job<'_>,
     n: usize,
     end: usize,
     first: &[u16],
     next: &mut [u16],
     row: &mut [u32; DISTANCES],
-    prices: &[u32; LIST_LENGTH],
     area: &mut [u8],
 ) -> u32
-    requires ready { Ready (netlist source.now) capacities × AppliedPrices prices.now }
-    requires n_value { n ≡ record_count source.now }
-    requires parents_set { ParentsSet (netlist source.now) capacities first.now next.old 0 end }
+    requires ready { Ready (netlist job.source.now) job.capacities }
+    requires n_value { n ≡ record_count job.source.now }
+    requires parents_set { ParentsSet (netlist job.source.now) job.capacities first.now next.old 0 end }
     requires row_value { row.old ≡ replicate (suc top_level) 0 }
-    requires capacities_in_bounds { width * mapped_size (netlist source.now) capacities ≤ length area.old }
-    ensures parents_set_2 { ParentsSet (netlist source.now) capacities first.now next.new (netlist source.now).size end }
-    ensures area_after { area.new ≡ with_records (mapped (netlist source.now) capacities) (netlist source.now).size (sum (tree_size (netlist source.now) capacities) (netlist source.now).size) area.old }
-    ensures value { result ≡ sum (tree_price prices.now (netlist source.now) capacities) (netlist source.now).size }
+    requires capacities_in_bounds { width * mapped_size (netlist job.source.now) job.capacities ≤ length area.old }
+    ensures parents_set_2 { ParentsSet (netlist job.entry.source.now) job.entry.capacities first.now next.new (netlist job.entry.source.now).size end }
+    ensures area_after { area.new ≡ with_records (mapped (netlist job.entry.source.now) job.entry.capacities) (netlist job.entry.source.now).size (sum (tree_size (netlist job.entry.source.now) job.entry.capacities) (netlist job.entry.source.now).size) area.old }
+    ensures value { result ≡ sum (tree_price job.entry.prices.now.list (netlist job.entry.source.now) job.entry.capacities) (netlist job.entry.source.now).size }
 {
     let mut base = [0u16; DISTANCES];
     let mut at = n;
     let mut total: u32 = 0;
-    let mut d: usize = 0;
-    while d < n {
-        let block = write_net(
-            source, capacities, end, first, next, d, at, row, &mut base, prices, area,
-        );
+    for d in 0..n {
+        let block = write_net(job, end, first, next, d, at, row, &mut base, area);
         at = block.after;
         total += block.price;
-        d += 1;
     }
     total
 }
 
 // The whole mapped netlist, into an area that it fits. The price of its buffers is handed back.
 pub(crate) fn write_mapped(
-    source: &[u8],
-    capacities: Capacities,
+    job: Job<'_>,
     n: usize,
     end: usize,
     first: &[u16],
     next: &mut [u16],
     row: &mut [u32; DISTANCES],
-    prices: &[u32; LIST_LENGTH],
     area: &mut [u8],
 ) -> u32
-    requires ready { Ready (netlist source.now) capacities × AppliedPrices prices.now }
-    requires chained { Chained (netlist source.now) first.now next.old 0 end }
-    requires n_value { n ≡ record_count source.now }
+    requires ready { Ready (netlist job.source.now) job.capacities }
+    requires chained { Chained (netlist job.source.now) first.now next.old 0 end }
+    requires n_value { n ≡ record_count job.source.now }
     requires row_value { row.old ≡ replicate (suc top_level) 0 }
-    requires capacities_in_bounds { width * mapped_size (netlist source.now) capacities ≤ length area.old }
-    ensures area_after { area.new ≡ onto (bytes_of (mapped (netlist source.now) capacities)) area.old }
-    ensures value { result ≡ sum (tree_price prices.now (netlist source.now) capacities) (netlist source.now).size }
+    requires capacities_in_bounds { width * mapped_size (netlist job.source.now) job.capacities ≤ length area.old }
+    ensures area_after { area.new ≡ onto (bytes_of (mapped (netlist job.entry.source.now) job.entry.capacities)) area.old }
+    ensures value { result ≡ sum (tree_price job.entry.prices.now.list (netlist job.entry.source.now) job.entry.capacities) (netlist job.entry.source.now).size }
 {
-    let price = write_nets(source, capacities, n, end, first, next, row, prices, area);
-    records::write_source(source, next, area);
+    let price = write_nets(job, n, end, first, next, row, area);
+    records::write_source(job.source, next, area);
     price
 }

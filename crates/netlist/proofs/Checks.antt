@@ -8,14 +8,14 @@ use mathlib.Core.Path.{◌≡◌, refl, sym, ap, ◌∙◌}
 use mathlib.Core.Logic.{◌≢◌}
 use mathlib.Core.Bool.{Bool, true, false, cond, not, ◌&&◌, ◌||◌}
 use mathlib.Core.List.{List, []}
+use Rattle.std.specs.Prelude.{Option, Some, None, MatchOption, unwrap_or}
 use lib.ListN.{length, get_or-eq_default}
 use lib.Pow.{pow-lt}
 use mir.Syntax.{w8}
 use mir.Val.{Fits}
 use lib.Dec.{ltb, leb, eqb}
 use borrow.Author.Tests.{lt-ltb, le-ltb, le-leb, lt-leb, leb-true, eq-eqb, ne_eqb, ltb-false, eqb-true}
-use Rattle.facts.specs.declared.Checked.{Checked}
-use Rattle.facts.specs.declared.Checked.TheVariants.{Passed, Refused}
+use Rattle.facts.specs.Answers.{Checked, Passed, Refused}
 use Rattle.facts.specs.Checks.{check, ◌and_then◌, scan}
 use Rattle.facts.specs.Sums.{any, seek}
 use Rattle.facts.proofs.Bools.{and_r, or_false, or_r}
@@ -147,27 +147,9 @@ module _ (bytes : List ℕ) (n : ℕ) (c : n ≡ record_count bytes) where
   depth_none k i h =
       sym (depth_is n (seek_end outputs n k i h) ∙ ap (λ (r : Record). r.level) (record_past bytes n (omega (arith, c))))
 
--- whether an output was met, and the level of the first: no other record changes them, and the first one sets both
-module _ (deep : ℕ) (r : Record) where
-  module _ (o : r.kind ≡ output → ⊥) where
-    pub other_seen : (seen : Bool) → seen ≡ (seen || eqb r.kind output)
-    other_seen seen = rw (ne_eqb r.kind output o) (sym (or_false seen))
-
-    pub other_level : (seen : Bool) → deep ≡ cond seen deep (cond (eqb r.kind output) r.level deep)
-    other_level true = refl
-    other_level false = rw (ne_eqb r.kind output o)
-
-  module _ (o : r.kind ≡ output) (seen : Bool) (f : seen ≡ false) where
-    pub first_seen : true ≡ (seen || eqb r.kind output)
-    first_seen = rw (f, eq-eqb r.kind output o)
-
-    pub first_level : r.level ≡ cond seen deep (cond (eqb r.kind output) r.level deep)
-    first_level = rw (f, eq-eqb r.kind output o)
-
--- the first k records: whether an output is among them, and D if one is
-pub record Met (bytes : List ℕ) (k : ℕ) (seen : Bool) (deep : ℕ) : Type 0 where
-  pub output_met : seen ≡ any (is_output (netlist bytes)) k
-  pub level_met : deep ≡ cond (any (is_output (netlist bytes)) k) (depth (netlist bytes)) 0
+-- D if an output is among the first k records
+abbrev pub met_depth : List ℕ → ℕ → Option ℕ
+met_depth bytes k = cond (any (is_output (netlist bytes)) k) (Some (depth (netlist bytes))) None
 
 module _ (bytes : List ℕ) where
   abbrev met : ℕ → Bool
@@ -180,34 +162,35 @@ module _ (bytes : List ℕ) where
       let h = (or_none (met i) (is_output (netlist bytes) i)).0 e in
       rw (← add-one i) (seek_more (is_output (netlist bytes)) (record_count bytes) i (unseen i (omega arith) h.0) (omega arith) h.1)
 
-  pub met_start : Met bytes 0 false 0
+  pub met_start : None ≡ met_depth bytes 0
   unfolding any
-  met_start = record { output_met = refl; level_met = refl }
+  met_start = refl
 
   module _ (k : ℕ) (r : Record) (e : r ≡ record_at bytes k) where
-    module _ (seen : Bool) (deep x n : ℕ) (i : Met bytes k seen deep) (l : k < n) (c : n ≡ record_count bytes) (g : x ≡ cond seen deep (cond (eqb r.kind output) r.level deep)) where
+    module _ (deep x : Option ℕ) (n : ℕ) (i : deep ≡ met_depth bytes k) (l : k < n) (c : n ≡ record_count bytes)
+        (g : MatchOption deep (x ≡ cond (eqb r.kind output) (Some r.level) None) (λ level. x ≡ Some level)) where
       -- record k is met next
-      pub met_more : (b : Bool) → b ≡ (seen || eqb r.kind output) → Met bytes (k + 1) b x
+      pub met_more : x ≡ met_depth bytes (k + 1)
       unfolding any
-      met_more b f =
-          record {
-            output_met = f ∙ rw (add-one k, i.output_met, e);
-            level_met = g ∙ rw (add-one k, i.level_met, i.output_met, e) (go (met k) (is_output (netlist bytes) k) refl refl);
-          }
+      met_more = rw (add-one k) (go (met k) (is_output (netlist bytes) k) refl refl (rw (i, e) at g))
         where
-          go : (s o : Bool) → met k ≡ s → is_output (netlist bytes) k ≡ o → cond s (cond s (depth (netlist bytes)) 0) (cond o (record_at bytes k).level (cond s (depth (netlist bytes)) 0)) ≡ cond (s || o) (depth (netlist bytes)) 0
-          go true o p q = refl
-          go false true p q =
-              depth_here bytes (record_count bytes) refl k (unseen k (omega arith) p) (omega arith) (record_at bytes k) refl (eqb-true (record_at bytes k).kind output q)
-          go false false p q = refl
+          go : (s o : Bool) → met k ≡ s → is_output (netlist bytes) k ≡ o →
+              MatchOption (cond s (Some (depth (netlist bytes))) None) (x ≡ cond o (Some (record_at bytes k).level) None) (λ level. x ≡ Some level) →
+              x ≡ cond (s || o) (Some (depth (netlist bytes))) None
+          go true o p q h = h
+          go false true p q h =
+              h ∙ ap Some (depth_here bytes (record_count bytes) refl k (unseen k (omega arith) p) (omega arith) (record_at bytes k) refl (eqb-true (record_at bytes k).kind output q))
+          go false false p q h = h
 
       -- the level met so far serves record k as D: it is D where the record is an output, and no other record is held to it
-      pub met_serves : misplaced x r ≡ misplaced (depth (netlist bytes)) r
+      pub met_serves : misplaced (unwrap_or x 0) r ≡ misplaced (depth (netlist bytes)) r
       unfolding any
       met_serves = rw e (go (is_output (netlist bytes) k) refl)
         where
-          go : (b : Bool) → is_output (netlist bytes) k ≡ b → misplaced x (record_at bytes k) ≡ misplaced (depth (netlist bytes)) (record_at bytes k)
-          go true o = ap (λ (y : ℕ). misplaced y (record_at bytes k)) ((met_more (seen || eqb r.kind output) refl).level_met ∙ rw (add-one k, o, or_r (met k) true refl))
+          go : (b : Bool) → is_output (netlist bytes) k ≡ b → misplaced (unwrap_or x 0) (record_at bytes k) ≡ misplaced (depth (netlist bytes)) (record_at bytes k)
+          go true o =
+              let d : x ≡ Some (depth (netlist bytes)) = met_more ∙ rw (add-one k, o, or_r (met k) true refl) in
+              ap (λ (y : Option ℕ). misplaced (unwrap_or y 0) (record_at bytes k)) d
           go false o = rw o
 
     pub record_checked : (a : Checked) → a ≡ (structure_of (netlist bytes) k r and_then level_of (netlist bytes) k r) → a ≡ record_checks (netlist bytes) k

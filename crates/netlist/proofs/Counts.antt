@@ -6,8 +6,10 @@ use mathlib.Core.Path.{◌≡◌, refl, ◌∙◌, ap}
 use mathlib.Core.Bool.{Bool, true, false}
 use lib.Dec.{leb, eqb}
 use borrow.Author.Tests.{leb-true, le-leb, eqb-true, eqb-false}
-use Rattle.facts.specs.Sums.{bit, sum, count}
+use Rattle.std.specs.Int.{from_bool}
+use Rattle.facts.specs.Sums.{sum, count}
 use Rattle.facts.proofs.Bools.{and_l, and_r, not-true}
+use Rattle.facts.proofs.Chains.{one_bit}
 use Rattle.facts.proofs.Sums.{bit_le, count_cong}
 use Rattle.netlist.specs.Kinds.{and, majority, among}
 use Rattle.netlist.specs.Records.{Netlist}
@@ -24,18 +26,18 @@ module _ (m : Netlist) (first last n : ℕ) where
   unfolding count sum
   counting_start = record { within = omega arith; few = omega arith; so_far = refl }
 
-  module _ (total i one x : ℕ) (b : Bool) (c : KindCounting m first last n total i) (h : i < n) (g : one ≡ bit b) where
+  module _ (total i one x : ℕ) (b : Bool) (c : KindCounting m first last n total i) (h : i < n) (g : one ≡ from_bool b) where
     pub counting_more : x ≡ (m.at i).kind → b ≡ among first last x → KindCounting m first last n (total + one) (i + 1)
     unfolding count sum
     counting_more e f =
         record {
           within = omega arith;
-          few = omega (arith, c.few, bit_le b);
-          so_far = rw (add-one i, ← e, ← f) (omega (arith, c.so_far));
+          few = omega (arith, c.few, one_bit b, bit_le b);
+          so_far = rw (add-one i, ← e, ← f) (omega (arith, c.so_far, one_bit b));
         }
 
     pub counting_fits : n < 2 ^ 64 → total + one < 2 ^ 64
-    counting_fits l = omega (arith, c.few, bit_le b)
+    counting_fits l = omega (arith, c.few, one_bit b, bit_le b)
 
   pub counting_end : (total i : ℕ) → KindCounting m first last n total i → n ≤ i → n ≡ m.size → total ≡ count_kind m (among first last)
   counting_end total i c h q =

@@ -23,15 +23,9 @@ module _ (bytes : List ℕ) (k v : ℕ) (room : width * k + width ≤ length byt
   place = width * k + level_place
 
   -- its two bytes, stored one by one
-  pub second_inside : (a : ℕ) → place + 1 < length (set bytes place a)
-  second_inside a = omega (arith, length-set bytes place a)
-
-  pub level_stored : (a b : ℕ) → a ≡ v % 256 → b ≡ v / 256 % 256 → set (set bytes place a) (place + 1) b ≡ with_level bytes k v
-  unfolding with_level
-  level_stored a b = stores_two bytes place v a b (omega arith)
-
   stored : set (set bytes place (v % 256)) (place + 1) (v / 256 % 256) ≡ with_level bytes k v
-  stored = level_stored (v % 256) (v / 256 % 256) refl refl
+  unfolding with_level
+  stored = stores_two bytes place v (omega arith)
 
   length_level : length (with_level bytes k v) ≡ length bytes
   unfolding with_level
@@ -49,7 +43,7 @@ module _ (bytes : List ℕ) (k v : ℕ) (room : width * k + width ≤ length byt
       ∙ ap₂ (λ (a b : ℕ). a + 256 * b)
       (get_or-set_other (set bytes place (v % 256)) (place + 1) place (v / 256 % 256) 0 (λ e. omega arith)
       ∙ get_or-set_same bytes place (v % 256) 0 (omega arith))
-      (get_or-set_same (set bytes place (v % 256)) (place + 1) (v / 256 % 256) 0 (second_inside (v % 256)))
+      (get_or-set_same (set bytes place (v % 256)) (place + 1) (v / 256 % 256) 0 (omega (arith, length-set bytes place (v % 256))))
       ∙ two_back v h
 
 -- the levels of the first n records set

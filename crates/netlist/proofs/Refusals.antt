@@ -7,7 +7,7 @@ use mathlib.Core.Bool.{true, not, ◌&&◌, ◌||◌}
 use mathlib.Core.List.{List}
 use lib.ListN.{length}
 use lib.Dec.{leb, eqb}
-use Rattle.facts.specs.declared.Checked.{Checked}
+use Rattle.facts.specs.Answers.{Checked}
 use Rattle.facts.specs.Checks.{◌and_then◌, scan}
 use Rattle.facts.specs.Sums.{any}
 use Rattle.facts.specs.Refusals.{Conditions, row_of, Fails, ◌or◌, Each, First}

@@ -8,7 +8,7 @@ use mathlib.Core.Logic.{◌↔◌, ◌≢◌}
 use mathlib.Core.Bool.{Bool, true, false}
 use mathlib.Core.List.{List}
 use lib.ListN.{length}
-use Rattle.facts.specs.declared.Checked.TheVariants.{Passed}
+use Rattle.facts.specs.Answers.{Passed}
 use Rattle.facts.specs.Checks.{◌and_then◌}
 use borrow.Author.Tests.{leb-false, eqb-true, eq-eqb, ne_eqb}
 use Rattle.facts.specs.Sums.{any, seek}

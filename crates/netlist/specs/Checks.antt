@@ -1,6 +1,6 @@
 -- Checks 1, 26 and 2 to 7 (specification 3.3), each a condition with a name, and their order.
 use Rattle.std.specs.Prelude.{ℕ, ◌%◌, ◌^◌, Bool, cond, not, ◌&&◌, ◌||◌, List, length, ltb, leb, eqb}
-use Rattle.facts.specs.declared.Checked.{Checked}
+use Rattle.facts.specs.Answers.{Checked}
 use Rattle.facts.specs.Checks.{check, ◌and_then◌, scan}
 use Rattle.facts.specs.Sums.{any}
 use Rattle.netlist.specs.declared.Capacities.{Capacities}

@@ -11,10 +11,7 @@ pub const CAPACITY_BYTES: usize = 3;
 fn byte_or_zero(bytes: &[u8], k: usize) -> u32
     ensures { (result ≡ get_or bytes.now k 0) × (result < 256) }
 {
-    if k < bytes.len() {
-        return facts::wide(bytes[k]) as u32;
-    }
-    0
+    u32::from(bytes.get(k).copied().unwrap_or(0))
 }
 
 // One byte for s, then two for b, low byte first.

@@ -2,6 +2,7 @@
 #![tactic(auto)]
 
 ghost use Rattle.std.specs.Prelude.{◌≡◌, leb};
+ghost use Rattle.facts.specs.Answers.{numbered};
 ghost use Rattle.netlist.specs.Kinds.{among, is_gate, is_driver};
 ghost use Rattle.netlist.specs.Kinds;
 ghost use Rattle.netlist.specs.Records.{record_at, record_count, netlist};
@@ -11,7 +12,7 @@ ghost use Rattle.netlist.specs.Capacities.{capacity_of, Allowed};
 ghost use Rattle.netlist.specs.Checks.{outside, capacity_check, input_capacity_check, capacity_checks, source_checks, input_checks};
 ghost use Rattle.netlist.specs.View.{view_of};
 
-use facts::Checked;
+use facts::{Check, Refusal};
 
 pub mod capacity_reader;
 pub mod record_reader;
@@ -59,7 +60,7 @@ pub const BUFFER: u8 = 5;
 pub const ABSENT: u8 = 255;
 
 // One record (specification 1.1).
-#[derive(Clone, Copy)]
+#[derive(Clone, Copy, Debug, PartialEq, Eq, Hash)]
 pub struct Record {
     pub kind: u8,
     pub inversion: u8,
@@ -68,7 +69,7 @@ pub struct Record {
 }
 
 // What a netlist is made for (specification 2.2): the most slots that a buffer may feed, and that an input may.
-#[derive(Clone, Copy)]
+#[derive(Clone, Copy, Debug, PartialEq, Eq, Hash)]
 pub struct Capacities {
     pub buffer: u32,
     pub input: u32,
@@ -78,13 +79,11 @@ pub struct Capacities {
 pub fn capacity_of(capacities: Capacities, kind: u8) -> u32
     ensures { result ≡ capacity_of capacities kind }
 {
-    if kind == BUFFER {
-        return capacities.buffer;
+    match kind {
+        BUFFER => capacities.buffer,
+        INPUT => capacities.input,
+        _ => GATE_CAPACITY,
     }
-    if kind == INPUT {
-        return capacities.input;
-    }
-    GATE_CAPACITY
 }
 
 // How many slots a kind uses: slots 0 to arity - 1.
@@ -99,11 +98,24 @@ pub fn arity(kind: u8) -> usize
     }
 }
 
+// What f gives for the number of slots that a kind uses: a path for each number, so that the compiler knows it.
+pub fn by_arity<R, F: FnMut(usize) -> R>(kind: u8, f: &mut F) -> R
+    requires { F.pre f.old (Kinds.arity kind) }
+    ensures { F.step f.old (Kinds.arity kind) result f.new }
+{
+    match arity(kind) {
+        0 => f(0),
+        1 => f(1),
+        2 => f(2),
+        _ => f(SLOTS),
+    }
+}
+
 // A kind from the first to the last of a range.
 fn is_among(kind: u8, first: u8, last: u8) -> bool
     ensures { result ≡ among first last kind }
 {
-    if first <= kind { kind <= last } else { false }
+    first <= kind && kind <= last
 }
 
 // AND, OR and MAJ.
@@ -154,8 +166,7 @@ pub fn record_at(bytes: &[u8], k: usize) -> Record
 pub fn slot(r: Record, j: usize) -> u16
     ensures { result ≡ Records.slot r j }
 {
-    let slots = r.slots;
-    if j < SLOTS { slots[j] } else { UNUSED }
+    r.slots.get(j).copied().unwrap_or(UNUSED)
 }
 
 // The kind of record k.
@@ -183,12 +194,9 @@ pub fn slot_at(bytes: &[u8], k: usize, j: usize) -> u16
 fn count_kinds(bytes: &[u8], first: u8, last: u8) -> usize
     ensures { result ≡ count_kind (netlist bytes.now) (among first last) }
 {
-    let n = record_count(bytes);
     let mut total: usize = 0;
-    let mut k: usize = 0;
-    while k < n {
-        total += facts::one_if(is_among(kind_at(bytes, k), first, last));
-        k += 1;
+    for k in 0..record_count(bytes) {
+        total += usize::from(is_among(kind_at(bytes, k), first, last));
     }
     total
 }
@@ -212,89 +220,77 @@ pub fn may_feed(bytes: &[u8], capacities: Capacities, k: usize, slots: u32) -> b
     requires { Allowed capacities }
     ensures { result ≡ leb slots (capacity_of capacities (record_at bytes.now k).kind) }
 {
-    if slots <= GATE_CAPACITY {
-        return true;
-    }
-    slots <= capacity_of(capacities, kind_at(bytes, k))
+    slots <= GATE_CAPACITY || slots <= capacity_of(capacities, kind_at(bytes, k))
 }
 
 // D: the level of the first output, 0 without outputs.
 pub fn depth(bytes: &[u8]) -> u16
     ensures { result ≡ Records.depth (netlist bytes.now) }
 {
-    let n = record_count(bytes);
-    let mut k: usize = 0;
-    while k < n {
+    for k in 0..record_count(bytes) {
         let r = record_at(bytes, k);
         if r.kind == OUTPUT {
             return r.level;
         }
-        k += 1;
     }
     0
 }
 
 // The source reader: checks 2 to 7.
-pub fn check_source(bytes: &[u8]) -> Checked
-    ensures { result ≡ source_checks bytes.now }
+pub fn check_source(bytes: &[u8]) -> Result<(), Refusal>
+    ensures { numbered result ≡ source_checks bytes.now }
 {
-    let size = source_reader::check_size(bytes);
-    match size {
-        Checked::Passed => source_reader::check_records(bytes, record_count(bytes) as u32),
-        Checked::Refused(number, place) => Checked::Refused(number, place),
-    }
+    source_reader::check_size(bytes)?;
+    source_reader::check_records(bytes, record_count(bytes) as u32)
 }
 
 // Whether a number is below the least or above the most.
 fn is_outside(number: u32, least: u32, most: u32) -> bool
     ensures { result ≡ outside least most number }
 {
-    if number < least {
-        return true;
-    }
-    most < number
+    !(least..=most).contains(&number)
 }
 
 // Check 1 of a buffer's capacity.
-pub fn check_capacity(capacity: u32) -> Checked
-    ensures { result ≡ capacity_check capacity }
+pub fn check_capacity(capacity: u32) -> Result<(), Refusal>
+    ensures { numbered result ≡ capacity_check capacity }
 {
     if is_outside(capacity, LEAST_CAPACITY, MOST_CAPACITY) {
-        return Checked::Refused(1, 0);
+        return Err(Refusal {
+            check: Check::BufferCapacity,
+            place: 0,
+        });
     }
-    Checked::Passed
+    Ok(())
 }
 
 // Check 26 of an input's capacity.
-fn check_input_capacity(capacity: u32) -> Checked
-    ensures { result ≡ input_capacity_check capacity }
+fn check_input_capacity(capacity: u32) -> Result<(), Refusal>
+    ensures { numbered result ≡ input_capacity_check capacity }
 {
     if is_outside(capacity, LEAST_INPUT_CAPACITY, MOST_INPUT_CAPACITY) {
-        return Checked::Refused(26, 0);
+        return Err(Refusal {
+            check: Check::InputCapacity,
+            place: 0,
+        });
     }
-    Checked::Passed
+    Ok(())
 }
 
 // Checks 1 and 26.
-pub fn check_capacities(capacities: Capacities) -> Checked
-    ensures { result ≡ capacity_checks capacities }
+pub fn check_capacities(capacities: Capacities) -> Result<(), Refusal>
+    ensures { numbered result ≡ capacity_checks capacities }
 {
-    let checked = check_capacity(capacities.buffer);
-    match checked {
-        Checked::Passed => check_input_capacity(capacities.input),
-        Checked::Refused(number, place) => Checked::Refused(number, place),
-    }
+    check_capacity(capacities.buffer)?;
+    check_input_capacity(capacities.input)
 }
 
 // What every call with capacities and a source checks first: 1, 26 and 2 to 7.
-pub fn check_input(bytes: &[u8], capacities: Capacities) -> Checked
-    ensures { result ≡ input_checks bytes.now capacities }
+pub fn check_input(bytes: &[u8], capacities: Capacities) -> Result<(), Refusal>
+    ensures { numbered result ≡ input_checks bytes.now capacities }
 {
-    let allowed = check_capacities(capacities);
-    match allowed {
-        Checked::Passed => check_source(bytes),
-        Checked::Refused(number, place) => Checked::Refused(number, place),
-    }
+    check_capacities(capacities)?;
+    check_source(bytes)
 }
 
 // The record view: record k comes from the source below N and from the mapped netlist above; empty from M on.

@@ -10,7 +10,7 @@ pub fn two_bytes(bytes: &[u8], at: usize) -> u16
     requires { at + 1 < length bytes.now }
     ensures { result ≡ field bytes.now at }
 {
-    facts::wide(bytes[at]) + 256 * facts::wide(bytes[at + 1])
+    u16::from_le_bytes([bytes[at], bytes[at + 1]])
 }
 
 // A record from its ten bytes.

@@ -1,42 +1,22 @@
 // The record writer: a record into its ten bytes, and a level alone.
-ghost use Rattle.std.specs.Prelude.{◌≡◌, ◌+◌, ◌*◌, ◌/◌, ◌%◌, ◌≤◌, length};
+ghost use Rattle.std.specs.Prelude.{◌≡◌, ◌+◌, ◌*◌, ◌≤◌, length};
 ghost use Rattle.facts.specs.Areas.{put};
 ghost use Rattle.netlist.specs.Kinds.{width};
 ghost use Rattle.netlist.specs.Bytes.{encode, with_level};
 
-use crate::{LEVEL_PLACE, Record, WIDTH};
-
-// The low and the high byte of a field.
-fn low_byte(v: u16) -> u8
-    ensures { result ≡ v % 256 }
-{
-    (v % 256) as u8
-}
-
-fn high_byte(v: u16) -> u8
-    ensures { result ≡ v / 256 % 256 }
-{
-    (v / 256 % 256) as u8
-}
+use crate::{LEVEL_PLACE, Record, WIDTH, slot};
 
 // A record into its ten bytes.
 fn store(part: &mut [u8], r: Record)
     requires { length part.old ≡ width }
     ensures { part.new ≡ encode r }
 {
-    let a = crate::slot(r, 0);
-    let b = crate::slot(r, 1);
-    let c = crate::slot(r, 2);
     part[0] = r.kind;
     part[1] = r.inversion;
-    part[2] = low_byte(r.level);
-    part[3] = high_byte(r.level);
-    part[4] = low_byte(a);
-    part[5] = high_byte(a);
-    part[6] = low_byte(b);
-    part[7] = high_byte(b);
-    part[8] = low_byte(c);
-    part[9] = high_byte(c);
+    part[2..4].copy_from_slice(&r.level.to_le_bytes());
+    part[4..6].copy_from_slice(&slot(r, 0).to_le_bytes());
+    part[6..8].copy_from_slice(&slot(r, 1).to_le_bytes());
+    part[8..10].copy_from_slice(&slot(r, 2).to_le_bytes());
 }
 
 // A record at its place in the area.
@@ -54,6 +34,5 @@ pub fn write_level(area: &mut [u8], x: usize, level: u16)
     ensures { area.new ≡ with_level area.old x level }
 {
     let at = WIDTH * x + LEVEL_PLACE;
-    area[at] = low_byte(level);
-    area[at + 1] = high_byte(level);
+    area[at..at + 2].copy_from_slice(&level.to_le_bytes());
 }

@@ -1,5 +1,6 @@
 // The source reader: checks 2 to 7.
-ghost use Rattle.std.specs.Prelude.{◌≡◌, false, cond, ◌||◌, ◌^◌, ◌<◌, eqb};
+ghost use Rattle.std.specs.Prelude.{◌≡◌, false, cond, ◌^◌, ◌<◌, eqb, MatchOption};
+ghost use Rattle.facts.specs.Answers.{numbered};
 ghost use Rattle.facts.specs.Checks.{◌and_then◌, scan};
 ghost use Rattle.facts.specs.Sums.{any};
 ghost use Rattle.netlist.specs.Kinds.{slots, output, invertible};
@@ -9,10 +10,10 @@ ghost use Rattle.netlist.specs.Records;
 ghost use Rattle.netlist.specs.Checks.{bad_slot, bad_slots, not_below, misplaced, bad_level, size_checks, structure_of, level_of, record_checks};
 
 use crate::{
-    AND, INPUT, MAJORITY, OR, OUTPUT, Record, SLOTS, SOURCE_LIMIT, TOP_LEVEL, UNUSED, WIDTH, arity,
-    is_gate, record_count, record_reader, slot,
+    INPUT, OUTPUT, Record, SLOTS, SOURCE_LIMIT, TOP_LEVEL, UNUSED, WIDTH, arity, by_arity, is_gate,
+    record_count, record_reader, slot,
 };
-use facts::Checked;
+use facts::{Check, Refusal};
 
 // How many values a kind's inversion byte may have: one bit for each slot that may be inverted.
 fn inversions(kind: u8) -> u8
@@ -46,12 +47,10 @@ fn bad_slots(bytes: &[u8], k: usize, r: Record, used: usize) -> bool
     requires used_value { used ≡ Kinds.arity r.kind }
     ensures { result ≡ bad_slots (netlist bytes.now) k r }
 {
-    let mut j: usize = 0;
-    while j < SLOTS {
+    for j in 0..SLOTS {
         if bad_slot(bytes, k, r, used, j) {
             return true;
         }
-        j += 1;
     }
     false
 }
@@ -77,12 +76,10 @@ fn any_not_below(bytes: &[u8], k: usize, r: Record, used: usize) -> bool
     requires r_value { bad_slots (netlist bytes.now) k r ≡ false }
     ensures { result ≡ any (not_below (netlist bytes.now) r) slots }
 {
-    let mut j: usize = 0;
-    while j < SLOTS {
+    for j in 0..SLOTS {
         if not_below(bytes, k, r, used, j) {
             return true;
         }
-        j += 1;
     }
     false
 }
@@ -104,21 +101,30 @@ fn is_misplaced(deep: u16, r: Record) -> bool
 }
 
 // Checks 4 to 6 of record k.
-pub fn check_structure(bytes: &[u8], k: u32, r: Record, used: usize) -> Checked
+pub fn check_structure(bytes: &[u8], k: u32, r: Record, used: usize) -> Result<(), Refusal>
     requires k_bound { k < record_count bytes.now }
     requires used_value { used ≡ Kinds.arity r.kind }
-    ensures { result ≡ structure_of (netlist bytes.now) k r }
+    ensures { numbered result ≡ structure_of (netlist bytes.now) k r }
 {
     if OUTPUT < r.kind {
-        return Checked::Refused(4, k);
+        return Err(Refusal {
+            check: Check::SourceKind,
+            place: k,
+        });
     }
     if inversions(r.kind) <= r.inversion {
-        return Checked::Refused(5, k);
+        return Err(Refusal {
+            check: Check::Inversion,
+            place: k,
+        });
     }
     if bad_slots(bytes, k as usize, r, used) {
-        return Checked::Refused(6, k);
+        return Err(Refusal {
+            check: Check::Slots,
+            place: k,
+        });
     }
-    Checked::Passed
+    Ok(())
 }
 
 // Check 7: the record's own level or a fanin's is wrong, with the level of the first output in deep if the record is an output.
@@ -136,108 +142,82 @@ fn bad_level(bytes: &[u8], deep: u16, k: usize, r: Record, used: usize) -> bool
 }
 
 // Check 7 of record k.
-fn check_level(bytes: &[u8], deep: u16, k: u32, r: Record, used: usize) -> Checked
+fn check_level(bytes: &[u8], deep: u16, k: u32, r: Record, used: usize) -> Result<(), Refusal>
     requires k_bound { k < record_count bytes.now }
     requires used_value { used ≡ Kinds.arity r.kind }
     requires r_value { bad_slots (netlist bytes.now) k r ≡ false }
     requires r_value_2 { misplaced deep r ≡ misplaced (Records.depth (netlist bytes.now)) r }
-    ensures { result ≡ level_of (netlist bytes.now) k r }
+    ensures { numbered result ≡ level_of (netlist bytes.now) k r }
 {
     if bad_level(bytes, deep, k as usize, r, used) {
-        return Checked::Refused(7, k);
+        return Err(Refusal {
+            check: Check::Level,
+            place: k,
+        });
     }
-    Checked::Passed
+    Ok(())
 }
 
 // Checks 4 to 7 of record k, whose kind uses so many slots.
-fn check_used(bytes: &[u8], deep: u16, k: u32, r: Record, used: usize) -> Checked
+fn check_used(bytes: &[u8], deep: u16, k: u32, r: Record, used: usize) -> Result<(), Refusal>
     requires k_bound { k < record_count bytes.now }
     requires used_value { used ≡ Kinds.arity r.kind }
     requires r_value { misplaced deep r ≡ misplaced (Records.depth (netlist bytes.now)) r }
-    ensures { result ≡ (structure_of (netlist bytes.now) k r and_then level_of (netlist bytes.now) k r) }
+    ensures { numbered result ≡ (structure_of (netlist bytes.now) k r and_then level_of (netlist bytes.now) k r) }
 {
-    let structure = check_structure(bytes, k, r, used);
-    match structure {
-        Checked::Passed => check_level(bytes, deep, k, r, used),
-        Checked::Refused(number, place) => Checked::Refused(number, place),
-    }
+    check_structure(bytes, k, r, used)?;
+    check_level(bytes, deep, k, r, used)
 }
 
-// Checks 4 to 7 of record k; an arm for each kind, so that the compiler knows its slots.
-fn check_record(bytes: &[u8], deep: u16, k: u32, r: Record) -> Checked
+// Checks 4 to 7 of record k.
+fn check_record(bytes: &[u8], deep: u16, k: u32, r: Record) -> Result<(), Refusal>
     requires k_bound { k < record_count bytes.now }
     requires r_value { misplaced deep r ≡ misplaced (Records.depth (netlist bytes.now)) r }
-    ensures { result ≡ (structure_of (netlist bytes.now) k r and_then level_of (netlist bytes.now) k r) }
+    ensures { numbered result ≡ (structure_of (netlist bytes.now) k r and_then level_of (netlist bytes.now) k r) }
 {
-    let kind = r.kind;
-    match kind {
-        INPUT => check_used(bytes, deep, k, r, arity(INPUT)),
-        AND => check_used(bytes, deep, k, r, arity(AND)),
-        OR => check_used(bytes, deep, k, r, arity(OR)),
-        MAJORITY => check_used(bytes, deep, k, r, arity(MAJORITY)),
-        OUTPUT => check_used(bytes, deep, k, r, arity(OUTPUT)),
-        _ => check_used(bytes, deep, k, r, arity(kind)),
-    }
+    let mut check = |used: usize| check_used(bytes, deep, k, r, used);
+    by_arity(r.kind, &mut check)
 }
 
-// Of the records so far: whether one is an output, and the level of the first that is, 0 without one.
-#[derive(Clone, Copy)]
-struct Outputs {
-    seen: bool,
-    level: u16,
-}
-
-// The outputs so far, with record r. Most records are none: nothing is worked out for them.
-fn with_record(outputs: Outputs, r: Record) -> Outputs
-    ensures seen_value { result.seen ≡ (outputs.seen || eqb r.kind output) }
-    ensures level_value { result.level ≡ cond outputs.seen outputs.level (cond (eqb r.kind output) r.level outputs.level) }
+// The level of the first output so far, with record r.
+fn with_record(deep: Option<u16>, r: Record) -> Option<u16>
+    ensures { MatchOption deep (result ≡ cond (eqb r.kind output) (Some r.level) None) (λ level. result ≡ Some level) }
 {
     if r.kind != OUTPUT {
-        return outputs;
+        return deep;
     }
-    if outputs.seen {
-        return outputs;
-    }
-    Outputs {
-        seen: true,
-        level: r.level,
-    }
+    deep.or(Some(r.level))
 }
 
 // Checks 4 to 7 of every record, rising; each is read once.
-pub(crate) fn check_records(bytes: &[u8], n: u32) -> Checked
+pub(crate) fn check_records(bytes: &[u8], n: u32) -> Result<(), Refusal>
     requires { n ≡ record_count bytes.now }
-    ensures { result ≡ scan (record_checks (netlist bytes.now)) 0 n }
+    ensures { numbered result ≡ scan (record_checks (netlist bytes.now)) 0 n }
 {
-    let mut outputs = Outputs {
-        seen: false,
-        level: 0,
-    };
-    let mut k: u32 = 0;
-    while k < n {
+    let mut deep = None;
+    for k in 0..n {
         let r = record_reader::read_at(bytes, k as usize);
-        outputs = with_record(outputs, r);
-        let checked = check_record(bytes, outputs.level, k, r);
-        match checked {
-            Checked::Passed => {}
-            Checked::Refused(number, place) => {
-                return Checked::Refused(number, place);
-            }
-        }
-        k += 1;
+        deep = with_record(deep, r);
+        check_record(bytes, deep.unwrap_or(0), k, r)?;
     }
-    Checked::Passed
+    Ok(())
 }
 
 // Checks 2 and 3.
-pub fn check_size(bytes: &[u8]) -> Checked
-    ensures { result ≡ size_checks bytes.now }
+pub fn check_size(bytes: &[u8]) -> Result<(), Refusal>
+    ensures { numbered result ≡ size_checks bytes.now }
 {
     if bytes.len() % WIDTH != 0 {
-        return Checked::Refused(2, 0);
+        return Err(Refusal {
+            check: Check::SourceLength,
+            place: 0,
+        });
     }
     if SOURCE_LIMIT < record_count(bytes) {
-        return Checked::Refused(3, 0);
+        return Err(Refusal {
+            check: Check::SourceSize,
+            place: 0,
+        });
     }
-    Checked::Passed
+    Ok(())
 }

@@ -59,9 +59,6 @@ module _ (n : Netlist) (first next : List ℕ) (end d : ℕ) (h : Chained n firs
             h.source.few,
           )
 
-      pub fill_near : a ≤ top_level
-      fill_near = omega (arith, near)
-
       pub fill_more : (q top' stretches' : ℕ) → q ≡ get_or next p 0 → top' ≡ max top a → stretches' ≡ bit_or stretches (2 ^ (a / stretch)) →
           Filling n d q (set counts a (get_or counts a 0 + 1)) top' stretches'
       fill_more q top' stretches' g t u =

@@ -21,7 +21,7 @@ use Rattle.netlist.specs.declared.Record.{Record}
 use Rattle.netlist.specs.Kinds.{slots, unused, source_limit, input, arity, is_gate}
 use Rattle.netlist.specs.Records.{Netlist, slot, used, fanin}
 use Rattle.netlist.specs.Source.{IsSource}
-use Rattle.netlist.proofs.Checks.{other_arity, gate_arity, fanin_arity}
+use Rattle.netlist.proofs.Checks.{other_arity}
 use Rattle.nets.specs.PrivateChains.{slot_end, used_slot, fanin_slot, names_slot, next_sink, Emptied, AllUnused, Linked, Chained}
 
 -- what holds only where p does is counted nowhere on the way to the first p
@@ -80,22 +80,6 @@ module _ (n : Netlist) (d : ℕ) where
 -- an array that was made of unused slots
 pub all_unused : (k : ℕ) → AllUnused (replicate k unused)
 all_unused k = record { at = λ y l. get_or-replicate k y unused 0 (omega (arith, length-replicate k unused)) }
-
--- the first d chains are empty
-module _ (end : ℕ) (first : List ℕ) where
-  pub empty_more : (n d : ℕ) (first₀ : List ℕ) → Emptied d end first → d < n → n ≤ length first₀ → length first ≡ length first₀ → Emptied (d + 1) end (set first d end)
-  empty_more n d first₀ h l room same =
-      record {
-        long = omega (arith, length-set first d end);
-        at = λ x b.
-            elim (ℕ_discrete x d) [
-              | yes e ↦ rw e (get_or-set_same first d end 0 (omega arith))
-              | no e ↦ get_or-set_other first d x end 0 e ∙ h.at x (omega (arith, e))
-            ];
-      }
-
-  pub empty_all : (n d : ℕ) → Emptied d end first → d ≤ n → n ≤ d → Emptied n end first
-  empty_all n d h l g = let e : d ≡ n = omega arith in rw e at h
 
 -- the arrays of the largest source hold every source's chains, and two bytes their end
 module _ (n : Netlist) (N : ℕ) (e : N ≡ n.size) (s : IsSource n) where
@@ -184,9 +168,6 @@ module _ (n : Netlist) (i : ℕ) (first next : List ℕ) (s : IsSource n) (l : i
     below : Linked n first next (x + 1)
     below = let e : slots * i + (j + 1) ≡ x + 1 = omega arith in subst (λ (y : ℕ). Linked n first next y) e h
 
-    pub slot_next_inside : x < length next
-    slot_next_inside = omega (arith, h.next_long)
-
     -- a slot that is used, by a kind with more slots than j
     module _ (u : j < arity r.kind) where
       uses : used n i j ≡ true
@@ -194,9 +175,6 @@ module _ (n : Netlist) (i : ℕ) (first next : List ℕ) (s : IsSource n) (l : i
 
       inside : v < n.size
       inside = omega (arith, named, s.earlier i j l (ltb-true j _ uses))
-
-      pub sink_first_inside : (t : ℕ) → t ≡ v → t < length first
-      sink_first_inside t e = omega (arith, h.first_long, inside)
 
       pub sink_linked : (t : ℕ) → t ≡ v → Linked n (set first t x) (set next x (get_or first t 0)) x
       sink_linked t e = link_used n first next x t below (omega arith) (e ∙ named ∙ sym (at_x (fanin n))) (omega (arith, inside)) (at_x (used n) ∙ uses)
@@ -206,16 +184,9 @@ module _ (n : Netlist) (i : ℕ) (first next : List ℕ) (s : IsSource n) (l : i
     whether true g = ne_eqb v unused (λ (z : v ≡ unused). omega (arith, s.few, named, s.earlier i j l (ltb-true j _ g)))
     whether false g = eq-eqb v unused (named ∙ s.empty i j l (ltb-false j _ g) b)
 
-    module _ (p t : ℕ) (ep : p ≡ cond (eqb v unused) i v) (et : t ≡ p) where
+    module _ (d t : ℕ) (ed : d ≡ v) (et : t ≡ cond (eqb v unused) i d) where
       by_slot : (w : Bool) → used n i j ≡ w → t ≡ cond (not w) i v
-      by_slot w g = et ∙ ep ∙ ap (λ (b : Bool). cond b i v) (whether w g)
-
-      pub slot_first_inside : t < length first
-      slot_first_inside = go (used n i j) refl
-        where
-          go : (w : Bool) → used n i j ≡ w → t < length first
-          go true g = omega (arith, h.first_long, named, s.earlier i j l (ltb-true j _ g), by_slot true g)
-          go false g = omega (arith, h.first_long, by_slot false g)
+      by_slot w g = et ∙ ap₂ (λ (b : Bool) (x : ℕ). cond b i x) (whether w g) ed
 
       pub slot_linked : (a c : ℕ) → a ≡ cond (eqb v unused) unused (get_or first t 0) → c ≡ cond (eqb v unused) (get_or first t 0) x →
           Linked n (set first t c) (set next x a) x
@@ -251,26 +222,10 @@ module _ (n : Netlist) (i : ℕ) (first next : List ℕ) (s : IsSource n) (l : i
   later_unused g is f h =
       unused_from 1 2 (omega arith) (omega (arith, other_arity r.kind g is f, ap (λ (r : Record). arity r.kind) q)) (slots_above h)
 
-  -- a gate uses slot 1
-  pub later_used : (g : Bool) → g ≡ is_gate r.kind → g ≡ true → 1 < arity r.kind
-  later_used g is t = gate_arity r.kind g is t
-
-  -- all but inputs use slot 0
-  pub first_used : (r.kind ≡ input → ⊥) → 0 < arity r.kind
-  first_used o = fanin_arity r.kind o (omega (arith, s.kinds i l, ap (λ (r : Record). r.kind) q))
-
   -- an input: slot 0 too
   pub first_unused : r.kind ≡ input → Linked n first next (slots * i + 1) → Linked n first next (slots * i)
   first_unused o h =
       slots_done n i first next (unused_from 0 1 (omega arith) (omega (arith, ap arity o, ap (λ (r : Record). arity r.kind) q)) h)
-
--- from record to record downwards
-module _ (n : Netlist) (first next : List ℕ) where
-  pub linked_below : (i : ℕ) → 0 < i → Linked n first next (slots * i) → Linked n first next (slots * (i - 1 + 1))
-  linked_below i l h = let e : i ≡ i - 1 + 1 = omega arith in subst (λ (y : ℕ). Linked n first next (slots * y)) e h
-
-  pub linked_end : (i : ℕ) → i ≤ 0 → Linked n first next (slots * i) → Linked n first next 0
-  linked_end i l h = let e : slots * i ≡ 0 = omega arith in subst (λ (y : ℕ). Linked n first next y) e h
 
 -- once all slots are linked the chains of all drivers stand; those from a driver on stand from each later one on
 module _ (n : Netlist) (first next : List ℕ) (end : ℕ) where

@@ -1,24 +1,23 @@
 -- Laws of the list of counts: its checks, the number of each net, and the numbers looked up.
-use Prim.Native.Nat.{ℕ, ◌+◌, ◌*◌, ◌/◌, ◌%◌, ◌<◌, ◌≤◌}
+use Prim.Native.Nat.{ℕ, ◌+◌, ◌*◌, ◌%◌, ◌<◌}
 use mathlib.Core.Path.{◌≡◌, refl, sym, ◌∙◌, ap}
 use mathlib.Core.Bool.{Bool, true, false, not, ◌||◌}
 use mathlib.Core.List.{List}
 use native.Mathlib.Omega.{arith}
 use lib.ListN.{length, get_or}
 use lib.Dec.{ltb, eqb}
-use borrow.Author.Tests.{eq-eqb, ne_eqb, lt-ltb, le-ltb, ltb-false, not-false}
-use Rattle.facts.specs.declared.Checked.{Checked}
-use Rattle.facts.specs.declared.Checked.TheVariants.{Passed, Refused}
+use borrow.Author.Tests.{ltb-false, not-false}
+use Rattle.facts.specs.Answers.{Checked, Passed, Refused}
 use Rattle.facts.specs.Checks.{scan}
 use Rattle.facts.specs.Bytes.{four}
 use Rattle.facts.specs.Areas.{put}
 use Rattle.facts.specs.Lists.{joined}
 use Rattle.facts.proofs.Lists.{joined_cong}
-use Rattle.facts.proofs.Stored.{Stored, stored_more, stored_all}
+use Rattle.facts.proofs.Stored.{Stored, stored_more}
 use Rattle.facts.proofs.Loops.{Scanning, scan_more, scan_stop}
 use Rattle.facts.proofs.Reflect.{check_passed, then_passed, scan_passed, or_none, unlike_none}
 use Rattle.netlist.specs.declared.Capacities.{Capacities}
-use Rattle.netlist.specs.Kinds.{slots, source_limit, is_driver}
+use Rattle.netlist.specs.Kinds.{slots, is_driver}
 use Rattle.netlist.specs.Records.{netlist, record_count, record_at}
 use Rattle.netlist.specs.Checks.{input_checks}
 use Rattle.netlist.proofs.Source.{input_passed, driver_inside}
@@ -31,31 +30,16 @@ use Rattle.nets.specs.PrivateChains.{Linked, Chained}
 use Rattle.nets.proofs.TreeCounts.{input_chained}
 use Rattle.nets.specs.PrivateCounts.{net_number, NetNumbers, IndicesIn}
 
--- 21, test by test
-module _ (records counts : List ℕ) where
-  pub lists_odd : (length records % 2 ≡ 0 → ⊥) → true ≡ bad_lists records counts
-  lists_odd h = rw (ne_eqb (length records % 2) 0 h)
-
-  module _ (e : length records % 2 ≡ 0) where
-    pub lists_many : index_limit < length records / 2 → true ≡ bad_lists records counts
-    lists_many h = rw (eq-eqb (length records % 2) 0 e, lt-ltb index_limit (length records / 2) h)
-
-    pub lists_unlike : length records / 2 ≤ index_limit → not (eqb (length counts) (2 * length records)) ≡ bad_lists records counts
-    lists_unlike h = rw (eq-eqb (length records % 2) 0 e, le-ltb index_limit (length records / 2) h)
-
 -- 20 of the indices from k on
 module _ (source records : List ℕ) (k d kind : ℕ) (b : Bool) (s : Scanning (index_check source records) (index_count records) k)
     (l : k < index_count records) (e : d ≡ index_at records k) (f : kind ≡ (record_at source d).kind) (g : b ≡ is_driver kind) where
   pub indices_more : b ≡ true → Scanning (index_check source records) (index_count records) (k + 1)
   indices_more t =
-      scan_more (index_check source records) (index_count records) k Passed s l (rw (← e, ← f, ← g, t)) refl
+      scan_more (index_check source records) (index_count records) k s l (rw (← e, ← f, ← g, t))
 
   pub indices_stop : not b ≡ true → Refused 20 k ≡ scan (index_check source records) 0 (index_count records)
   indices_stop t =
-      scan_stop (index_check source records) (index_count records) k 20 k (Refused 20 k) s l (rw (← e, ← f, ← g, t)) refl
-
-pub index_inside : (records : List ℕ) (k d : ℕ) → IndicesIn records → k < index_count records → d ≡ index_at records k → d < source_limit
-index_inside records k d h l e = omega (arith, h.at k l)
+      scan_stop (index_check source records) (index_count records) k 20 k s l (rw (← e, ← f, ← g, t))
 
 -- 21, then 20
 module _ (source records counts : List ℕ) (b : Bool) (e : b ≡ bad_lists records counts) where
@@ -79,20 +63,16 @@ module _ (records totals area old : List ℕ) (k : ℕ) where
   abbrev looked : ℕ → ℕ
   looked i = get_or totals (index_at records i) 0
 
-  module _ (n : ℕ) (h : Stored looked (index_count records) k area old) (e : n ≡ index_count records) where
-    pub looked_more : (d v : ℕ) (new : List ℕ) → k < n → d ≡ index_at records k → v ≡ get_or totals d 0 →
-        new ≡ put area (4 * k) (four v) → Stored looked (index_count records) (k + 1) new old
-    looked_more d v new l f g p = stored_more looked (index_count records) old k area h v new (omega arith) (g ∙ ap (λ (x : ℕ). get_or totals x 0) f) p
-
-    pub looked_all : n ≤ k → area ≡ joined (λ i. four (get_or totals (index_at records i) 0)) (index_count records)
-    looked_all l = stored_all looked (index_count records) old k area h (omega arith)
+  pub looked_more : (d v : ℕ) (new : List ℕ) → Stored looked (index_count records) k area old → k < index_count records → d ≡ index_at records k →
+      v ≡ get_or totals d 0 → new ≡ put area (4 * k) (four v) → Stored looked (index_count records) (k + 1) new old
+  looked_more d v new h l f g p = stored_more looked (index_count records) old k area h v new l (g ∙ ap (λ (x : ℕ). get_or totals x 0) f) p
 
 -- asked for a driver, the single call gives what its net's row does
 pub asked_counted : (source : List ℕ) (caps : Capacities) (d : ℕ) → Asked source caps d → count_answer source caps d ≡ net_count (netlist source) caps d
 asked_counted source caps d a =
     sym
-    (call_counted source caps d (input_checks source caps) refl (record_at source d).kind (is_driver (record_at source d).kind) refl refl
-    (net_count (netlist source) caps d) a.passed a.driver refl)
+    (call_counted source caps d (sym a.passed) (record_at source d).kind (is_driver (record_at source d).kind) refl refl
+    (net_count (netlist source) caps d) a.driver refl)
 
 -- all checks of a call that was accepted
 module _ (source : List ℕ) (caps : Capacities) (records counts : List ℕ) (h : counts_answer source caps records counts ≡ Passed) where
@@ -140,24 +120,8 @@ module _ (source : List ℕ) (caps : Capacities) (records counts : List ℕ) (h 
       (λ k l. ap four (t.at (index_at records k) (omega (arith, driver_inside source (index_at records k) (list_driver k l))) ∙ list_single k l))
       ∙ rw h refl
 
--- the answer, check by check
-module _ (source : List ℕ) (caps : Capacities) (records counts : List ℕ) (c : Checked) where
-  module _ (e : c ≡ input_checks source caps) where
-    pub counts_lists : (a : Checked) → c ≡ Passed → a ≡ list_checks source records counts → a ≡ counts_answer source caps records counts
-    unfolding counts_answer
-    counts_lists a p f = f ∙ rw (← e, p)
-
-    pub counts_refused : (number place : ℕ) → c ≡ Refused number place → Refused number place ≡ counts_answer source caps records counts
-    unfolding counts_answer
-    counts_refused number place p = rw (← e, p)
-
-  module _ (e : c ≡ counts_answer source caps records counts) where
-    pub counts_told : (a : Checked) → c ≡ a → a ≡ counts_answer source caps records counts
-    counts_told a p = sym p ∙ e
-
-    pub counts_passed : c ≡ Passed → counts_answer source caps records counts ≡ Passed
-    counts_passed p = sym e ∙ p
-
-    pub counts_kept : (number place : ℕ) → c ≡ Refused number place → counts ≡ counts_area source caps records counts
-    unfolding counts_area
-    counts_kept number place p = rw (← e, p)
+-- a refusal leaves the area
+pub counts_kept : (source : List ℕ) (caps : Capacities) (records counts : List ℕ) (number place : ℕ) → Refused number place ≡ counts_answer source caps records counts →
+    counts ≡ counts_area source caps records counts
+unfolding counts_area
+counts_kept source caps records counts number place p = rw (← p)

@@ -4,12 +4,10 @@ use mathlib.Core.Path.{◌≡◌, refl, sym, ◌∙◌, ap, subst}
 use mathlib.Core.List.{List}
 use native.Mathlib.Omega.{arith}
 use native.Mathlib.Decide.{dec_lt}
-use mir.Val.{Fits}
-use mir.Syntax.{w32}
 use lib.ListN.{get_or}
 use lib.Dec.{eqb}
 use Rattle.facts.specs.Sums.{bit}
-use Rattle.facts.proofs.Sums.{bit_le, bit_other}
+use Rattle.facts.proofs.Sums.{bit_other}
 use Rattle.netlist.specs.Kinds.{top_level}
 use Rattle.netlist.specs.Records.{Netlist}
 use Rattle.fanout.specs.Nets.{sinks}
@@ -86,7 +84,3 @@ no_sink n d f h e = subst (ChainIs n d) e h
 pub few_sinks : (n : Netlist) (d : ℕ) (f : Chain) (top other : ℕ) → ChainIs n d f → f ≡ Short top other → ShortChain n d top other
 unfolding ChainIs
 few_sinks n d f top other h e = subst (ChainIs n d) e h
-
--- the nodes of one or two sinks are few
-pub few_fit : (other x : ℕ) → x ≡ bit (eqb other 1) → Fits w32 (1 + x)
-few_fit other x e = omega (arith, bit_le (eqb other 1))

@@ -1,18 +1,20 @@
 -- Laws of counting trees: of one net, of each net in turn, and of the sum of their numbers.
-use Prim.Native.Nat.{ℕ, suc, min, ◌+◌, ◌*◌, ◌≤◌, ◌<◌}
+use Prim.Native.Nat.{ℕ, zero, suc, min, ◌+◌, ◌*◌, ◌^◌, ◌≤◌, ◌<◌}
 use mathlib.Core.Path.{◌≡◌, refl, sym, ◌∙◌, ap, ap₂, subst}
 use mathlib.Core.Logic.{◌⊎◌, inl, inr}
 use mathlib.Core.Bool.{Bool, true, false, cond, not}
 use mathlib.Core.List.{List}
 use native.Mathlib.Omega.{arith}
+use native.Mathlib.Numerals.{add-one}
 use mir.Val.{Fits}
-use mir.Syntax.{w64}
+use mir.Syntax.{w32, w64}
 use native.Mathlib.Decide.{ℕ_discrete}
-use lib.ListN.{length, replicate, get_or, drop, set, length-set}
+use lib.ListN.{length, replicate, get_or, take, drop, set, length-set}
 use lib.Dec.{ltb, leb}
 use borrow.Author.Tests.{lt-ltb, le-ltb, not-false}
-use Rattle.facts.specs.declared.Checked.{Checked}
-use Rattle.facts.specs.declared.Checked.TheVariants.{Passed, Refused}
+use Rattle.facts.specs.Answers.{Passed, Refused}
+use Rattle.std.specs.List.{sum_by}
+use Rattle.std.proofs.lemmas.List.Sums.{sum_by_more}
 use Rattle.facts.specs.Checks.{check, ◌and_then◌, scan}
 use Rattle.facts.specs.Sums.{sum}
 use Rattle.facts.proofs.Reflect.{check_passed, scan_passed}
@@ -26,10 +28,8 @@ use Rattle.netlist.specs.Capacities.{capacity_of, Allowed}
 use Rattle.fanout.specs.Nets.{net_has_tree, tree_size, row, fewest_in_all, sinks}
 use Rattle.fanout.specs.Answer.{no_tree, count_numbers}
 use Rattle.fanout.specs.declared.TreeTotals.{TreeTotals}
-use Rattle.nets.specs.declared.trees.Sizing.{Sizing}
-use Rattle.nets.specs.declared.trees.Sizing.TheVariants.{Total, Stops}
 use Rattle.nets.specs.Checks.{tree_check, trees_below, tree_checks}
-use Rattle.nets.specs.PrivateChains.{Chained, Measured, sizing_of, Linked}
+use Rattle.nets.specs.PrivateChains.{Chained, Measured, Linked}
 use Rattle.nets.specs.PrivateCounts.{net_number, NetNumbers}
 use Rattle.fanout.proofs.Walking.{buffer_limit, fewest_small}
 use lib.Seq.{get_or-drop, get_or-set_same, get_or-set_other}
@@ -65,23 +65,6 @@ number_is n caps d t m b v e f = f ∙ go b refl
     go : (x : Bool) → b ≡ x → cond x t.buffers no_tree ≡ net_number n caps d
     go true g = m.buffers ∙ rw (← m.nodes, ← e, g) refl
     go false g = rw (← m.nodes, ← e, g) refl
-
--- what is kept of a net that has a tree, and of one that has none
-module _ (b : Bool) (stop d buffers : ℕ) (totals : List ℕ) where
-  pub stop_kept : b ≡ true → stop ≡ cond b stop (min stop d)
-  stop_kept e = rw e refl
-
-  pub kept_tree : b ≡ true → set totals d buffers ≡ set totals d (cond b buffers no_tree)
-  kept_tree e = rw e refl
-
-  pub kept_none : b ≡ false → set totals d no_tree ≡ set totals d (cond b buffers no_tree)
-  kept_none e = rw e refl
-
-  pub stop_early : b ≡ false → stop < d → stop ≡ cond b stop (min stop d)
-  stop_early e l = rw e (omega arith)
-
-  pub stop_here : b ≡ false → d ≤ stop → d ≡ cond b stop (min stop d)
-  stop_here e l = rw e (omega arith)
 
 -- 8 of driver d after those before it, of which `stop` is the first without a tree, if one is
 stop_more : (N stop d : ℕ) (b : Bool) (next : ℕ) → d < N → (stop < d) ⊎ (N ≤ stop) → next ≡ cond b stop (min stop d) →
@@ -133,16 +116,14 @@ module _ (n : Netlist) (caps : Capacities) (N : ℕ) where
       ended l = let e : d ≡ n.size = omega (arith, h.within) in ap (trees_below n caps) e
 
       -- some driver has no tree, or all have one
-      pub count_stop : stop < N → N ≤ d → Stops 8 stop ≡ sizing_of (tree_checks n caps) (fewest_in_all n caps)
-      count_stop k l =
-          let e : tree_checks n caps ≡ Refused 8 stop = sym (ended l) ∙ h.checks ∙ ap (check 8 stop) (lt-ltb stop d (omega arith)) in
-          ap (λ (a : Checked). sizing_of a (fewest_in_all n caps)) (sym e)
+      pub count_stop : stop < N → N ≤ d → Refused 8 stop ≡ tree_checks n caps
+      count_stop k l = sym (sym (ended l) ∙ h.checks ∙ ap (check 8 stop) (lt-ltb stop d (omega arith)))
 
-      pub count_end : N ≤ stop → N ≤ d → Total total ≡ sizing_of (tree_checks n caps) (fewest_in_all n caps)
-      count_end k l =
-          let e : d ≡ n.size = omega (arith, h.within) in
-          let f : tree_checks n caps ≡ Passed = sym (ended l) ∙ h.checks ∙ ap (check 8 stop) (le-ltb stop d (omega (arith, h.within))) in
-          ap Total (h.before ∙ ap (sum (tree_size n caps)) e) ∙ ap (λ (a : Checked). sizing_of a (fewest_in_all n caps)) (sym f)
+      pub count_end : N ≤ stop → N ≤ d → Passed ≡ tree_checks n caps
+      count_end k l = sym (sym (ended l) ∙ h.checks ∙ ap (check 8 stop) (le-ltb stop d (omega (arith, h.within))))
+
+      pub count_total : N ≤ d → total ≡ fewest_in_all n caps
+      count_total l = let e : d ≡ n.size = omega (arith, h.within) in h.before ∙ ap (sum (tree_size n caps)) e
 
       module _ (first next : List ℕ) (end : ℕ) (t : TreeTotals) (chained : Chained n first next 0 end) (a : Allowed caps) (l : d < N)
           (g : Measured n caps d t) where
@@ -187,32 +168,22 @@ tree_number : (n : Netlist) (caps : Capacities) (d : ℕ) → net_has_tree n cap
 unfolding count_numbers
 tree_number n caps d e = rw e refl
 
--- the sum of numbers before d
-pub record Summing (totals : List ℕ) (m total d : ℕ) : Type 0 where
-  pub within : d ≤ m
-  pub before : total ≡ sum (λ x. get_or totals x 0) d
-  pub small : total ≤ no_tree * d
-
-module _ (totals : List ℕ) (m : ℕ) where
-  pub sum_start : Summing totals m 0 0
+-- the first m numbers of a list, summed
+module _ (totals : List ℕ) where
+  pub sum_listed : (m : ℕ) → m ≤ length totals → sum_by (λ (x : ℕ). x) (take m totals) ≡ sum (λ d. get_or totals d 0) m
   unfolding sum
-  sum_start = record { within = omega arith; before = refl; small = omega arith }
+  sum_listed zero l = refl
+  sum_listed (suc m) l = rw (← add-one m) (sum_by_more (λ (x : ℕ). x) totals m 0 (omega arith)) ∙ ap (λ (x : ℕ). x + get_or totals m 0) (sum_listed m (omega arith))
 
-  module _ (total d : ℕ) (h : Summing totals m total d) where
-    -- a few numbers of four bytes do not overflow eight
-    pub sum_fits : (w : ℕ) → d < m → m ≤ source_limit → w < 4294967296 → Fits w64 (total + w)
-    sum_fits w l few b = omega (arith, h.small)
-
-    pub sum_more : (v w : ℕ) → d < m → v ≡ get_or totals d 0 → w ≡ v → w < 4294967296 → Summing totals m (total + w) (d + 1)
-    sum_more v w l e g b =
-        record {
-          within = omega arith;
-          before = omega (arith, h.before, e, g, sum_last (λ x. get_or totals x 0) d);
-          small = omega (arith, h.small, b);
-        }
-
-    pub sum_end : m ≤ d → total ≡ sum (λ x. get_or totals x 0) m
-    sum_end l = let e : d ≡ m = omega (arith, h.within) in h.before ∙ ap (sum (λ x. get_or totals x 0)) e
+  -- a few numbers of four bytes do not overflow eight
+  pub sum_fits : (m : ℕ) → (m ≤ length totals) × (m ≤ source_limit) → ((d : ℕ) → Fits w32 (get_or totals d 0)) → sum_by (λ (x : ℕ). x) (take m totals) < 2 ^ 64
+  sum_fits m l f =
+      omega (
+        arith,
+        sum_listed m l.0,
+        sum_mono (λ d. get_or totals d 0) (λ d. no_tree) m (λ d b. omega (arith, f d)),
+        sum_const no_tree m,
+      )
 
 -- the sum of all trees cannot overflow
 pub total_small : (n : Netlist) (caps : Capacities) → IsSource n → 2 ≤ caps.buffer → fewest_in_all n caps ≤ buffer_limit * n.size
@@ -232,23 +203,6 @@ numbers_sum bytes caps N totals m c t e k =
     (λ d l.
     t.at d (omega arith) ∙ tree_number (netlist bytes) caps d
     (not-false _ ((check_passed 8 d _).0 ((scan_passed (tree_check (netlist bytes) caps) (record_count bytes)).0 c d (omega arith)))))
-
--- what an answer of the count says
-pub refusing : (n : Netlist) (caps : Capacities) (number place total : ℕ) (z : Sizing) → z ≡ sizing_of (tree_checks n caps) total → z ≡ Stops number place →
-    tree_checks n caps ≡ Refused number place
-refusing n caps number place total z e f = go (tree_checks n caps) (sym e ∙ f)
-  where
-    go : (a : Checked) → sizing_of a total ≡ Stops number place → a ≡ Refused number place
-    go Passed g = let z : ◌≡◌ {A = ℕ} 0 1 = cc in absurd (omega arith)
-    go (Refused n' p') g = cc
-
-pub counting : (n : Netlist) (caps : Capacities) (m total : ℕ) (z : Sizing) → z ≡ sizing_of (trees_below n caps m) (sum (tree_size n caps) m) → z ≡ Total total →
-    (trees_below n caps m ≡ Passed) × (total ≡ sum (tree_size n caps) m)
-counting n caps m total z e f = go (trees_below n caps m) (sym e ∙ f)
-  where
-    go : (a : Checked) → sizing_of a (sum (tree_size n caps) m) ≡ Total total → (a ≡ Passed) × (total ≡ sum (tree_size n caps) m)
-    go Passed g = (refl, cc)
-    go (Refused number place) g = let z : ◌≡◌ {A = ℕ} 0 1 = cc in absurd (omega arith)
 
 -- what 1, 26 and 2 to 7 show
 module _ (bytes : List ℕ) (caps : Capacities) (i : input_checks bytes caps ≡ Passed) where

@@ -1,6 +1,6 @@
 -- Check 8 (specification 3.3): each driver, rising, has a tree.
 use Rattle.std.specs.Prelude.{ℕ, Bool, not}
-use Rattle.facts.specs.declared.Checked.{Checked}
+use Rattle.facts.specs.Answers.{Checked}
 use Rattle.facts.specs.Checks.{check, scan}
 use Rattle.netlist.specs.declared.Capacities.{Capacities}
 use Rattle.netlist.specs.Records.{Netlist}

@@ -1,6 +1,6 @@
 -- Specification 4.9, the list of counts: its answer, and what its area holds afterwards.
 use Rattle.std.specs.Prelude.{ℕ, ◌*◌, ◌/◌, ◌%◌, Bool, not, ◌||◌, List, length, get_or, ltb, eqb}
-use Rattle.facts.specs.declared.Checked.{Checked}
+use Rattle.facts.specs.Answers.{Checked}
 use Rattle.facts.specs.Checks.{check, ◌and_then◌, unless_refused, scan}
 use Rattle.facts.specs.Bytes.{four}
 use Rattle.facts.specs.Lists.{joined}

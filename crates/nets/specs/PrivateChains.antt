@@ -1,8 +1,6 @@
 -- For functions inside the engine alone: what the local arrays of the chains hold, and what is counted along them. Slots go by
 -- number: slot y is slot y % slots of record y / slots.
 use Rattle.std.specs.Prelude.{ℕ, suc, ◌+◌, ◌-◌, ◌*◌, ◌≤◌, ◌<◌, ◌/◌, ◌%◌, ◌≡◌, Bool, true, false, List, length, get_or, eqb}
-use Rattle.facts.specs.declared.Checked.{Checked}
-use Rattle.facts.specs.Checks.{outcome}
 use Rattle.facts.specs.Sums.{bit, count, seek}
 use Rattle.netlist.specs.declared.Capacities.{Capacities}
 use Rattle.netlist.specs.Kinds.{slots, unused, top_level}
@@ -12,8 +10,6 @@ use Rattle.fanout.specs.Nets.{row, sinks, sink_at, nodes_at, tree_size}
 use Rattle.fanout.specs.declared.TreeTotals.{TreeTotals}
 use Rattle.nets.specs.declared.sinks.Chain.{Chain}
 use Rattle.nets.specs.declared.sinks.Chain.TheVariants.{Empty, Short, Long}
-use Rattle.nets.specs.declared.trees.Sizing.{Sizing}
-use Rattle.nets.specs.declared.trees.Sizing.TheVariants.{Total, Stops}
 
 -- one past the last slot
 abbrev pub slot_end : Netlist → ℕ
@@ -91,7 +87,3 @@ ChainIs n d Long = Unit {0}
 pub record Measured (n : Netlist) (caps : Capacities) (d : ℕ) (t : TreeTotals) : Type 0 where
   pub nodes : t.nodes ≡ nodes_at caps.buffer (row n d) 1
   pub buffers : t.buffers ≡ tree_size n caps d
-
--- the buffers of all trees, or check 8's refusal
-abbrev pub sizing_of : Checked → ℕ → Sizing
-sizing_of checks total = outcome checks (Total total) Stops

@@ -1,6 +1,6 @@
 -- What is promised of the list of counts.
 use Rattle.std.specs.Prelude.{ℕ, ◌*◌, ◌<◌, ◌%◌, ◌≡◌, ◌⊎◌, ◌↔◌, ◌≢◌, List, length, take, drop}
-use Rattle.facts.specs.declared.Checked.TheVariants.{Passed, Refused}
+use Rattle.facts.specs.Answers.{Passed, Refused}
 use Rattle.facts.specs.Bytes.{four}
 use Rattle.facts.specs.Refusals.{Conditions, Fails, ◌or◌, Each, Exact}
 use Rattle.netlist.specs.declared.Capacities.{Capacities}

@@ -1,5 +1,6 @@
 // The nets of a source, counted: the number of each, and check 8.
-ghost use Rattle.std.specs.Prelude.{◌≡◌, suc, min, ◌*◌, ◌<◌, ◌≤◌, cond, length, get_or, set, replicate};
+ghost use Rattle.std.specs.Prelude.{◌≡◌, suc, min, ◌*◌, ◌<◌, ◌≤◌, cond, length, get_or, set, replicate, IfOk};
+ghost use Rattle.facts.specs.Answers.{Passed, numbered};
 ghost use Rattle.facts.specs.Sums.{sum};
 ghost use Rattle.netlist.specs.Kinds.{slots, top_level, source_limit};
 ghost use Rattle.netlist.specs.Capacities.{Allowed};
@@ -8,51 +9,40 @@ ghost use Rattle.netlist.specs.Checks.{input_checks};
 ghost use Rattle.fanout.specs.Nets.{fewest_in_all};
 ghost use Rattle.fanout.specs.Answer.{no_tree};
 ghost use Rattle.nets.specs.Checks.{tree_checks};
-ghost use Rattle.nets.specs.PrivateChains.{Linked, Chained, Measured, sizing_of};
+ghost use Rattle.nets.specs.PrivateChains.{Linked, Chained, Measured};
 ghost use Rattle.nets.specs.PrivateCounts.{NetNumbers};
-ghost use Rattle.facts.specs.declared.Checked.{Checked};
 
-use crate::sinks::Chain;
-use crate::{numbers, sinks};
+use crate::sinks::{self, Chain, Chains};
+use facts::{Check, Refusal};
 use fanout::{DISTANCES, NO_TREE, TreeTotals};
 use netlist::Capacities;
-
-// The buffers of all trees, or check 8's refusal: number and place.
-#[derive(Clone, Copy)]
-pub enum Sizing {
-    Total(usize),
-    Stops(u32, u32),
-}
 
 // d's net: the nodes left at distance 1 and its buffers; one or two sinks have a line of buffers, one at each distance below the largest. The row is all zero before and after.
 fn measure(
     source: &[u8],
     capacities: Capacities,
-    end: usize,
-    first: &[u16],
-    next: &[u16],
+    chains: Chains<'_>,
     d: usize,
     row: &mut [u32; DISTANCES],
 ) -> TreeTotals
-    requires chained { Chained (netlist source.now) first.now next.now d end }
+    requires chained { Chained (netlist source.now) chains.first.now chains.next.now d chains.end }
     requires allowed { Allowed capacities }
     requires d_bound { d < (netlist source.now).size }
     requires row_value { row.old ≡ replicate (suc top_level) 0 }
     ensures measured { Measured (netlist source.now) capacities d result }
     ensures row_after { row.new ≡ replicate (suc top_level) 0 }
 {
-    let chain = sinks::chain_of(source, end, first, next, d);
-    match chain {
+    match chains.of_driver(source, d) {
         Chain::Empty => TreeTotals {
             nodes: 0,
             buffers: 0,
         },
         Chain::Short(top, other) => TreeTotals {
-            nodes: 1 + numbers::one_if(other == 1),
+            nodes: 1 + u32::from(other == 1),
             buffers: top as u32 - 1,
         },
         Chain::Long => {
-            let reach = sinks::fill_row(source, end, first, next, d, row);
+            let reach = chains.fill_row(source, d, row);
             fanout::walk(capacities.buffer, reach, false, row)
         }
     }
@@ -69,7 +59,7 @@ fn keep_number(totals: &mut [u32], d: usize, fits: bool, buffers: u32, stop: usi
         return stop;
     }
     totals[d] = NO_TREE;
-    if stop < d { stop } else { d }
+    stop.min(d)
 }
 
 // The nets of all n records, each counted once: their numbers into the array of totals, and check 8, with the buffers of all trees. The row is all zero before and after.
@@ -77,34 +67,34 @@ pub(crate) fn count_each(
     source: &[u8],
     capacities: Capacities,
     n: usize,
-    end: usize,
-    first: &[u16],
-    next: &[u16],
+    chains: Chains<'_>,
     row: &mut [u32; DISTANCES],
     totals: &mut [u32],
-) -> Sizing
-    requires chained { Chained (netlist source.now) first.now next.now 0 end }
+) -> Result<usize, Refusal>
+    requires chained { Chained (netlist source.now) chains.first.now chains.next.now 0 chains.end }
     requires allowed { Allowed capacities }
     requires n_value { (n ≡ record_count source.now) × (n ≤ length totals.old) }
     requires row_value { row.old ≡ replicate (suc top_level) 0 }
-    ensures value { result ≡ sizing_of (tree_checks (netlist source.now) capacities) (fewest_in_all (netlist source.now) capacities) }
+    ensures value { numbered result ≡ tree_checks (netlist source.now) capacities }
+    ensures total { IfOk result (λ total. total ≡ fewest_in_all (netlist source.now) capacities) }
     ensures row_after { row.new ≡ replicate (suc top_level) 0 }
     ensures net_numbers { NetNumbers (netlist source.now) capacities n totals.new }
 {
     let mut stop = n;
     let mut total: usize = 0;
-    let mut d: usize = 0;
-    while d < n {
-        let tree = measure(source, capacities, end, first, next, d, row);
+    for d in 0..n {
+        let tree = measure(source, capacities, chains, d, row);
         let fits = netlist::may_feed(source, capacities, d, tree.nodes);
         stop = keep_number(totals, d, fits, tree.buffers, stop);
         total += tree.buffers as usize;
-        d += 1;
     }
     if stop < n {
-        return Sizing::Stops(8, stop as u32);
+        return Err(Refusal {
+            check: Check::NoTree,
+            place: stop as u32,
+        });
     }
-    Sizing::Total(total)
+    Ok(total)
 }
 
 // The sum of the first m numbers.
@@ -112,13 +102,7 @@ pub fn sum_below(totals: &[u32], m: usize) -> usize
     requires { (m ≤ length totals.now) × (m ≤ source_limit) }
     ensures { result ≡ sum (λ d. get_or totals.now d 0) m }
 {
-    let mut total: usize = 0;
-    let mut d: usize = 0;
-    while d < m {
-        total += numbers::amount(totals[d]);
-        d += 1;
-    }
-    total
+    totals[..m].iter().map(|total| *total as usize).sum()
 }
 
 // All nets of a source that passes 1, 26 and 2 to 7: its slots are linked, its nets counted, and check 8 made. The row is all zero before and after.
@@ -131,17 +115,19 @@ pub fn size_trees(
     next: &mut [u16],
     row: &mut [u32; DISTANCES],
     totals: &mut [u32],
-) -> Sizing
-    requires capacities_value { input_checks source.now capacities ≡ Checked.Passed }
+) -> Result<usize, Refusal>
+    requires capacities_value { input_checks source.now capacities ≡ Passed }
     requires n_value { (n ≡ record_count source.now) × (n ≤ length totals.old) }
     requires end_value { end ≡ slots * n }
     requires linked { Linked (netlist source.now) first.old next.old (slots * n) }
     requires row_value { row.old ≡ replicate (suc top_level) 0 }
-    ensures value { result ≡ sizing_of (tree_checks (netlist source.now) capacities) (fewest_in_all (netlist source.now) capacities) }
+    ensures value { numbered result ≡ tree_checks (netlist source.now) capacities }
+    ensures total { IfOk result (λ total. total ≡ fewest_in_all (netlist source.now) capacities) }
     ensures chained { Chained (netlist source.now) first.new next.new 0 end }
     ensures row_after { row.new ≡ replicate (suc top_level) 0 }
     ensures net_numbers { NetNumbers (netlist source.now) capacities n totals.new }
 {
     sinks::link_all(source, n, first, next);
-    count_each(source, capacities, n, end, first, next, row, totals)
+    let chains = Chains { first, next, end };
+    count_each(source, capacities, n, chains, row, totals)
 }

@@ -1,5 +1,5 @@
 -- Laws of price lists: the checks one by one, the prices that apply, and a price as it is looked up.
-use Prim.Native.Nat.{ℕ, zero, suc, ◌+◌, ◌*◌, ◌≤◌, ◌<◌}
+use Prim.Native.Nat.{ℕ, zero, suc, ◌+◌, ◌-◌, ◌*◌, ◌≤◌, ◌<◌}
 use native.Mathlib.Omega.{arith}
 use native.Mathlib.Decide.{dec_lt, ℕ_discrete}
 use mathlib.Core.Path.{◌≡◌, refl, sym, ◌∙◌, ap, subst⁻¹}
@@ -8,29 +8,21 @@ use mathlib.Core.Bool.{Bool, true, false, not, cond, ◌&&◌, ◌||◌}
 use mathlib.Core.List.{List, [], ◌∷◌}
 use mir.Val.{Fits}
 use mir.Syntax.{w64}
-use lib.ListN.{length, get_or, set, length-set, get_or-eq_default}
-use lib.Seq.{get_or-set_same, get_or-set_other, ext_get_or}
+use lib.ListN.{length, get_or, take, drop, set, length-set, get_or-eq_default}
+use Rattle.std.proofs.lemmas.List.{get_or-take, length-take}
+use lib.Seq.{get_or-drop, get_or-set_same, get_or-set_other, ext_get_or}
 use lib.Dec.{eqb, ltb}
-use borrow.Author.Tests.{eq-eqb, ne_eqb, eqb-true, lt-ltb, le-ltb, ltb-false, lt-leb, le-leb, not-false}
-use Rattle.facts.specs.declared.Checked.{Checked}
-use Rattle.facts.specs.declared.Checked.TheVariants.{Passed, Refused}
+use borrow.Author.Tests.{ne_eqb, eqb-true, lt-ltb, le-ltb, lt-leb, le-leb, not-false}
+use Rattle.facts.specs.Answers.{Checked, Passed, Refused}
 use Rattle.facts.specs.Checks.{check, scan}
 use Rattle.facts.specs.Sums.{bit, any}
 use Rattle.facts.proofs.Bools.{true_false}
 use Rattle.facts.proofs.Sums.{any_none, bit_le}
-use Rattle.facts.proofs.Loops.{Scanning, check_more, check_stop, check_end}
 use Rattle.facts.proofs.Reflect.{then_passed, check_passed}
 use Rattle.netlist.specs.Kinds.{buffer, is_gate}
 use Rattle.prices.specs.Prices.{list_length, price_counts, price_count, price_start, plain_prices, list_price, price_of}
 use Rattle.prices.specs.Checks.{bad_list_length, price_check, price_list_checks}
 use Rattle.prices.specs.PrivatePrices.{plain_list, applied, AppliedPrices}
-
--- 27, by its tests
-pub length_none : (list : List ℕ) → length list ≡ 0 → false ≡ bad_list_length list
-length_none list e = rw (eq-eqb (length list) 0 e)
-
-pub length_some : (list : List ℕ) → (length list ≡ 0 → ⊥) → not (eqb (length list) list_length) ≡ bad_list_length list
-length_some list h = rw (ne_eqb (length list) 0 h)
 
 -- a list that 27 passes is empty or of full length
 length_passed : (list : List ℕ) → bad_list_length list ≡ false → (length list ≡ 0) ⊎ (length list ≡ list_length)
@@ -61,20 +53,6 @@ unfolding price_list_checks
 list_length_lem list e =
     length_passed list ((check_passed 27 0 (bad_list_length list)).0 ((then_passed (check 27 0 (bad_list_length list)) (scan (price_check list) 0 (length list))).0 e).0)
 
--- 28, position by position
-module _ (list : List ℕ) (n k : ℕ) (s : Scanning (price_check list) n k) where
-  abbrev zero_at : ℕ → Bool
-  zero_at p = eqb (get_or list p 0) 0
-
-  pub prices_more : k < n → (get_or list k 0 ≡ 0 → ⊥) → Scanning (price_check list) n (k + 1)
-  prices_more h e = check_more 28 zero_at n k s h (ne_eqb (get_or list k 0) 0 e)
-
-  pub prices_stop : k < n → get_or list k 0 ≡ 0 → n ≡ length list → Refused 28 k ≡ scan (price_check list) 0 (length list)
-  prices_stop h e q = check_stop 28 zero_at n k s (length list) h (eq-eqb (get_or list k 0) 0 e) q
-
-  pub prices_end : n ≤ k → n ≡ length list → Passed ≡ scan (price_check list) 0 (length list)
-  prices_end h q = check_end 28 zero_at n k s (length list) h q
-
 -- a kind's price in an empty list: 6 for a gate, 2 for a buffer
 pub plain_kind : (kind : ℕ) → get_or plain_prices kind 0 ≡ 6 * bit (is_gate kind) + 2 * bit (eqb kind buffer)
 plain_kind zero = refl
@@ -90,15 +68,6 @@ plain_kind (suc (suc (suc (suc (suc (suc k)))))) = past (suc (suc (suc (suc (suc
         get_or-eq_default plain_prices 0 {n = kind} l
         ∙ sym (rw (le-leb 1 kind (omega arith), lt-leb kind 3 (omega arith), ne_eqb kind buffer (λ e. omega arith)) refl)
 
--- each price of an empty list is a byte
-plain_small : (x : ℕ) → get_or plain_list x 0 ≤ 255
-unfolding any
-plain_small x =
-    elim (dec_lt x list_length) [
-      | yes l ↦ ltb-false 255 (get_or plain_list x 0) ((any_none (λ p. ltb 255 (get_or plain_list p 0)) list_length).0 refl x l)
-      | no l ↦ omega (arith, get_or-eq_default plain_list 0 {n = x} (omega arith))
-    ]
-
 -- the list that applies passes too
 pub applied_passes : (list : List ℕ) → price_list_checks list ≡ Passed → price_list_checks (applied list) ≡ Passed
 unfolding price_list_checks scan
@@ -108,17 +77,12 @@ applied_passes (p ∷ ps) e = e
 -- the prices below position k are read
 pub record Reading (list prices : List ℕ) (k : ℕ) : Type 0 where
   pub passes : price_list_checks list ≡ Passed
-  pub within : k ≤ length list
   pub size : length prices ≡ list_length
   pub small : (x : ℕ) → get_or prices x 0 ≤ 255
   pub before : (x : ℕ) → x < k → get_or prices x 0 ≡ get_or list x 0
   pub after : (x : ℕ) → k ≤ x → get_or prices x 0 ≡ get_or plain_list x 0
 
 module _ (list : List ℕ) where
-  pub read_start : (prices : List ℕ) → price_list_checks list ≡ Passed → prices ≡ plain_list → Reading list prices 0
-  read_start prices e f =
-      rw f record { passes = e; within = omega arith; size = refl; small = plain_small; before = λ x l. absurd (omega arith); after = λ x l. refl }
-
   module _ (prices : List ℕ) (k : ℕ) (r : Reading list prices k) where
     pub read_inside : k < length list → k < list_length
     read_inside l = ⊎_elim (λ z. omega arith) (λ z. omega arith) (list_length_lem list r.passes)
@@ -130,7 +94,6 @@ module _ (list : List ℕ) where
     read_more x l e b =
         record {
           passes = r.passes;
-          within = omega arith;
           size = length-set prices k x ∙ r.size;
           small = λ y. each (λ v. v ≤ 255) y (omega arith) (r.small y);
           before = λ y m. before y m (ℕ_discrete y k);
@@ -152,8 +115,8 @@ module _ (list : List ℕ) where
         before y m (no f) = get_or-set_other prices k y x 0 f ∙ r.before y (omega arith)
 
     -- an empty list has left the array as it was, a full one has filled it
-    pub read_end : length list ≤ k → prices ≡ applied list
-    read_end l = go list r.passes r.within l r.before
+    pub read_end : k ≤ length list → length list ≤ k → prices ≡ applied list
+    read_end w l = go list r.passes w l r.before
       where
         go : (m : List ℕ) → price_list_checks m ≡ Passed → k ≤ length m → length m ≤ k → ((x : ℕ) → x < k → get_or prices x 0 ≡ get_or m x 0) → prices ≡ applied m
         go [] e a b f = ext_get_or 0 prices plain_list r.size (λ x m. r.after x (omega arith))
@@ -162,29 +125,13 @@ module _ (list : List ℕ) where
             (λ z. ext_get_or 0 prices (p ∷ ps) (r.size ∙ sym z) (λ x m. f x (omega (arith, r.size))))
             (list_length_lem (p ∷ ps) e)
 
-    pub read_prices : length list ≤ k → AppliedPrices prices
-    read_prices l = record { size = r.size; small = r.small; passes = rw (read_end l) (applied_passes list r.passes) }
+    pub read_prices : k ≤ length list → length list ≤ k → AppliedPrices prices
+    read_prices w l = record { size = r.size; small = r.small; passes = rw (read_end w l) (applied_passes list r.passes) }
 
--- how many prices a kind has and where they begin, by the kinds that the arms name
+-- a gate has two prices
 pub gate_count : (kind : ℕ) → 1 ≤ kind → kind < 4 → 2 ≡ price_count kind
 gate_count kind l h =
     elim (ℕ_discrete kind 1) [ yes e ↦ rw e | no n ↦ elim (ℕ_discrete kind 2) [ yes e ↦ rw e | no m ↦ (let e : kind ≡ 3 = omega arith in rw e) ] ]
-
-pub input_count : (kind : ℕ) → kind < 1 → 0 ≡ price_count kind
-input_count kind h = let e : kind ≡ 0 = omega arith in rw e
-
-pub late_count : (kind : ℕ) → 4 ≤ kind → (kind ≡ 5 → ⊥) → 0 ≡ price_count kind
-late_count kind l h =
-    elim (ℕ_discrete kind 4) [ yes e ↦ rw e | no n ↦ sym (get_or-eq_default price_counts 0 {n = kind} (omega arith)) ]
-
-pub first_start : (kind : ℕ) → (kind ≡ 2 → ⊥) → (kind ≡ 3 → ⊥) → (kind ≡ 5 → ⊥) → 0 ≡ price_start kind
-first_start zero a b c = refl
-first_start (suc zero) a b c = refl
-first_start (suc (suc zero)) a b c = absurd (a refl)
-first_start (suc (suc (suc zero))) a b c = absurd (b refl)
-first_start (suc (suc (suc (suc zero)))) a b c = refl
-first_start (suc (suc (suc (suc (suc zero))))) a b c = absurd (c refl)
-first_start (suc (suc (suc (suc (suc (suc kind)))))) a b c = refl
 
 -- a test that no kind of the table has, no kind with prices has
 tested : (p : ℕ → Bool) → any p (length price_counts) ≡ false → (kind : ℕ) → 0 < price_count kind → p kind ≡ false
@@ -193,16 +140,6 @@ tested p e kind l =
       | yes h ↦ (any_none p (length price_counts)).0 e kind h
       | no h ↦ absurd (omega (arith, get_or-eq_default price_counts 0 {n = kind} (omega arith)))
     ]
-
--- a price stands within the list
-price_inside : (kind fed : ℕ) → fed < price_count kind → price_start kind + fed < list_length
-unfolding any
-price_inside kind fed l =
-    omega (
-      arith,
-      ltb-false list_length (price_start kind + price_count kind)
-          (tested (λ k. ltb list_length (price_start k + price_count k)) refl kind (omega arith)),
-    )
 
 -- each price of an empty list is the one of its kind
 plain_price : (kind fed : ℕ) → fed < price_count kind → get_or plain_list (price_start kind + fed) 0 ≡ get_or plain_prices kind 0
@@ -220,24 +157,24 @@ unfolding price_of
 price_listed [] kind fed e = absurd (omega arith)
 price_listed (p ∷ ps) kind fed e = refl
 
-module _ (list : List ℕ) (h : AppliedPrices list) (kind fed : ℕ) where
-  pub price_none : (c : ℕ) → c ≡ price_count kind → c ≤ fed → 0 ≡ price_of list kind fed
-  price_none c e l = sym (price_listed list kind fed h.size ∙ rw (le-ltb fed (price_count kind) (omega arith)))
-
-  pub price_room : (c s : ℕ) → c ≡ price_count kind → fed < c → s ≡ price_start kind → s + fed < list_length
-  price_room c s e l f = omega (arith, price_inside kind fed (omega arith))
-
-  pub price_index : (c s : ℕ) → c ≡ price_count kind → fed < c → s ≡ price_start kind → Fits w64 (s + fed)
-  price_index c s e l f = omega (arith, price_room c s e l f)
-
-  pub price_offset : (c s : ℕ) → c ≡ price_count kind → fed < c → s ≡ price_start kind → Fits w64 ((s + fed) * 4)
-  price_offset c s e l f = omega (arith, price_room c s e l f)
-
-  pub price_byte : (p : ℕ) → get_or list p 0 ≤ 255
-  price_byte p = h.small p
-
-  pub price_some : (c s : ℕ) → c ≡ price_count kind → fed < c → s ≡ price_start kind → get_or list (s + fed) 0 ≡ price_of list kind fed
-  price_some c s e l f = sym (price_listed list kind fed h.size ∙ rw (lt-ltb fed (price_count kind) (omega arith), f))
+-- the price at a number of slots among those of its kind, which stand from s to e; none past the last
+pub price_found : (list : List ℕ) → AppliedPrices list → (kind fed s e v : ℕ) → (s ≡ price_start kind) × (e ≡ price_start kind + price_count kind) →
+    v ≡ get_or (take (e - s) (drop s list)) fed 0 → (v ≡ price_of list kind fed) × (v ≤ 255)
+price_found list h kind fed s e v p q =
+    elim (dec_lt fed (price_count kind)) [
+      | yes l ↦
+          let g : v ≡ get_or list (s + fed) 0 =
+          q ∙ get_or-take (e - s) (drop s list) fed 0 (omega (arith, p)) ∙ get_or-drop s list fed 0 in (
+            g
+                ∙ ap (λ (s : ℕ). get_or list (s + fed) 0) p.0
+                ∙ sym (price_listed list kind fed h.size ∙ rw (lt-ltb fed (price_count kind) l)),
+            omega (arith, g, h.small (s + fed)),
+          )
+      | no l ↦
+          let g : v ≡ 0 =
+          q ∙ get_or-eq_default (take (e - s) (drop s list)) 0 {n = fed} (omega (arith, p, length-take (e - s) (drop s list))) in
+          (g ∙ sym (price_listed list kind fed h.size ∙ rw (le-ltb fed (price_count kind) (omega arith))), omega arith)
+    ]
 
 -- where no entry of a list is above 255, no price is
 pub price_most : (list : List ℕ) → ((p : ℕ) → get_or list p 0 ≤ 255) → (kind fed : ℕ) → price_of list kind fed ≤ 255

@@ -1,6 +1,6 @@
 -- Checks 27 and 28 (specification 3.3): the length of a price list, then a price of 0.
 use Rattle.std.specs.Prelude.{ℕ, Bool, not, ◌&&◌, List, length, get_or, eqb}
-use Rattle.facts.specs.declared.Checked.{Checked}
+use Rattle.facts.specs.Answers.{Checked}
 use Rattle.facts.specs.Checks.{check, ◌and_then◌, scan}
 use Rattle.prices.specs.Prices.{list_length}
 

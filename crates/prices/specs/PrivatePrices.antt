@@ -1,6 +1,6 @@
 -- For functions inside the engine alone: the eleven prices that apply.
 use Rattle.std.specs.Prelude.{ℕ, ◌≤◌, ◌≡◌, List, [], ◌∷◌, length, get_or}
-use Rattle.facts.specs.declared.Checked.TheVariants.{Passed}
+use Rattle.facts.specs.Answers.{Passed}
 use Rattle.prices.specs.Prices.{list_length}
 use Rattle.prices.specs.Checks.{price_list_checks}
 

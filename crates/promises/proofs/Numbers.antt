@@ -5,8 +5,7 @@ use mathlib.Core.Path.{◌≡◌, refl, sym, ap, subst, ◌∙◌}
 use mathlib.Core.Logic.{⊎_elim}
 use mathlib.Core.List.{List, [], ◌∷◌}
 use lib.ListN.{get_or, take}
-use Rattle.facts.specs.declared.Checked.{Checked}
-use Rattle.facts.specs.declared.Checked.TheVariants.{Passed, Refused}
+use Rattle.facts.specs.Answers.{Checked, Passed, Refused}
 use Rattle.facts.specs.Checks.{checked_numbers, outcome}
 use Rattle.facts.specs.Refusals.{Conditions, FirstAt, Exact, row_of}
 use Rattle.netlist.specs.declared.Capacities.{Capacities}
@@ -20,7 +19,7 @@ use Rattle.verifier.specs.Checks.{verify_checks, verify_answer, verified_numbers
 use Rattle.verifier.proofs.Accepted.{checks_passed}
 use Rattle.verifier.proofs.Refusals.{verify_first}
 use Rattle.facts.proofs.Refusals.{exact, Numbered, row_positive, zero_passed}
-use Rattle.mapper.specs.declared.Mapping.{Mapping}
+use Rattle.mapper.specs.Answer.{Mapping}
 use Rattle.mapper.specs.Answer.{map_checks, answer_of, map_answer, map_area, mapping_numbers}
 use Rattle.mapper.specs.Promises.{MapFails}
 use Rattle.mapper.proofs.Promises.{map_exact}
@@ -37,8 +36,8 @@ use Rattle.promises.specs.Written.{Maps}
 use Rattle.promises.specs.Numbers.{AnsweredExactly, TwoNumbers, Figures, MapNumbers, VerifyNumbers, StripNumbers, NumbersExact}
 use Rattle.promises.proofs.Written.{map_numbered, maps_passed}
 use Rattle.promises.proofs.Figures.{figures_hold, figures_same}
-use Rattle.verifier.specs.declared.Verified.TheVariants as verified
-use Rattle.strip.specs.declared.Stripped.TheVariants as stripped
+use Rattle.verifier.specs.Checks as verified
+use Rattle.strip.specs.Answer as stripped
 
 area_numbered : (Bad : Type 0) (row : List ℕ) → Numbered (AreaFails Bad row)
 area_numbered Bad row number place = ⊎_elim (λ f. omega (arith, f.0)) (λ z. omega (arith, z.2.0))

@@ -9,7 +9,7 @@ use mathlib.Core.List.{List}
 use lib.ListN.{length, drop}
 use lib.Seq.{take_at, drop_at}
 use borrow.Author.Tests.{le-ltb}
-use Rattle.facts.specs.declared.Checked.TheVariants.{Passed}
+use Rattle.facts.specs.Answers.{Passed}
 use Rattle.nets.specs.Checks.{no_tree, tree_check}
 use Rattle.facts.specs.Refusals.{row_of}
 use Rattle.facts.proofs.Refusals.{Numbered, row_positive, zero_passed}

@@ -1,6 +1,6 @@
 -- The buyer's three demands, each as one statement. The names are those of the promises in docs/PROMISES.md.
 use Rattle.std.specs.Prelude.{ℕ, ◌≡◌, List}
-use Rattle.facts.specs.declared.Checked.TheVariants.{Refused}
+use Rattle.facts.specs.Answers.{Refused}
 use Rattle.facts.specs.Rounding.{RoundedExact}
 use Rattle.netlist.specs.declared.Capacities.{Capacities}
 use Rattle.netlist.specs.Refusals.{SourceExact, InputExact, StructureExact}

@@ -1,6 +1,6 @@
 -- A source with its least levels, as the other calls take it.
 use Rattle.std.specs.Prelude.{ℕ, ◌≤◌, ◌≡◌, List}
-use Rattle.facts.specs.declared.Checked.TheVariants.{Passed}
+use Rattle.facts.specs.Answers.{Passed}
 use Rattle.netlist.specs.Capacities.{capacities_of, most_input_capacity}
 use Rattle.netlist.specs.Records.{netlist}
 use Rattle.netlist.specs.Checks.{input_checks}

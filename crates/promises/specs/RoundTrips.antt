@@ -1,6 +1,6 @@
 -- Stripping and mapping, one after the other, with the same capacities (specification 6.5).
 use Rattle.std.specs.Prelude.{ℕ, ◌*◌, ◌≤◌, ◌≡◌, List, length, take}
-use Rattle.facts.specs.declared.Checked.TheVariants.{Passed}
+use Rattle.facts.specs.Answers.{Passed}
 use Rattle.facts.specs.Areas.{onto}
 use Rattle.facts.specs.Bytes.{AreBytes}
 use Rattle.netlist.specs.declared.Capacities.{Capacities}
@@ -8,7 +8,7 @@ use Rattle.netlist.specs.Kinds.{width}
 use Rattle.netlist.specs.Records.{netlist, record_count}
 use Rattle.netlist.specs.Counts.{buffer_count}
 use Rattle.verifier.specs.Fewest.{NoMore}
-use Rattle.strip.specs.declared.Stripped.TheVariants.{Records}
+use Rattle.strip.specs.Answer.{Records}
 use Rattle.strip.specs.Answer.{strip_answer, strip_area}
 use Rattle.prices.specs.Checks.{price_list_checks}
 use Rattle.mapper.specs.Answer.{map_answer}

@@ -1,6 +1,6 @@
 -- Demands 2 and 3 of what the mapper writes, through the definitions that the calls' contracts cite.
 use Rattle.std.specs.Prelude.{ℕ, ◌+◌, ◌*◌, ◌≤◌, ◌≡◌, List, take, drop}
-use Rattle.facts.specs.declared.Checked.TheVariants.{Passed}
+use Rattle.facts.specs.Answers.{Passed}
 use Rattle.facts.specs.Checks.{check}
 use Rattle.netlist.specs.declared.Capacities.{Capacities}
 use Rattle.netlist.specs.Kinds.{width}
@@ -10,7 +10,7 @@ use Rattle.netlist.specs.Counts.{buffer_count}
 use Rattle.fanout.specs.Nets.{fewest_in_all}
 use Rattle.prices.specs.Checks.{price_list_checks}
 use Rattle.mapper.specs.Answer.{too_short, map_checks, map_answer, map_area}
-use Rattle.verifier.specs.declared.Verified.TheVariants.{Buffers}
+use Rattle.verifier.specs.Checks.{Buffers}
 use Rattle.verifier.specs.Checks.{verify_answer}
 use Rattle.verifier.specs.Accepted.{Accepted}
 use Rattle.verifier.specs.Fewest.{NoMore}

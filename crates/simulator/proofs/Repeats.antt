@@ -10,8 +10,7 @@ use lib.ListN.{length, take, drop, replicate, length-drop, length-replicate, get
 use lib.Seq.{length-take-le, get_or-take, get_or-drop, take-nil}
 use lib.Dec.{ltb}
 use borrow.Author.Tests.{lt-ltb, le-ltb, ltb-true, ne_eqb}
-use Rattle.facts.specs.declared.Checked.{Checked}
-use Rattle.facts.specs.declared.Checked.TheVariants.{Passed, Refused}
+use Rattle.facts.specs.Answers.{Checked, Passed, Refused}
 use Rattle.facts.specs.Sums.{bit, count}
 use Rattle.facts.specs.Lists.{tabulate}
 use Rattle.facts.proofs.Lists.{get_or_replicated, tabulate_cong}

@@ -1,20 +1,23 @@
 -- Laws of loops that write an area from the front: what is written so far, then the rest as it was.
-use Prim.Native.Nat.{ℕ, suc, ◌+◌, ◌*◌, ◌-◌, ◌^◌, ◌<◌, ◌≤◌}
+use Prim.Native.Nat.{ℕ, suc, ◌+◌, ◌*◌, ◌-◌, ◌<◌, ◌≤◌}
 use mathlib.Core.Path.{◌≡◌, refl, sym, ◌∙◌, ap}
 use mathlib.Core.Bool.{Bool, false, not}
 use mathlib.Core.List.{List, [], ◌∷◌, ◌++◌, append_assoc}
 use native.Mathlib.Omega.{arith}
-use native.Mathlib.Nat.{add-sub_of_le, add-suc, add-zero, sub-zero, sub_self}
+use native.Mathlib.Nat.{add-sub_of_le, add-suc, add-zero, sub_self}
 use native.Mathlib.Numerals.{add-one}
 use native.Mathlib.Decide.{dec_lt}
 use lib.ListN.{length, get_or, take, drop, set, length-set, length-drop, get_or-eq_default, get_or-append}
+use Rattle.std.proofs.Common.{get_or-drop}
 use lib.Seq.{take_all, drop_at, get_or-take, length-take-le}
 use lib.Dec.{eqb}
+use Rattle.std.specs.Int.{from_bool}
 use Rattle.facts.specs.Sums.{bit, sum, count}
 use Rattle.facts.proofs.Sums.{bit_le, on_bit}
 use Rattle.facts.proofs.Areas.{Written, take_written, drop_written, written_more, written_none, written_all, written_part}
 use Rattle.facts.proofs.Lists.{get_d_tabulate, tabulate_cong, tabulate_append}
 use Rattle.netlist.specs.Kinds.{input}
+use Rattle.netlist.specs.declared.Record.{Record}
 use Rattle.netlist.specs.Records.{Netlist, netlist, record_at, record_count, slot, fanin}
 use Rattle.simulator.specs.Logic.{on, next, values}
 use Rattle.simulator.specs.PrivateLogic.{value_in, Wired}
@@ -26,10 +29,10 @@ use Rattle.simulator.specs.PrivateStep.{Buffered, copied}
 use Rattle.simulator.proofs.Logic.{next_cong}
 use Rattle.simulator.proofs.Steps.{length_below, length_older}
 use Rattle.simulator.proofs.Waves.{next_buffer}
+use Rattle.facts.proofs.Chains.{one_bit}
 
 -- the first m bytes of old are kept in the next m, up to byte i
 pub record Keeping (m : ℕ) (area old : List ℕ) (i : ℕ) : Type 0 where
-  pub within : i ≤ m
   pub whole : length old ≡ 2 * m
   pub same : length area ≡ length old
   pub so_far : Written (take m old ++ older i old) (m + i) area old
@@ -38,12 +41,7 @@ module _ (m : ℕ) (old : List ℕ) where
   pub keeping_start : length old ≡ 2 * m → Keeping m old old 0
   unfolding older
   keeping_start e =
-      record {
-        within = omega arith;
-        whole = e;
-        same = refl;
-        so_far = written_part m old (omega arith);
-      }
+      record { whole = e; same = refl; so_far = written_part m old (omega arith) }
 
   -- the first half is not written
   first_half : (area : List ℕ) (i : ℕ) → Keeping m area old i → i < m → on area i ≡ on old i
@@ -55,12 +53,11 @@ module _ (m : ℕ) (old : List ℕ) where
         get_or-take m old i 0 h,
       )
 
-  pub keeping_more : (area : List ℕ) (i b : ℕ) → Keeping m area old i → i < m → b ≡ bit (not (eqb (get_or area i 0) 0)) → Keeping m (set area (m + i) b) old (i + 1)
+  pub keeping_more : (area : List ℕ) (i b : ℕ) → Keeping m area old i → i < m → b ≡ from_bool (not (eqb (get_or area i 0) 0)) → Keeping m (set area (m + i) b) old (i + 1)
   unfolding older
   keeping_more area i b k h f =
-      let value : b ≡ bit (on old i) = f ∙ ap bit (first_half area i k h) in
+      let value : b ≡ bit (on old i) = f ∙ one_bit (on area i) ∙ ap bit (first_half area i k h) in
       record {
-        within = omega arith;
         whole = k.whole;
         same = length-set area (m + i) b ∙ k.same;
         so_far =
@@ -68,9 +65,9 @@ module _ (m : ℕ) (old : List ℕ) where
             (written_more _ (m + i) b area old k.so_far (omega (arith, k.whole)));
       }
 
-  pub keeping_end : (area : List ℕ) (i : ℕ) → Keeping m area old i → m ≤ i → area ≡ take m old ++ older m old
-  keeping_end area i k h =
-      let e : i ≡ m = omega (arith, k.within) in
+  pub keeping_end : (area : List ℕ) (i : ℕ) → Keeping m area old i → i ≤ m → m ≤ i → area ≡ take m old ++ older m old
+  keeping_end area i k l h =
+      let e : i ≡ m = omega arith in
       written_all _ (m + i) area old k.so_far (omega (arith, k.whole))
       ∙ ap (λ (n : ℕ). take m old ++ older n old) e
 
@@ -81,7 +78,6 @@ length_half m area old e w =
 
 -- the first i of n records of a netlist are passed: their new bytes are written and their inputs counted
 pub record Passing (bytes : List ℕ) (n : ℕ) (new : List ℕ) (given i : ℕ) (area old : List ℕ) : Type 0 where
-  pub within : i ≤ n
   pub few : given ≤ i
   pub inputs : given ≡ count (is_input (netlist bytes)) i
   pub room : n ≤ length old
@@ -93,7 +89,6 @@ module _ (bytes : List ℕ) (n : ℕ) (old : List ℕ) where
   unfolding count sum
   passing_start h =
       record {
-        within = omega arith;
         few = omega arith;
         inputs = refl;
         room = h;
@@ -101,27 +96,23 @@ module _ (bytes : List ℕ) (n : ℕ) (old : List ℕ) where
         so_far = written_none old;
       }
 
-  module _ (given i : ℕ) (row held new area : List ℕ) (b x one : ℕ) (p : Passing bytes n new given i area old) (h : i < n)
-      (byte : b ≡ bit (value_in (record_at bytes i) (on row given) held)) (kind : x ≡ (record_at bytes i).kind)
-      (more : one ≡ bit (eqb x input)) where
+  module _ (given i : ℕ) (row held new area : List ℕ) (r : Record) (b one : ℕ) (p : Passing bytes n new given i area old) (h : i < n)
+      (is : r ≡ record_at bytes i) (byte : b ≡ bit (value_in r (on row given) held)) (more : one ≡ from_bool (eqb r.kind input)) where
     right : b ≡ bit (next (netlist bytes) row (on held) i)
     unfolding next value_in
-    right = rw (byte, p.inputs)
+    right = rw (byte, p.inputs, is)
 
     passing_more : Passing bytes n (new ++ (bit (next (netlist bytes) row (on held) i) ∷ [])) (given + one) (suc i) (set area i b) old
     unfolding count sum
     passing_more =
+        let counted : one ≡ bit (eqb r.kind input) = more ∙ one_bit (eqb r.kind input) in
         record {
-          within = omega arith;
-          few = omega (arith, p.few, bit_le (eqb x input));
-          inputs = rw (← kind) (omega (arith, p.inputs));
+          few = omega (arith, p.few, bit_le (eqb r.kind input));
+          inputs = rw (← is) (omega (arith, p.inputs));
           room = p.room;
           same = length-set area i b ∙ p.same;
           so_far = rw (← right) (written_more new i b area old p.so_far (omega (arith, p.room)));
         }
-
-  pub passing_fits : (given i one : ℕ) (new area : List ℕ) (x : Bool) → Passing bytes n new given i area old → i < n → one ≡ bit x → n < 2 ^ 64 → given + one < 2 ^ 64
-  passing_fits given i one new area x p h e l = omega (arith, p.few, bit_le x)
 
 -- plain logic's values, written by rising index
 module _ (bytes row : List ℕ) (n : ℕ) (old : List ℕ) where
@@ -129,65 +120,67 @@ module _ (bytes row : List ℕ) (n : ℕ) (old : List ℕ) where
   unfolding values
   filling_start h = passing_start bytes n old (omega arith)
 
-  pub filling_more : (given i : ℕ) (area : List ℕ) (b x one : ℕ) →
-      Passing bytes n (values (netlist bytes) row i) given i area old → i < n →
-      b ≡ bit (value_in (record_at bytes i) (on row given) (take (i - 0) (drop 0 area))) → x ≡ (record_at bytes i).kind → one ≡ bit (eqb x input) →
+  pub filling_more : (given i : ℕ) (area : List ℕ) (r : Record) (b one : ℕ) →
+      Passing bytes n (values (netlist bytes) row i) given i area old → i < n → r ≡ record_at bytes i →
+      b ≡ bit (value_in r (on row given) (take i area)) → one ≡ from_bool (eqb r.kind input) →
       Passing bytes n (values (netlist bytes) row (i + 1)) (given + one) (i + 1) (set area i b) old
   unfolding values
-  filling_more given i area b x one p h byte kind more =
-      let t : take (i - 0) area ≡ values (netlist bytes) row i = rw (sub-zero i) (take_written _ i area old p.so_far) in
+  filling_more given i area r b one p h is byte more =
       rw (add-one i)
-      (passing_more bytes n old given i row (values (netlist bytes) row i) _ area b x one p h (rw t at byte) kind more)
+      (passing_more bytes n old given i row (values (netlist bytes) row i) _ area r b one p h is (rw (take_written _ i area old p.so_far) at byte) more)
 
   -- a source's slots name what is written
-  pub filling_wired : (given i : ℕ) (area : List ℕ) → IsSource (netlist bytes) → n ≡ record_count bytes →
-      Passing bytes n (values (netlist bytes) row i) given i area old → i < n → Wired (record_at bytes i) (length (take (i - 0) (drop 0 area)))
-  filling_wired given i area s e p h =
-      record {
+  pub filling_wired : (given i : ℕ) (area : List ℕ) (r : Record) → IsSource (netlist bytes) → n ≡ record_count bytes →
+      Passing bytes n (values (netlist bytes) row i) given i area old → i < n → r ≡ record_at bytes i → Wired r (length (take i area))
+  filling_wired given i area r s e p h is =
+      rw is (record {
         below = λ j u.
-            rw (sub-zero i, length-take-le i area (omega (arith, p.room, p.same)))
+            rw (length-take-le i area (omega (arith, p.room, p.same)))
             (s.earlier i j (omega arith) u);
-      }
+      })
 
-  pub filling_end : (given i : ℕ) (area : List ℕ) → Passing bytes n (values (netlist bytes) row i) given i area old → n ≤ i → length old ≡ n →
+  pub filling_end : (given i : ℕ) (area : List ℕ) → Passing bytes n (values (netlist bytes) row i) given i area old → i ≤ n → n ≤ i → length old ≡ n →
       area ≡ values (netlist bytes) row n
-  filling_end given i area p h e =
-      let q : i ≡ n = omega (arith, p.within) in
+  filling_end given i area p l h e =
+      let q : i ≡ n = omega arith in
       written_all _ i area old p.so_far (omega arith) ∙ ap (values (netlist bytes) row) q
 
 -- new values, written over the first half from what the second half holds
-module _ (bytes row : List ℕ) (n m : ℕ) (old : List ℕ) where
-  pub renewing_start : n ≤ m → length old ≡ 2 * m → Passing bytes n (renewed_below (netlist bytes) row (drop m old) 0) 0 0 old old
-  unfolding renewed_below
-  renewing_start e h = passing_start bytes n old (omega arith)
+module _ (bytes row : List ℕ) (n m : ℕ) (old : List ℕ) (buffered : Buffered bytes n) (records : m ≡ record_count bytes) where
+  within : n ≤ m
+  within = omega (arith, buffered.within, records)
 
-  pub renewing_more : (given i : ℕ) (area : List ℕ) (b x one : ℕ) →
-      Passing bytes n (renewed_below (netlist bytes) row (drop m old) i) given i area old → n ≤ m → i < n →
-      b ≡ bit (value_in (record_at bytes i) (on row given) (take (length area - m) (drop m area))) → x ≡ (record_at bytes i).kind → one ≡ bit (eqb x input) →
+  pub renewing_start : length old ≡ 2 * m → Passing bytes n (renewed_below (netlist bytes) row (drop m old) 0) 0 0 old old
+  unfolding renewed_below
+  renewing_start h = passing_start bytes n old (omega (arith, within))
+
+  pub renewing_more : (given i : ℕ) (area : List ℕ) (r : Record) (b one : ℕ) →
+      Passing bytes n (renewed_below (netlist bytes) row (drop m old) i) given i area old → i < n → r ≡ record_at bytes i →
+      b ≡ bit (value_in r (on row given) (take (length area - m) (drop m area))) → one ≡ from_bool (eqb r.kind input) →
       Passing bytes n (renewed_below (netlist bytes) row (drop m old) (i + 1)) (given + one) (i + 1) (set area i b) old
   unfolding renewed_below
-  renewing_more given i area b x one p l h byte kind more =
+  renewing_more given i area r b one p h is byte more =
       let t : take (length area - m) (drop m area) ≡ drop m old =
       take_all (length area - m) (drop m area) (simp length-drop (omega arith))
-      ∙ drop_written _ i m area old p.so_far (omega arith)
+      ∙ drop_written _ i m area old p.so_far (omega (arith, within))
       in
       rw (add-one i)
-      (passing_more bytes n old given i row (drop m old) _ area b x one p h (rw t at byte) kind more)
+      (passing_more bytes n old given i row (drop m old) _ area r b one p h is (rw t at byte) more)
 
   -- a mapped netlist's slots name what the second half holds
-  pub renewing_wired : (given i : ℕ) (area : List ℕ) → Named (netlist bytes) → m ≡ record_count bytes →
-      Passing bytes n (renewed_below (netlist bytes) row (drop m old) i) given i area old → n ≤ m → length old ≡ 2 * m → i < n →
-      Wired (record_at bytes i) (length (take (length area - m) (drop m area)))
-  renewing_wired given i area s e p l w h =
-      record {
+  pub renewing_wired : (given i : ℕ) (area : List ℕ) (r : Record) → Named (netlist bytes) →
+      Passing bytes n (renewed_below (netlist bytes) row (drop m old) i) given i area old → length old ≡ 2 * m → i < n → r ≡ record_at bytes i →
+      Wired r (length (take (length area - m) (drop m area)))
+  renewing_wired given i area r s p w h is =
+      rw is (record {
         below = λ j u.
-            rw (length_half m area old p.same w) (rw (← e) at (s i j (omega (arith, e)) u));
-      }
+            rw (length_half m area old p.same w) (rw (← records) at (s i j (omega (arith, within, records)) u));
+      })
 
-  pub renewing_end : (given i : ℕ) (area : List ℕ) → Passing bytes n (renewed_below (netlist bytes) row (drop m old) i) given i area old → n ≤ i →
+  pub renewing_end : (given i : ℕ) (area : List ℕ) → Passing bytes n (renewed_below (netlist bytes) row (drop m old) i) given i area old → i ≤ n → n ≤ i →
       area ≡ renewed_below (netlist bytes) row (drop m old) n ++ drop n old
-  renewing_end given i area p h =
-      let e : i ≡ n = omega (arith, p.within) in
+  renewing_end given i area p l h =
+      let e : i ≡ n = omega arith in
       p.so_far.parts ∙ ap (λ (k : ℕ). renewed_below (netlist bytes) row (drop m old) k ++ drop k old) e
 
 -- the records from n up to k have copied
@@ -195,8 +188,6 @@ pub record Copying (mapped : List ℕ) (n m k : ℕ) (area old : List ℕ) : Typ
   pub buffered : Buffered mapped n
   pub records : m ≡ record_count mapped
   pub whole : length old ≡ 2 * m
-  pub from : n ≤ k
-  pub within : k ≤ m
   pub same : length area ≡ length old
   pub so_far : Written (take n old ++ copied mapped (drop m old) n (k - n)) k area old
 
@@ -208,53 +199,41 @@ module _ (mapped : List ℕ) (n m : ℕ) (old : List ℕ) where
         buffered = s;
         records = e;
         whole = h;
-        from = omega arith;
-        within = omega (arith, s.within);
         same = refl;
         so_far =
             rw (sub_self n) (rw (add-zero n) at (written_part n old (omega (arith, s.within))));
       }
 
-  module _ (k : ℕ) (area : List ℕ) (c : Copying mapped n m k area old) (r : ℕ) (q : r ≡ record_count mapped) (h : k < r) (x : ℕ) (e : x ≡ slot (record_at mapped k) 0) where
-    pub copying_inside : x < length (take (length area - m) (drop m area))
-    copying_inside =
-        rw (length_half m area old c.same c.whole)
-        (omega (arith, c.buffered.named k c.from (omega arith), c.records))
-
-    pub copying_more : (y : ℕ) → y ≡ get_or (take (length area - m) (drop m area)) x 0 → Copying mapped n m (k + 1) (set area k y) old
+  module _ (k : ℕ) (area : List ℕ) (c : Copying mapped n m k area old) where
+    pub copying_more : (r : Record) (s x : ℕ) → n ≤ k → k < m → r ≡ record_at mapped k → s ≡ slot r 0 → x ≡ s →
+        Copying mapped n m (k + 1) (set area k (get_or area (m + x) 0)) old
     unfolding copied
-    copying_more y byte =
+    copying_more r s x g h e f q =
         record {
           buffered = c.buffered;
           records = c.records;
           whole = c.whole;
-          from = omega (arith, c.from);
-          within = omega (arith, c.records);
-          same = length-set area k y ∙ c.same;
+          same = length-set area k _ ∙ c.same;
           so_far =
               rw (add-one k, next, ← append_assoc (take n old) (copied mapped (drop m old) n (k - n)), ← right)
-              (written_more _ k y area old c.so_far (omega (arith, c.whole, c.records)));
+              (written_more _ k (get_or area (m + x) 0) area old c.so_far (omega (arith, c.whole)));
         }
       where
         next : suc k - n ≡ suc (k - n)
-        next = omega (arith, c.from)
+        next = omega arith
 
         here : n + (k - n) ≡ k
-        here = omega (arith, c.from)
+        here = omega arith
 
-        half : take (length area - m) (drop m area) ≡ drop m old
-        half =
-            take_all (length area - m) (drop m area) (simp length-drop (omega (arith, c.same, c.whole)))
-            ∙ drop_written _ k m area old c.so_far c.within
+        right : get_or area (m + x) 0 ≡ get_or (drop m old) (slot (record_at mapped (n + (k - n))) 0) 0
+        right =
+            rw (here, ← e, ← f, ← q, ← drop_written _ k m area old c.so_far (omega arith))
+            (sym (get_or-drop m area x 0))
 
-        right : y ≡ get_or (drop m old) (slot (record_at mapped (n + (k - n))) 0) 0
-        right = rw (here, ← e, ← half) byte
-
-  pub copying_end : (k : ℕ) (area : List ℕ) → Copying mapped n m k area old → (r : ℕ) → r ≡ record_count mapped → r ≤ k →
-      area ≡ (take n old ++ copied mapped (drop m old) n (m - n)) ++ drop m old
-  copying_end k area c r q h =
-      let e : k ≡ m = omega (arith, c.within, c.records) in
-      c.so_far.parts ∙ ap (λ (i : ℕ). (take n old ++ copied mapped (drop m old) n (i - n)) ++ drop i old) e
+    pub copying_end : (n ≤ m → k ≤ m) → m ≤ k → area ≡ (take n old ++ copied mapped (drop m old) n (m - n)) ++ drop m old
+    copying_end l h =
+        let e : k ≡ m = omega (arith, l (omega (arith, c.buffered.within, c.records))) in
+        c.so_far.parts ∙ ap (λ (i : ℕ). (take n old ++ copied mapped (drop m old) n (i - n)) ++ drop i old) e
 
 -- values kept as 0 or 1 stand for what the bytes stood for
 on_older : (m : ℕ) (area : List ℕ) (i : ℕ) → m ≤ length area → on (older m area) i ≡ on (take m area) i

@@ -1,6 +1,6 @@
 -- What demand 3 promises of the calls, as statements over the byte lists and numbers that a caller hands in.
 use Rattle.std.specs.Prelude.{ℕ, suc, ◌+◌, ◌<◌, ◌≡◌, Bool, List, [], length, get_or}
-use Rattle.facts.specs.declared.Checked.TheVariants.{Passed}
+use Rattle.facts.specs.Answers.{Passed}
 use Rattle.facts.specs.Sums.{bit}
 use Rattle.facts.specs.Lists.{tabulate}
 use Rattle.netlist.specs.declared.Capacities.{Capacities}

@@ -1,6 +1,6 @@
 -- Specification 4.4, the plain evaluator: what it answers and what its area holds afterwards.
 use Rattle.std.specs.Prelude.{ℕ, Bool, not, ◌||◌, List, length, get_or, ltb, eqb}
-use Rattle.facts.specs.declared.Checked.{Checked}
+use Rattle.facts.specs.Answers.{Checked}
 use Rattle.facts.specs.Checks.{check, ◌and_then◌, unless_refused, scan}
 use Rattle.netlist.specs.Records.{Netlist, netlist, record_count}
 use Rattle.netlist.specs.Checks.{source_checks}

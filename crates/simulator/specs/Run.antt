@@ -1,6 +1,6 @@
 -- Specification 4.5, the phase run: the step over and over from zeros, what the call answers and what its areas hold afterwards.
 use Rattle.std.specs.Prelude.{ℕ, zero, suc, ◌+◌, ◌*◌, Bool, cond, not, List, [], ◌++◌, length, take, drop, replicate, eqb}
-use Rattle.facts.specs.declared.Checked.{Checked}
+use Rattle.facts.specs.Answers.{Checked}
 use Rattle.facts.specs.Checks.{check, ◌and_then◌, unless_refused}
 use Rattle.netlist.specs.declared.Capacities.{Capacities}
 use Rattle.netlist.specs.Records.{Netlist, netlist, depth}

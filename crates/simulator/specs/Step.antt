@@ -1,6 +1,6 @@
 -- Specification 4.6, one step: the state area after it, what the call answers and what its area holds afterwards.
 use Rattle.std.specs.Prelude.{ℕ, ◌*◌, Bool, not, ◌||◌, List, ◌++◌, length, take, ltb, eqb}
-use Rattle.facts.specs.declared.Checked.{Checked}
+use Rattle.facts.specs.Answers.{Checked}
 use Rattle.facts.specs.Checks.{check, ◌and_then◌, unless_refused}
 use Rattle.facts.specs.Sums.{bit}
 use Rattle.facts.specs.Lists.{tabulate}

@@ -1,6 +1,6 @@
 -- Specification 6.3: rows, and a list of one-step calls on one state area.
 use Rattle.std.specs.Prelude.{ℕ, cond, List, [], ◌∷◌, replicate, ltb}
-use Rattle.facts.specs.declared.Checked.{Checked}
+use Rattle.facts.specs.Answers.{Checked}
 use Rattle.facts.specs.Checks.{unless_refused}
 use Rattle.netlist.specs.declared.Capacities.{Capacities}
 use Rattle.simulator.specs.Step.{step_answer, step_area}

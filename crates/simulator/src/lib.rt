@@ -2,41 +2,28 @@
 #![tactic(auto)]
 
 ghost use Rattle.std.specs.Prelude.{◌≡◌};
+ghost use Rattle.facts.specs.Answers.{numbered};
 ghost use Rattle.simulator.specs.Evaluate.{evaluate_answer, evaluate_area};
 ghost use Rattle.simulator.specs.Step.{step_answer, step_area};
 ghost use Rattle.simulator.specs.Run.{run_answer, run_area, run_outputs};
 
-use facts::Checked;
+use facts::Refusal;
 use netlist::Capacities;
+use one_step::Stepper;
 
 mod area_checks;
 mod one_step;
 mod phase_run;
 mod plain_logic;
 
-// The numbers of a run: records of the source, bytes of a row, bytes of an output row, mapped records, and D.
-#[derive(Clone, Copy)]
-struct Shape {
-    sources: usize,
-    inputs: usize,
-    outputs: usize,
-    records: usize,
-    depth: usize,
-}
-
 // The plain evaluator: checks 2 to 7, 18 and 19; accepted, the area holds plain logic's value of each record.
-pub fn evaluate(source: &[u8], row: &[u8], values: &mut [u8]) -> Checked
-    ensures answer { result ≡ evaluate_answer source.now row.now values.old }
+pub fn evaluate(source: &[u8], row: &[u8], values: &mut [u8]) -> Result<(), Refusal>
+    ensures answer { numbered result ≡ evaluate_answer source.now row.now values.old }
     ensures area { values.new ≡ evaluate_area source.now row.now values.old }
 {
-    let checked = area_checks::check_evaluate(source, row, values);
-    match checked {
-        Checked::Passed => {
-            plain_logic::fill(source, row, netlist::record_count(source), values);
-            Checked::Passed
-        }
-        Checked::Refused(number, place) => Checked::Refused(number, place),
-    }
+    area_checks::check_evaluate(source, row, values)?;
+    plain_logic::fill(source, row, netlist::record_count(source), values);
+    Ok(())
 }
 
 // One step: the checks of a run of one row that has no output area; accepted, the state area is one step on.
@@ -46,19 +33,13 @@ pub fn step(
     mapped: &[u8],
     row: &[u8],
     state: &mut [u8],
-) -> Checked
-    ensures answer { result ≡ step_answer source.now capacities mapped.now row.now state.old }
+) -> Result<(), Refusal>
+    ensures answer { numbered result ≡ step_answer source.now capacities mapped.now row.now state.old }
     ensures area { state.new ≡ step_area source.now capacities mapped.now row.now state.old }
 {
-    let checked = area_checks::check_step(source, capacities, mapped, row, state);
-    match checked {
-        Checked::Passed => {
-            let n = netlist::record_count(source);
-            one_step::advance(mapped, row, n, netlist::record_count(mapped), state);
-            Checked::Passed
-        }
-        Checked::Refused(number, place) => Checked::Refused(number, place),
-    }
+    area_checks::check_step(source, capacities, mapped, row, state)?;
+    Stepper::new(source, mapped).advance(row, state);
+    Ok(())
 }
 
 // The phase run: the verifier's checks, then 18 and 19; accepted, the step over and over from zeros.
@@ -70,19 +51,13 @@ pub fn run(
     rows: &[u8],
     state: &mut [u8],
     outputs: &mut [u8],
-) -> Checked
-    ensures answer { result ≡ run_answer source.now capacities mapped.now row_count rows.now state.old outputs.old }
+) -> Result<(), Refusal>
+    ensures answer { numbered result ≡ run_answer source.now capacities mapped.now row_count rows.now state.old outputs.old }
     ensures area { state.new ≡ run_area source.now capacities mapped.now row_count rows.now state.old outputs.old }
     ensures outputs { outputs.new ≡ run_outputs source.now capacities mapped.now row_count rows.now state.old outputs.old }
 {
-    let checked = area_checks::check_run(
-        source, capacities, mapped, row_count, rows, state, outputs,
-    );
-    match checked {
-        Checked::Passed => {
-            phase_run::play(source, mapped, row_count, rows, state, outputs);
-            Checked::Passed
-        }
-        Checked::Refused(number, place) => Checked::Refused(number, place),
-    }
+    area_checks::check_run(source, capacities, mapped, row_count, rows, state, outputs)?;
+    let stepper = Stepper::new(source, mapped);
+    phase_run::play(source, stepper, row_count, rows, state, outputs);
+    Ok(())
 }

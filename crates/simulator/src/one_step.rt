@@ -5,7 +5,7 @@ ghost use Rattle.netlist.specs.Balance.{Named};
 ghost use Rattle.simulator.specs.Step.{renewed_below, older, stepped};
 ghost use Rattle.simulator.specs.PrivateStep.{Buffered, copied};
 
-use crate::plain_logic;
+use crate::plain_logic::Reader;
 use netlist::record_reader;
 
 // Keeps the first m bytes of a state area, as 0 or 1, in the next m.
@@ -13,49 +13,67 @@ fn keep(m: usize, state: &mut [u8])
     requires { length state.old ≡ 2 * m }
     ensures { state.new ≡ take m state.old ++ older m state.old }
 {
-    let mut i: usize = 0;
-    while i < m {
-        state[m + i] = plain_logic::byte_of(state[i] != 0);
-        i += 1;
+    for i in 0..m {
+        state[m + i] = u8::from(state[i] != 0);
     }
 }
 
-// The new values of the first n records, from what the second half holds.
-fn renew(mapped: &[u8], row: &[u8], n: usize, m: usize, state: &mut [u8])
-    requires named { Named (netlist mapped.now) }
-    requires n_le_m { (n ≤ m) × (m ≡ record_count mapped.now) × (length state.old ≡ 2 * m) }
-    ensures { state.new ≡ renewed_below (netlist mapped.now) row.now (drop m state.old) n ++ drop n state.old }
-{
-    let mut given: usize = 0;
-    let mut i: usize = 0;
-    while i < n {
-        state[i] = plain_logic::next_byte(mapped, row, given, i, &state[m..]);
-        given += facts::one_if(record_reader::kind_within(mapped, i) == netlist::INPUT);
-        i += 1;
-    }
+// A mapped netlist that can be stepped: how many of its records are the source's, which stand first, and how many there are.
+#[derive(Clone, Copy)]
+pub(crate) struct Stepper<'a> {
+    pub(crate) mapped: &'a [u8],
+    sources: usize,
+    pub(crate) records: usize,
+    ghost records_value: { records ≡ record_count mapped.now },
+    ghost named: { Named (netlist mapped.now) },
+    ghost buffered: { Buffered mapped.now sources },
 }
 
-// The new values of the records from n on: buffers, which copy what the second half holds.
-fn copy_buffers(mapped: &[u8], n: usize, m: usize, state: &mut [u8])
-    requires buffered { Buffered mapped.now n }
-    requires m_value { (m ≡ record_count mapped.now) × (length state.old ≡ 2 * m) }
-    ensures { state.new ≡ (take n state.old ++ copied mapped.now (drop m state.old) n (m - n)) ++ drop m state.old }
-{
-    let mut k = n;
-    while k < netlist::record_count(mapped) {
-        state[k] = plain_logic::held_at(&state[m..], netlist::slot_at(mapped, k, 0) as usize);
-        k += 1;
+impl<'a> Stepper<'a> {
+    pub(crate) fn new(source: &[u8], mapped: &'a [u8]) -> Stepper<'a>
+        requires named { Named (netlist mapped.now) }
+        requires buffered { Buffered mapped.now (record_count source.now) }
+        ensures { result.mapped.now ≡ mapped.now }
+    {
+        Stepper {
+            mapped,
+            sources: netlist::record_count(source),
+            records: netlist::record_count(mapped),
+        }
     }
-}
 
-// One step in place, of a mapped netlist of n source records and buffers.
-pub(crate) fn advance(mapped: &[u8], row: &[u8], n: usize, m: usize, state: &mut [u8])
-    requires named { Named (netlist mapped.now) }
-    requires buffered { Buffered mapped.now n }
-    requires m_value { (m ≡ record_count mapped.now) × (length state.old ≡ 2 * m) }
-    ensures { state.new ≡ stepped (netlist mapped.now) row.now state.old }
-{
-    keep(m, state);
-    renew(mapped, row, n, m, state);
-    copy_buffers(mapped, n, m, state);
+    // The new values of the source's records, from what the second half holds.
+    fn renew(self, row: &[u8], state: &mut [u8])
+        requires { length state.old ≡ 2 * self.records }
+        ensures { state.new ≡ renewed_below (netlist self.entry.mapped.now) row.now (drop self.entry.records state.old) self.entry.sources ++ drop self.entry.sources state.old }
+    {
+        let mut given: usize = 0;
+        for i in 0..self.sources {
+            let r = record_reader::read_at(self.mapped, i);
+            let held = &state[self.records..];
+            state[i] = Reader { r, held }.next_byte(row, given);
+            given += usize::from(r.kind == netlist::INPUT);
+        }
+    }
+
+    // The new values of the other records: buffers, which copy what the second half holds.
+    fn copy_buffers(self, state: &mut [u8])
+        requires { length state.old ≡ 2 * self.records }
+        ensures { state.new ≡ (take self.entry.sources state.old ++ copied self.entry.mapped.now (drop self.entry.records state.old) self.entry.sources (self.entry.records - self.entry.sources)) ++ drop self.entry.records state.old }
+    {
+        for k in self.sources..self.records {
+            let slot = netlist::slot(record_reader::read_at(self.mapped, k), 0);
+            state[k] = state[self.records + usize::from(slot)];
+        }
+    }
+
+    // One step in place.
+    pub(crate) fn advance(self, row: &[u8], state: &mut [u8])
+        requires { length state.old ≡ 2 * self.records }
+        ensures { state.new ≡ stepped (netlist self.entry.mapped.now) row.now state.old }
+    {
+        keep(self.records, state);
+        self.renew(row, state);
+        self.copy_buffers(state);
+    }
 }

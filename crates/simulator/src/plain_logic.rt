@@ -1,113 +1,101 @@
 // Plain logic: a record's function of what an area holds, and the values of all records.
-ghost use Rattle.std.specs.Prelude.{◌≡◌, ◌+◌, ◌<◌, length, get_or, leb};
+ghost use Rattle.std.specs.Prelude.{◌≡◌, ◌+◌, ◌<◌, length, leb};
 ghost use Rattle.facts.specs.Sums.{bit};
 ghost use Rattle.netlist.specs.Kinds.{arity};
-ghost use Rattle.netlist.specs.Records.{netlist, record_count, record_at};
+ghost use Rattle.netlist.specs.Records.{netlist, record_count};
 ghost use Rattle.netlist.specs.Source.{IsSource};
 ghost use Rattle.simulator.specs.Logic.{on, turned, values};
 ghost use Rattle.simulator.specs.PrivateLogic.{function_in, value_in, Wired, read_in, third_in};
 
-use facts::one_if;
 use netlist::{Record, record_reader};
-
-// The value as a byte.
-pub(crate) fn byte_of(b: bool) -> u8
-    ensures { result ≡ bit b }
-{
-    if b { 1 } else { 0 }
-}
 
 // The value that byte i of an area stands for, 0 past the end.
 fn is_on(area: &[u8], i: usize) -> bool
     ensures { result ≡ on area.now i }
 {
-    if i < area.len() { area[i] != 0 } else { false }
+    area.get(i).copied().unwrap_or(0) != 0
 }
 
 // A value turned over where the lowest bit is 1.
 fn turn(bits: u8, value: bool) -> bool
     ensures { result ≡ turned bits value }
 {
-    if bits % 2 == 1 { !value } else { value }
-}
-
-// Byte i of an area, within the end.
-pub(crate) fn held_at(area: &[u8], i: usize) -> u8
-    requires { i < length area.now }
-    ensures { result ≡ get_or area.now i 0 }
-{
-    area[i]
-}
-
-// What used slot j of a record reads, turned over where its inversion bit is 1.
-fn read_slot(r: Record, held: &[u8], j: usize) -> bool
-    requires wired { Wired r (length held.now) }
-    requires j_bound { j < arity r.kind }
-    ensures { result ≡ read_in r held.now j }
-{
-    turn(
-        r.inversion >> j,
-        held_at(held, netlist::slot(r, j) as usize) != 0,
-    )
+    value != (bits % 2 == 1)
 }
 
 // Whether at least two of three values are 1.
 fn at_least_two(a: bool, b: bool, c: bool) -> bool
     ensures { result ≡ leb 2 (bit a + bit b + bit c) }
 {
-    2 <= one_if(a) + one_if(b) + one_if(c)
+    2 <= u8::from(a) + u8::from(b) + u8::from(c)
 }
 
-// A gate's third value: what MAJ's third slot reads, 0 for AND, 1 for OR.
-fn third(r: Record, held: &[u8]) -> bool
-    requires { Wired r (length held.now) }
-    ensures { result ≡ third_in r held.now }
-{
-    if r.kind == netlist::MAJORITY {
-        read_slot(r, held, 2)
-    } else {
-        r.kind == netlist::OR
-    }
+// A record, and an area that has a byte for each record that it names.
+#[derive(Clone, Copy)]
+pub(crate) struct Reader<'a> {
+    pub(crate) r: Record,
+    pub(crate) held: &'a [u8],
+    ghost wired: { Wired r (length held.now) },
 }
 
-// A record's function of what an area holds.
-fn function_of(r: Record, held: &[u8]) -> bool
-    requires { Wired r (length held.now) }
-    ensures { result ≡ function_in r held.now }
-{
-    if netlist::is_gate(r.kind) {
-        return at_least_two(read_slot(r, held, 0), read_slot(r, held, 1), third(r, held));
+impl Reader<'_> {
+    // What used slot j reads, turned over where its inversion bit is 1.
+    fn slot(self, j: usize) -> bool
+        requires { j < arity self.r.kind }
+        ensures { result ≡ read_in self.entry.r self.entry.held.now j }
+    {
+        turn(
+            self.r.inversion >> j,
+            self.held[usize::from(netlist::slot(self.r, j))] != 0,
+        )
     }
-    if netlist::arity(r.kind) == 0 {
-        return false;
-    }
-    read_slot(r, held, 0)
-}
 
-// What record i holds next, as a byte: an input byte `given` of the row, every other record its function.
-pub(crate) fn next_byte(bytes: &[u8], row: &[u8], given: usize, i: usize, held: &[u8]) -> u8
-    requires i_bound { i < record_count bytes.now }
-    requires wired { Wired (record_at bytes.now i) (length held.now) }
-    ensures { result ≡ bit (value_in (record_at bytes.now i) (on row.now given) held.now) }
-{
-    let r = record_reader::read_at(bytes, i);
-    if r.kind == netlist::INPUT {
-        return byte_of(is_on(row, given));
+    // A gate's third value: what MAJ's third slot reads, 0 for AND, 1 for OR.
+    fn third(self) -> bool
+        ensures { result ≡ third_in self.entry.r self.entry.held.now }
+    {
+        if self.r.kind == netlist::MAJORITY {
+            self.slot(2)
+        } else {
+            self.r.kind == netlist::OR
+        }
     }
-    byte_of(function_of(r, held))
+
+    // The record's function of what the area holds.
+    fn function(self) -> bool
+        ensures { result ≡ function_in self.entry.r self.entry.held.now }
+    {
+        if netlist::is_gate(self.r.kind) {
+            return at_least_two(self.slot(0), self.slot(1), self.third());
+        }
+        if netlist::arity(self.r.kind) == 0 {
+            return false;
+        }
+        self.slot(0)
+    }
+
+    // What the record holds next, as a byte: an input byte `given` of the row, every other record its function.
+    pub(crate) fn next_byte(self, row: &[u8], given: usize) -> u8
+        ensures { result ≡ bit (value_in self.entry.r (on row.now given) self.entry.held.now) }
+    {
+        if self.r.kind == netlist::INPUT {
+            return u8::from(is_on(row, given));
+        }
+        u8::from(self.function())
+    }
 }
 
 // Plain logic's values, by rising index.
 pub(crate) fn fill(source: &[u8], row: &[u8], n: usize, area: &mut [u8])
     requires source { IsSource (netlist source.now) }
-    requires n_value { (n ≡ record_count source.now) × (length area.old ≡ n) }
+    requires sizes { (n ≡ record_count source.now) × (length area.old ≡ n) }
     ensures { area.new ≡ values (netlist source.now) row.now n }
 {
     let mut given: usize = 0;
-    let mut i: usize = 0;
-    while i < n {
-        area[i] = next_byte(source, row, given, i, &area[0..i]);
-        given += one_if(record_reader::kind_within(source, i) == netlist::INPUT);
-        i += 1;
+    for i in 0..n {
+        let r = record_reader::read_at(source, i);
+        let held = &area[..i];
+        area[i] = Reader { r, held }.next_byte(row, given);
+        given += usize::from(r.kind == netlist::INPUT);
     }
 }

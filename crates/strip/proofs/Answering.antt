@@ -1,15 +1,14 @@
 -- The call's answer from its parts: 1, then 24 by sizes, by 14 and 15 and by the verifier, then 25.
 use Prim.Native.Nat.{ℕ, ◌-◌, ◌*◌, ◌^◌, ◌%◌, ◌≤◌, ◌<◌}
 use native.Mathlib.Omega.{arith}
-use mathlib.Core.Path.{◌≡◌, refl, sym, ap, ◌∙◌}
+use mathlib.Core.Path.{◌≡◌, sym, ap, ◌∙◌}
 use mathlib.Core.Logic.{◌≢◌}
 use mathlib.Core.Bool.{Bool, true, false}
 use mathlib.Core.List.{List, ◌++◌}
 use lib.ListN.{length, take, drop}
 use lib.Seq.{take_at}
 use borrow.Author.Tests.{lt-ltb, le-ltb}
-use Rattle.facts.specs.declared.Checked.{Checked}
-use Rattle.facts.specs.declared.Checked.TheVariants.{Passed, Refused as Failed}
+use Rattle.facts.specs.Answers.{Checked, Passed, Refused as Failed}
 use Rattle.facts.specs.Areas.{onto}
 use Rattle.facts.specs.Checks.{check, unless_refused}
 use Rattle.facts.proofs.Reflect.{refuses_some, then_go, then_stop, stop_kept, go_written}
@@ -21,7 +20,7 @@ use Rattle.netlist.specs.Checks.{capacity_checks}
 use Rattle.verifier.specs.Accepted.{Accepted}
 use Rattle.verifier.specs.Checks.{verify_checks}
 use Rattle.verifier.proofs.Accepted.{checks_passed, accepted_exactly}
-use Rattle.strip.specs.declared.Stripped.TheVariants.{Records, Refused}
+use Rattle.strip.specs.Answer.{Records, Refused}
 use Rattle.strip.specs.Answer.{source_size, stripped_bytes, sourceless_check, room_check, stripping_checks, strip_checks, strip_answer, strip_area}
 use Rattle.strip.specs.PrivateTracing.{stripping_area, SizesFit, LeftWritten}
 use Rattle.strip.proofs.Sources.{length_left, count_left}
@@ -46,9 +45,9 @@ module _ (caps : Capacities) (mapped : List ℕ) where
   unfit b before after w t =
       record { none = λ a. w.bad t (legal_passes (netlist (stripped_bytes mapped)) caps (netlist mapped) (source_size (netlist mapped)) (sym (count_left mapped)) a.legal) }
 
-  judged_none : (judged : Checked) (number place : ℕ) → judged ≡ verify_checks (stripped_bytes mapped) caps mapped → judged ≡ Failed number place → NoneLeft caps mapped
-  judged_none judged number place e f =
-      record { none = λ a. passed_refused number place (sym ((checks_passed (stripped_bytes mapped) caps mapped).1 a) ∙ sym e ∙ f) }
+  judged_none : (number place : ℕ) → Failed number place ≡ verify_checks (stripped_bytes mapped) caps mapped → NoneLeft caps mapped
+  judged_none number place e =
+      record { none = λ a. passed_refused number place (sym ((checks_passed (stripped_bytes mapped) caps mapped).1 a) ∙ sym e) }
 
   -- then 24 is answered, and the area stays
   none_refuses : NoneLeft caps mapped → sourceless_check caps mapped ≡ Failed 24 0
@@ -58,28 +57,28 @@ module _ (caps : Capacities) (mapped : List ℕ) where
   module _ (area : List ℕ) where
     pub none_answered : NoneLeft caps mapped → Failed 24 0 ≡ stripping_checks caps mapped area
     unfolding stripping_checks
-    none_answered n = then_stop (sourceless_check caps mapped) (sourceless_check caps mapped) (room_check (stripped_bytes mapped) area) refl 24 0 (none_refuses n)
+    none_answered n = then_stop (sourceless_check caps mapped) (room_check (stripped_bytes mapped) area) 24 0 (sym (none_refuses n))
 
     pub none_kept : NoneLeft caps mapped → area ≡ stripping_area caps mapped area
     none_kept n = rw (← none_answered n)
 
     -- the verifier decides
-    module _ (source : List ℕ) (s : source ≡ stripped_bytes mapped) (judged : Checked) (e : judged ≡ verify_checks source caps mapped) where
-      pub judged_refused : (number place : ℕ) → judged ≡ Failed number place → NoneLeft caps mapped
-      judged_refused number place f = judged_none judged number place (e ∙ ap (λ (l : List ℕ). verify_checks l caps mapped) s) f
+    module _ (source : List ℕ) (s : source ≡ stripped_bytes mapped) where
+      pub judged_refused : (number place : ℕ) → Failed number place ≡ verify_checks source caps mapped → NoneLeft caps mapped
+      judged_refused number place e = judged_none number place (e ∙ ap (λ (l : List ℕ). verify_checks l caps mapped) s)
 
-      module _ (p : judged ≡ Passed) where
+      module _ (e : Passed ≡ verify_checks source caps mapped) where
         passes : Passed ≡ sourceless_check caps mapped
-        passes = rw (← s, ← e, p)
+        passes = rw (← s, ← e)
 
         pub judged_answered : (a : Checked) → a ≡ room_check source area → a ≡ stripping_checks caps mapped area
         unfolding stripping_checks
-        judged_answered a f = then_go Passed (sourceless_check caps mapped) (room_check (stripped_bytes mapped) area) passes a refl (f ∙ ap (λ (l : List ℕ). room_check l area) s)
+        judged_answered a f = then_go (sourceless_check caps mapped) (room_check (stripped_bytes mapped) area) a passes (f ∙ ap (λ (l : List ℕ). room_check l area) s)
 
         pub judged_written : (after : List ℕ) → after ≡ unless_refused (room_check source area) (onto source area) area →
             after ≡ stripping_area caps mapped area
         unfolding stripping_checks
-        judged_written after f = go_written Passed (sourceless_check caps mapped) (room_check (stripped_bytes mapped) area) passes (onto (stripped_bytes mapped) area) area after refl (rw s at f)
+        judged_written after f = go_written (sourceless_check caps mapped) (room_check (stripped_bytes mapped) area) (onto (stripped_bytes mapped) area) area after passes (rw s at f)
 
 -- what is left, as a part of the array that it was written into
 pub left_part : (mapped : List ℕ) (n all : ℕ) (b : Bool) (before after : List ℕ) → SizesFit (netlist mapped) n all → LeftWritten mapped b before after → b ≡ true →
@@ -101,41 +100,39 @@ module _ (source area : List ℕ) where
     room_passed = rw (le-ltb (length area) (length source) h)
 
     pub room_written : (part : List ℕ) → part ≡ source →
-        part ++ drop (length source - 0) area ≡ unless_refused (room_check source area) (onto source area) area
-    room_written part e =
-        let z : length source - 0 ≡ length source = omega arith in
-        rw (e, le-ltb (length area) (length source) h, z)
+        part ++ drop (length source) area ≡ unless_refused (room_check source area) (onto source area) area
+    room_written part e = rw (e, le-ltb (length area) (length source) h)
 
 -- 1, then the rest
-module _ (caps : Capacities) (mapped area : List ℕ) (a : Checked) (e : a ≡ capacity_checks caps) where
-  pub allowed_answered : (b : Checked) → a ≡ Passed → b ≡ stripping_checks caps mapped area → b ≡ strip_checks caps mapped area
+module _ (caps : Capacities) (mapped area : List ℕ) where
+  pub allowed_answered : (a : Checked) → Passed ≡ capacity_checks caps → a ≡ stripping_checks caps mapped area → a ≡ strip_checks caps mapped area
   unfolding strip_checks
-  allowed_answered b p f = then_go a (capacity_checks caps) (stripping_checks caps mapped area) e b p f
+  allowed_answered a e f = then_go (capacity_checks caps) (stripping_checks caps mapped area) a e f
 
-  pub allowed_written : (after : List ℕ) → a ≡ Passed → after ≡ stripping_area caps mapped area →
+  pub allowed_written : (after : List ℕ) → Passed ≡ capacity_checks caps → after ≡ stripping_area caps mapped area →
       after ≡ strip_area caps mapped area
   unfolding strip_checks
-  allowed_written after p f = go_written a (capacity_checks caps) (stripping_checks caps mapped area) e (onto (stripped_bytes mapped) area) area after p f
+  allowed_written after e f = go_written (capacity_checks caps) (stripping_checks caps mapped area) (onto (stripped_bytes mapped) area) area after e f
 
-  module _ (number place : ℕ) (p : a ≡ Failed number place) where
+  module _ (number place : ℕ) (e : Failed number place ≡ capacity_checks caps) where
     pub capacity_refused : Failed number place ≡ strip_checks caps mapped area
     unfolding strip_checks
-    capacity_refused = then_stop a (capacity_checks caps) (stripping_checks caps mapped area) e number place p
+    capacity_refused = then_stop (capacity_checks caps) (stripping_checks caps mapped area) number place e
 
     pub capacity_kept : area ≡ strip_area caps mapped area
     unfolding strip_checks
-    capacity_kept = stop_kept a (capacity_checks caps) (stripping_checks caps mapped area) e (onto (stripped_bytes mapped) area) area number place p
+    capacity_kept = stop_kept (capacity_checks caps) (stripping_checks caps mapped area) (onto (stripped_bytes mapped) area) area number place e
 
 -- the answer of the whole
-module _ (caps : Capacities) (mapped area : List ℕ) (a : Checked) (e : a ≡ strip_checks caps mapped area) where
-  module _ (p : a ≡ Passed) (n : ℕ) (f : n ≡ source_size (netlist mapped)) where
+module _ (caps : Capacities) (mapped area : List ℕ) where
+  module _ (e : Passed ≡ strip_checks caps mapped area) (n : ℕ) (f : n ≡ source_size (netlist mapped)) where
     pub size_fits : n < 2 ^ 32
     size_fits =
-        let s = (passed_source caps mapped area (sym e ∙ p)).0 in
+        let s = (passed_source caps mapped area (sym e)).0 in
         omega (arith, ((accepted_exactly (stripped_bytes mapped) caps mapped s.buffers).0 s.accepted).0.is_source.is_source.few, count_left mapped)
 
     pub strip_passed : Records n ≡ strip_answer caps mapped area
-    strip_passed = rw (← e, p, f)
+    strip_passed = rw (← e, f)
 
-  pub strip_refused : (number place : ℕ) → a ≡ Failed number place → Refused number place ≡ strip_answer caps mapped area
-  strip_refused number place p = rw (← e, p)
+  pub strip_refused : (number place : ℕ) → Failed number place ≡ strip_checks caps mapped area → Refused number place ≡ strip_answer caps mapped area
+  strip_refused number place e = rw (← e)

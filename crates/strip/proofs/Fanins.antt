@@ -4,12 +4,11 @@ use Prim.Native.Nat.{ℕ, ◌+◌, ◌≤◌, ◌<◌}
 use native.Mathlib.Decide.{dec_lt}
 use native.Mathlib.Omega.{arith}
 use mathlib.Core.Path.{◌≡◌, refl, sym, ap, ◌∙◌}
-use mathlib.Core.Logic.{◌≢◌}
 use mathlib.Core.Bool.{Bool, true, false, not, ◌||◌}
 use mathlib.Core.List.{List}
-use lib.ListN.{length, set}
+use lib.ListN.{set}
 use lib.Dec.{eqb}
-use borrow.Author.Tests.{eqb-true, eqb-false, eq-eqb, ne_eqb}
+use borrow.Author.Tests.{eqb-true, eqb-false, eq-eqb}
 use Rattle.facts.specs.Sums.{any}
 use Rattle.facts.proofs.Bools.{true_false}
 use Rattle.facts.proofs.Loops.{NoneYet, any_more, any_found, seek_before, seek_within}
@@ -23,7 +22,7 @@ use Rattle.netlist.specs.Counts.{is_buffer}
 use Rattle.verifier.specs.Legal.{Legal}
 use Rattle.verifier.specs.PrivateFeeding.{bad_fanin}
 use Rattle.verifier.specs.PrivateWalking.{Driven, Walkable, Known, known_driver}
-use Rattle.verifier.proofs.Walking.{fine_room, fine_known}
+use Rattle.verifier.proofs.Walking.{fine_known}
 use Rattle.strip.specs.Answer.{source_size}
 use Rattle.strip.specs.PrivateTracing.{bad_fanins, bad_buffer, SizesFit, BuffersDecided, FaninsPass, FaninsDecided}
 
@@ -44,23 +43,8 @@ module _ (m : Netlist) (n k : ℕ) (r : Record) (b : Bool) (l : k < n) (e : r �
   pub record_good : NoneYet (bad_fanins m) n k → b ≡ false → NoneYet (bad_fanins m) n (k + 1)
   record_good i t = any_more (bad_fanins m) n k b i l here t
 
--- the used slots are as many as the path taken looks at
-module _ (m : Netlist) (r : Record) (used : ℕ) (u : used ≡ arity r.kind) where
-  pub used_none : used ≡ 0 → false ≡ any (bad_fanin m r) (arity r.kind)
-  unfolding any
-  used_none z = rw (← u, z) refl
-
-  pub used_some : (n : ℕ) (b : Bool) → used ≡ n → b ≡ any (bad_fanin m r) n → b ≡ any (bad_fanin m r) (arity r.kind)
-  used_some n b z e = rw (← u, z) e
-
 -- a record is a buffer with a fanin one level lower, or not
 module _ (m : Netlist) (r : Record) where
-  pub kind_bad : r.kind ≢ buffer → true ≡ bad_buffer m r
-  kind_bad h = rw (ne_eqb r.kind buffer h)
-
-  pub fanin_bad : (b : Bool) → r.kind ≡ buffer → b ≡ bad_fanin m r 0 → b ≡ bad_buffer m r
-  fanin_bad b h e = rw (eq-eqb r.kind buffer h) e
-
   buffer_good : bad_buffer m r ≡ false → (r.kind ≡ buffer) × (bad_fanin m r 0 ≡ false)
   buffer_good e = go (eqb r.kind buffer) refl e
     where
@@ -89,33 +73,14 @@ module _ (n : ℕ) (m : Netlist) (all : ℕ) (drivers : List ℕ) where
       }
 
   module _ (k : ℕ) (s : BuffersSoFar n m all drivers k) where
-    pub buffers_end : all ≤ k → BuffersDecided n m true drivers
-    buffers_end l =
-        record {
-          good = λ e i a h. s.good i a (omega (arith, s.counted.records));
-          bad = λ e. absurd (true_false true refl e);
-          known = s.known;
-        }
-
     module _ (l : k < all) where
       pub buffer_inside : k < m.size
       buffer_inside = omega (arith, s.counted.records)
 
       module _ (r : Record) (e : r ≡ m.at k) (b : Bool) (f : b ≡ bad_buffer m r) where
-        pub buffers_stop : b ≡ true → BuffersDecided n m false drivers
-        buffers_stop t =
-            record {
-              good = λ u. absurd (true_false true refl (sym u));
-              bad = λ u. (k, s.from, buffer_inside, rw (← e) (sym f ∙ t));
-              known = s.known;
-            }
-
         module _ (t : b ≡ false) (x : ℕ) (p : x ≡ slot r 0) where
           fine : (r.kind ≡ buffer) × (bad_fanin m r 0 ≡ false)
           fine = buffer_good m r (sym f ∙ t)
-
-          pub buffer_room : x < length drivers
-          buffer_room = fine_room m drivers s.known r x p fine.1
 
           pub buffers_more : (d : ℕ) → d ≡ known_driver n drivers x → BuffersSoFar n m all (set drivers k d) (k + 1)
           buffers_more d h =

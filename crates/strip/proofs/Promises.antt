@@ -8,8 +8,7 @@ use mathlib.Core.List.{List}
 use lib.ListN.{length}
 use lib.Dec.{ltb}
 use borrow.Author.Tests.{ltb-true, ltb-false, lt-ltb, le-ltb}
-use Rattle.facts.specs.declared.Checked.{Checked}
-use Rattle.facts.specs.declared.Checked.TheVariants.{Passed, Refused as Failed}
+use Rattle.facts.specs.Answers.{Checked, Passed, Refused as Failed}
 use Rattle.facts.specs.Checks.{outcome, refuses}
 use Rattle.facts.specs.Areas.{onto}
 use Rattle.facts.specs.Refusals.{row_of, First}
@@ -22,7 +21,7 @@ use Rattle.netlist.proofs.Refusals.{capacities_rows, capacities_first}
 use Rattle.netlist.proofs.Source.{capacities_passed}
 use Rattle.verifier.specs.Checks.{verify_checks}
 use Rattle.verifier.proofs.Accepted.{checks_passed, accepted_exactly}
-use Rattle.strip.specs.declared.Stripped.TheVariants.{Records, Refused}
+use Rattle.strip.specs.Answer.{Records, Refused}
 use Rattle.strip.specs.Sources.{SourceOf}
 use Rattle.strip.specs.Answer.{source_size, stripped_bytes, sourceless_check, room_check, stripping_checks, strip_checks}
 use Rattle.strip.specs.Promises.{OneSource, NoSource, NoRoom, StripFails, StripExact, StripAccepts, StripWrites, StripKeeps}

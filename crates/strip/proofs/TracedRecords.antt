@@ -3,18 +3,17 @@ use Prim.Native.Nat.{ℕ, ◌+◌, ◌*◌, ◌≤◌, ◌<◌}
 use native.Mathlib.Decide.{dec_lt, ℕ_discrete}
 use native.Mathlib.Nat.{zero-add}
 use native.Mathlib.Omega.{arith}
-use mathlib.Core.Path.{◌≡◌, refl, sym, ap, ◌∙◌}
-use mathlib.Core.Bool.{Bool, true, false, cond}
+use mathlib.Core.Path.{◌≡◌, sym, ap, ◌∙◌}
+use mathlib.Core.Bool.{Bool, cond}
 use mathlib.Core.List.{List, ◌++◌}
 use mir.Val.{Fits}
 use mir.Syntax.{w64}
-use lib.ListN.{length, get_or, set, drop, replicate, length-set}
+use lib.ListN.{length, get_or, set, drop, length-set}
 use lib.Seq.{get_or-set_same, get_or-set_other, ext_get_or}
 use lib.Dec.{ltb}
 use borrow.Author.Tests.{lt-ltb, le-ltb}
 use Rattle.facts.specs.Areas.{onto, put}
 use Rattle.facts.specs.Lists.{tabulate}
-use Rattle.facts.proofs.Bools.{true_false}
 use Rattle.facts.proofs.Lists.{length_tabulate, get_d_tabulate}
 use Rattle.facts.proofs.Loops.{seek_within}
 use Rattle.netlist.specs.declared.Record.{Record}
@@ -25,10 +24,9 @@ use Rattle.netlist.specs.Counts.{is_buffer}
 use Rattle.netlist.proofs.Bytes.{RecordsSoFar, written_start, written_more, written_end}
 use Rattle.netlist.proofs.Checks.{arity_slots}
 use Rattle.verifier.specs.Trace.{driver}
-use Rattle.verifier.specs.PrivateWalking.{unknown, Known, Walkable, Traced, SlotsTraceable}
-use Rattle.verifier.proofs.Walking.{known_none}
+use Rattle.verifier.specs.PrivateWalking.{Known, Traced, SlotsTraceable}
 use Rattle.strip.specs.Answer.{source_size, traced_slot, traced_record, stripped, stripped_bytes}
-use Rattle.strip.specs.PrivateTracing.{SizesFit, FaninsDecided, RecordTraced, LeftReady, LeftWritten}
+use Rattle.strip.specs.PrivateTracing.{RecordTraced, LeftReady}
 use Rattle.netlist.specs.Kinds as kinds
 
 -- the first j slots are traced
@@ -38,14 +36,6 @@ pub record SlotsSoFar (m : Netlist) (r : Record) (used : ℕ) (slots drivers : L
   pub long : length slots ≡ kinds.slots
   pub at : (i : ℕ) → i < kinds.slots → get_or slots i unused ≡ cond (ltb i j) (driver m (slot r i)) (slot r i)
   pub known : Known m drivers
-
--- the used slots are as many as the path taken traces
-module _ (r : Record) (used path : ℕ) (e : used ≡ arity r.kind) (f : used ≡ path) where
-  pub path_used : path ≡ arity r.kind
-  path_used = sym f ∙ e
-
-  pub path_slots : (n : ℕ) (m : Netlist) (drivers : List ℕ) → SlotsTraceable n m drivers r (arity r.kind) → SlotsTraceable n m drivers r path
-  path_slots n m drivers w = rw path_used w
 
 module _ (m : Netlist) (r : Record) (used : ℕ) where
   pub slots_start : (n : ℕ) (drivers : List ℕ) → length r.slots ≡ kinds.slots → used ≡ arity r.kind → SlotsTraceable n m drivers r used →
@@ -125,9 +115,6 @@ module _ (mapped : List ℕ) (n : ℕ) (before : List ℕ) where
       unfolding source_size
       left_inside = omega (arith, w.size, seek_within (is_buffer (netlist mapped)) 0 (record_count mapped))
 
-      pub left_room : width * k + width ≤ length source
-      left_room = omega (arith, s.records.long, w.room)
-
       pub left_slots : (r : Record) → r ≡ record_at mapped k → SlotsTraceable n (netlist mapped) drivers r (arity r.kind)
       left_slots r e =
           rw e (record {
@@ -147,22 +134,3 @@ module _ (mapped : List ℕ) (n : ℕ) (before : List ℕ) where
                 (g ∙ ap (λ (i : ℕ). put source (width * i) (encode traced)) (sym (zero-add k)));
             known = t.known;
           }
-
--- 14 and 15 decided, then written
-module _ (mapped : List ℕ) (n all : ℕ) (c : SizesFit (netlist mapped) n all) (b : Bool) (drivers : List ℕ) (l : FaninsDecided n (netlist mapped) b drivers) where
-  pub decided_ready : (known source : List ℕ) → Known (netlist mapped) known → width * n ≤ length source → b ≡ true → LeftReady (netlist mapped) n known source
-  decided_ready known source k room t = record { walkable = l.good t; size = c.size; known = k; room = room }
-
-  pub decided_walkable : b ≡ true → Walkable n (netlist mapped)
-  decided_walkable = l.good
-
-  pub decided_bad : (source : List ℕ) → b ≡ false → LeftWritten mapped false source source
-  decided_bad source t =
-      record { good = λ e. absurd (true_false true refl (sym e)); bad = λ e s. l.bad t (rw c.size s) }
-
-pub decided_written : (mapped before after : List ℕ) → after ≡ onto (stripped_bytes mapped) before → LeftWritten mapped true before after
-decided_written mapped before after e = record { good = λ t. e; bad = λ t. absurd (true_false true refl t) }
-
--- with a new array, an entry for each record
-pub known_fresh : (m : Netlist) (n all entries : ℕ) → SizesFit m n all → all ≤ entries → Known m (replicate entries unknown)
-known_fresh m n all entries c l = known_none m entries (omega (arith, c.records))

@@ -1,6 +1,6 @@
 -- Specification 4.11: a mapped netlist without its buffers, the call's answer, and what its area holds afterwards.
 use Rattle.std.specs.Prelude.{ℕ, cond, List, [], ◌∷◌, length, ltb}
-use Rattle.facts.specs.declared.Checked.{Checked}
+use Rattle.facts.specs.Answers.{Checked}
 use Rattle.facts.specs.Areas.{onto}
 use Rattle.facts.specs.Checks.{check, ◌and_then◌, outcome, unless_refused, refuses}
 use Rattle.facts.specs.Lists.{tabulate}
@@ -14,8 +14,6 @@ use Rattle.netlist.specs.Checks.{capacity_checks}
 use Rattle.netlist.specs.Counts.{is_buffer}
 use Rattle.verifier.specs.Trace.{driver}
 use Rattle.verifier.specs.Checks.{verify_checks}
-use Rattle.strip.specs.declared.Stripped.{Stripped}
-use Rattle.strip.specs.declared.Stripped.TheVariants.{Records, Refused}
 
 -- N: how many records stand before the first buffer
 unfoldable pub source_size : Netlist → ℕ
@@ -58,6 +56,11 @@ stripping_checks caps mapped area = sourceless_check caps mapped and_then room_c
 -- 1, 26, 24, 25
 unfoldable pub strip_checks : Capacities → List ℕ → List ℕ → Checked
 strip_checks caps mapped area = capacity_checks caps and_then stripping_checks caps mapped area
+
+-- the number of records of a mapped netlist's source, or the number of the first failing check and its place
+pub data Stripped : Type 0 where
+  Records : (size : ℕ) → Stripped
+  Refused : (number place : ℕ) → Stripped
 
 -- the call's answer
 abbrev pub strip_answer : Capacities → List ℕ → List ℕ → Stripped

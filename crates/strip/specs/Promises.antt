@@ -5,7 +5,7 @@ use Rattle.facts.specs.Refusals.{Conditions, Fails, ◌or◌, Exact}
 use Rattle.netlist.specs.declared.Capacities.{Capacities}
 use Rattle.netlist.specs.Records.{record_count}
 use Rattle.netlist.specs.Refusals.{CapacityFails}
-use Rattle.strip.specs.declared.Stripped.TheVariants.{Records, Refused}
+use Rattle.strip.specs.Answer.{Records, Refused}
 use Rattle.strip.specs.Sources.{SourceOf}
 use Rattle.strip.specs.Answer.{strip_checks, strip_answer, strip_area}
 

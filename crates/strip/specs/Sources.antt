@@ -2,7 +2,7 @@
 use Rattle.std.specs.Prelude.{ℕ, ◌≡◌, List}
 use Rattle.facts.specs.Bytes.{AreBytes}
 use Rattle.netlist.specs.declared.Capacities.{Capacities}
-use Rattle.verifier.specs.declared.Verified.TheVariants.{Buffers}
+use Rattle.verifier.specs.Checks.{Buffers}
 use Rattle.verifier.specs.Checks.{verify_answer}
 
 -- bytes that, handed to the verifier as the source, make it accept the mapped netlist

@@ -7,34 +7,27 @@ ghost use Rattle.verifier.specs.PrivateFeeding.{bad_fanin};
 ghost use Rattle.verifier.specs.PrivateWalking.{Known};
 ghost use Rattle.strip.specs.PrivateTracing.{bad_fanins, bad_buffer, SizesFit, BuffersDecided, FaninsDecided};
 
-use netlist::{Record, arity, record_reader, slot};
+use netlist::{Record, by_arity, record_reader, slot};
 use verifier::{places, traces};
 
 // Whether one of the first slots of a record fails 14 or 15.
 fn any_bad_fanin(mapped: &[u8], r: Record, used: usize) -> bool
     ensures { result ≡ any (bad_fanin (netlist mapped.now) r) used }
 {
-    let mut j: usize = 0;
-    while j < used {
+    for j in 0..used {
         if places::bad_fanin(mapped, r, j) {
             return true;
         }
-        j += 1;
     }
     false
 }
 
-// The same of all used slots, by a path for each number of them.
+// The same of all used slots.
 fn bad_fanins(mapped: &[u8], r: Record) -> bool
     ensures { result ≡ any (bad_fanin (netlist mapped.now) r) (Kinds.arity r.kind) }
 {
-    let used = arity(r.kind);
-    match used {
-        0 => false,
-        1 => any_bad_fanin(mapped, r, 1),
-        2 => any_bad_fanin(mapped, r, 2),
-        _ => any_bad_fanin(mapped, r, netlist::SLOTS),
-    }
+    let mut any_bad = |used: usize| any_bad_fanin(mapped, r, used);
+    by_arity(r.kind, &mut any_bad)
 }
 
 // Whether one of the first n records fails 14 or 15.
@@ -42,12 +35,10 @@ fn any_bad_record(mapped: &[u8], n: u32) -> bool
     requires { n ≤ record_count mapped.now }
     ensures { result ≡ any (bad_fanins (netlist mapped.now)) n }
 {
-    let mut k: u32 = 0;
-    while k < n {
+    for k in 0..n {
         if bad_fanins(mapped, record_reader::read_at(mapped, k as usize)) {
             return true;
         }
-        k += 1;
     }
     false
 }
@@ -56,10 +47,7 @@ fn any_bad_record(mapped: &[u8], n: u32) -> bool
 fn bad_buffer(mapped: &[u8], r: Record) -> bool
     ensures { result ≡ bad_buffer (netlist mapped.now) r }
 {
-    if r.kind != netlist::BUFFER {
-        return true;
-    }
-    places::bad_fanin(mapped, r, 0)
+    r.kind != netlist::BUFFER || places::bad_fanin(mapped, r, 0)
 }
 
 // Whether every record from n on is a buffer that passes 14 and 15; its driver is kept if its fanin's is known.
@@ -68,15 +56,13 @@ fn buffers_pass(mapped: &[u8], n: u32, m: u32, drivers: &mut [u16]) -> bool
     requires known { Known (netlist mapped.now) drivers.old }
     ensures { BuffersDecided n (netlist mapped.now) result drivers.new }
 {
-    let mut k = n;
-    while k < m {
+    for k in n..m {
         let r = record_reader::read_at(mapped, k as usize);
         if bad_buffer(mapped, r) {
             return false;
         }
         let d = traces::known(n, drivers, slot(r, 0));
         drivers[k as usize] = d;
-        k += 1;
     }
     true
 }

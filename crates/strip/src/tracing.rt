@@ -1,7 +1,7 @@
 // The source that a mapped netlist would have: its records before the first buffer, with every used slot traced back.
 ghost use Rattle.std.specs.Prelude.{◌≡◌, ◌*◌, ◌≤◌, length};
 ghost use Rattle.facts.specs.Areas.{onto};
-ghost use Rattle.netlist.specs.Kinds.{width};
+ghost use Rattle.netlist.specs.Kinds.{width, mapped_limit};
 ghost use Rattle.netlist.specs.Kinds;
 ghost use Rattle.netlist.specs.Records.{netlist};
 ghost use Rattle.verifier.specs.PrivateWalking.{Known, SlotsTraceable};
@@ -9,7 +9,7 @@ ghost use Rattle.strip.specs.Answer.{stripped_bytes};
 ghost use Rattle.strip.specs.PrivateTracing.{SizesFit, RecordTraced, LeftReady, LeftWritten};
 
 use crate::fanin_checks;
-use netlist::{Record, arity, record_reader, record_writer, slot};
+use netlist::{Record, by_arity, record_reader, record_writer, slot};
 use verifier::traces::UNKNOWN;
 use verifier::{MIDDLE, RECORDS, SHORT, traces};
 
@@ -20,31 +20,19 @@ fn trace_slots(mapped: &[u8], n: u32, drivers: &mut [u16], r: Record, used: usiz
     ensures { RecordTraced (netlist mapped.now) r result drivers.new }
 {
     let mut slots = r.slots;
-    let mut j: usize = 0;
-    while j < used {
+    for j in 0..used {
         slots[j] = traces::walk(mapped, n, drivers, r.level - 1, slot(r, j));
-        j += 1;
     }
-    Record {
-        kind: r.kind,
-        inversion: r.inversion,
-        level: r.level,
-        slots,
-    }
+    Record { slots, ..r }
 }
 
-// The same, by a path for each number of used slots.
+// The same of all slots that the kind uses.
 fn trace_used(mapped: &[u8], n: u32, drivers: &mut [u16], r: Record) -> Record
     requires { SlotsTraceable n (netlist mapped.now) drivers.old r (Kinds.arity r.kind) }
     ensures { RecordTraced (netlist mapped.now) r result drivers.new }
 {
-    let used = arity(r.kind);
-    match used {
-        0 => trace_slots(mapped, n, drivers, r, 0),
-        1 => trace_slots(mapped, n, drivers, r, 1),
-        2 => trace_slots(mapped, n, drivers, r, 2),
-        _ => trace_slots(mapped, n, drivers, r, netlist::SLOTS),
-    }
+    let mut trace = |used: usize| trace_slots(mapped, n, drivers, r, used);
+    by_arity(r.kind, &mut trace)
 }
 
 // The records before the first buffer, with their used slots traced back, at the start of an area.
@@ -52,16 +40,14 @@ fn write_left(mapped: &[u8], n: u32, drivers: &mut [u16], source: &mut [u8])
     requires { LeftReady (netlist mapped.now) n drivers.old source.old }
     ensures { source.new ≡ onto (stripped_bytes mapped.now) source.old }
 {
-    let mut k: u32 = 0;
-    while k < n {
+    for k in 0..n {
         let r = record_reader::read_at(mapped, k as usize);
         let traced = trace_used(mapped, n, drivers, r);
         record_writer::write_record(source, k as usize, traced);
-        k += 1;
     }
 }
 
-// The same, with drivers of which none is known; nothing is written where some record cannot be traced from.
+// The same, with an array of drivers of which none is known; nothing is written where some record cannot be traced from.
 fn trace_with(mapped: &[u8], n: u32, m: u32, drivers: &mut [u16], source: &mut [u8]) -> bool
     requires sizes_fit { SizesFit (netlist mapped.now) n m }
     requires known { Known (netlist mapped.now) drivers.old }
@@ -76,6 +62,18 @@ fn trace_with(mapped: &[u8], n: u32, m: u32, drivers: &mut [u16], source: &mut [
     false
 }
 
+// The same, with an array for N records.
+fn trace_in<const N: usize>(mapped: &[u8], n: u32, m: u32, source: &mut [u8]) -> bool
+    requires sizes_fit { SizesFit (netlist mapped.now) n m }
+    requires n_in_bounds { width * n ≤ length source.old }
+    requires m_le_n { m ≤ N }
+    requires n_fits { N ≤ mapped_limit }
+    ensures { LeftWritten mapped.now result source.old source.new }
+{
+    let mut drivers = [UNKNOWN; N];
+    trace_with(mapped, n, m, &mut drivers, source)
+}
+
 // The same. A netlist of few records takes a short array, which is sooner filled.
 pub(crate) fn trace_source(mapped: &[u8], n: u32, m: u32, source: &mut [u8]) -> bool
     requires sizes_fit { SizesFit (netlist mapped.now) n m }
@@ -83,13 +81,10 @@ pub(crate) fn trace_source(mapped: &[u8], n: u32, m: u32, source: &mut [u8]) -> 
     ensures { LeftWritten mapped.now result source.old source.new }
 {
     if m as usize <= SHORT {
-        let mut drivers = [UNKNOWN; SHORT];
-        return trace_with(mapped, n, m, &mut drivers, source);
+        return trace_in::<SHORT>(mapped, n, m, source);
     }
     if m as usize <= MIDDLE {
-        let mut drivers = [UNKNOWN; MIDDLE];
-        return trace_with(mapped, n, m, &mut drivers, source);
+        return trace_in::<MIDDLE>(mapped, n, m, source);
     }
-    let mut drivers = [UNKNOWN; RECORDS];
-    trace_with(mapped, n, m, &mut drivers, source)
+    trace_in::<RECORDS>(mapped, n, m, source)
 }

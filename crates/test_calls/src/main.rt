@@ -2,489 +2,290 @@
 // and how many differ; then what the reader answers at the sizes around a source's limit.
 #![tactic(auto)]
 
-ghost use Rattle.std.specs.Prelude.{◌≤◌, length};
-
-use facts::Checked;
-use std::io::Read;
+use cases::Fields;
+use facts::Refusal;
+use std::io;
 use std::rt::Files;
-use std::{fs, io};
-
-// Families of cases.
-const READER: u8 = 0;
-
-const RECORD_VIEW: u8 = 1;
-
-const COUNT: u8 = 2;
-
-const VERIFIER: u8 = 3;
-
-const EVALUATE: u8 = 4;
-
-const STEP: u8 = 5;
-
-const RUN: u8 = 6;
-
-const MAPPER: u8 = 7;
-
-const BLOCK_VIEW: u8 = 8;
-
-const COUNT_NETS: u8 = 9;
-
-const LEVELS: u8 = 10;
-
-const STRIP: u8 = 11;
 
 // An answer of two numbers, in bytes.
 const PAIR: usize = 8;
 
+// The most bytes of a case's area.
+const AREA: usize = 20000;
+
 // What the mapper's area holds before the call.
 const FILL: u8 = 165;
 
+// The most bytes of a file of cases, and of the file of inputs.
+const FILE_LIMIT: usize = 300000;
+
+const INPUTS_LIMIT: usize = 200000;
+
 // Whether a stored answer of two numbers is this one.
 fn is_pair(answer: &[u8], number: u32, place: u32) -> bool {
-    if answer.len() != PAIR {
-        return false;
-    }
-    if cases::number(answer, 0) != number {
-        return false;
-    }
-    cases::number(answer, 4) == place
+    answer.len() == PAIR && cases::numbers(answer) == [number, place]
 }
 
 // Whether a stored answer is that of these checks.
-fn is_checked(answer: &[u8], checked: Checked) -> bool {
+fn is_checked(answer: &[u8], checked: Result<(), Refusal>) -> bool {
     match checked {
-        Checked::Passed => is_pair(answer, 0, 0),
-        Checked::Refused(number, place) => is_pair(answer, number, place),
+        Ok(()) => is_pair(answer, 0, 0),
+        Err(refusal) => is_pair(answer, refusal.check.number(), refusal.place),
     }
 }
 
+// Each function below reads one case of a family and tells whether the call agrees with it; None where the file ends before the case
+// does.
+
 // A case of the reader: source; answer.
-fn reader_agrees(file: &[u8], at: usize) -> bool {
-    let answer = cases::skip(file, at);
-    let checked = netlist::check_source(cases::field(file, at));
-    is_checked(cases::field(file, answer), checked)
+fn reader_agrees(case: &mut Fields<'_>) -> Option<bool> {
+    let source = case.next()?;
+    let answer = case.next()?;
+    Some(is_checked(answer, netlist::check_source(source)))
 }
 
 // A case of the record view: source, mapped, index; part.
-fn record_view_agrees(file: &[u8], at: usize) -> bool {
-    let mapped = cases::skip(file, at);
-    let index = cases::skip(file, mapped);
-    let part = cases::skip(file, index);
-    let k = cases::number(cases::field(file, index), 0) as usize;
-    let view = netlist::record_view(cases::field(file, at), cases::field(file, mapped), k);
-    view == cases::field(file, part)
-}
-
-// Whether an answer of two, three or seven numbers is the stored one.
-fn is_two(got: [u8; 8], stored: &[u8]) -> bool {
-    got.as_slice() == stored
-}
-
-fn is_three(got: [u8; 12], stored: &[u8]) -> bool {
-    got.as_slice() == stored
-}
-
-fn is_seven(got: [u8; 28], stored: &[u8]) -> bool {
-    got.as_slice() == stored
+fn record_view_agrees(case: &mut Fields<'_>) -> Option<bool> {
+    let source = case.next()?;
+    let mapped = case.next()?;
+    let [index] = cases::numbers::<1>(case.next()?);
+    let part = case.next()?;
+    Some(netlist::record_view(source, mapped, index as usize) == part)
 }
 
 // A case of the count: source, numbers (capacity, input capacity, record); answer.
-fn count_agrees(file: &[u8], at: usize) -> bool {
-    let numbers = cases::skip(file, at);
-    let answer = cases::skip(file, numbers);
+fn count_agrees(case: &mut Fields<'_>) -> Option<bool> {
+    let source = case.next()?;
+    let [capacity, input_capacity, record] = cases::numbers::<3>(case.next()?);
+    let answer = case.next()?;
     let mut got = [0u8; 12];
-    let asked = cases::field(file, numbers);
-    aqfp::aqfp_count(
-        cases::field(file, at),
-        cases::number(asked, 0),
-        cases::number(asked, 4),
-        cases::number(asked, 8),
-        &mut got,
-    );
-    is_three(got, cases::field(file, answer))
+    aqfp::aqfp_count(source, capacity, input_capacity, record, &mut got);
+    Some(got.as_slice() == answer)
 }
 
 // A case of the verifier: source, numbers (capacity, input capacity), mapped; answer.
-fn verifier_agrees(file: &[u8], at: usize) -> bool {
-    let numbers = cases::skip(file, at);
-    let mapped = cases::skip(file, numbers);
-    let answer = cases::skip(file, mapped);
+fn verifier_agrees(case: &mut Fields<'_>) -> Option<bool> {
+    let source = case.next()?;
+    let [capacity, input_capacity] = cases::numbers::<2>(case.next()?);
+    let mapped = case.next()?;
+    let answer = case.next()?;
     let mut got = [0u8; 12];
-    let asked = cases::field(file, numbers);
-    aqfp::aqfp_verify(
-        cases::field(file, at),
-        cases::number(asked, 0),
-        cases::number(asked, 4),
-        cases::field(file, mapped),
-        &mut got,
-    );
-    is_three(got, cases::field(file, answer))
+    aqfp::aqfp_verify(source, capacity, input_capacity, mapped, &mut got);
+    Some(got.as_slice() == answer)
 }
 
 // A case of the evaluator: source, row, values before; answer, values after.
-fn evaluate_agrees(file: &[u8], at: usize, area: &mut [u8]) -> bool {
-    let row = cases::skip(file, at);
-    let before = cases::skip(file, row);
-    let answer = cases::skip(file, before);
-    let after = cases::skip(file, answer);
+fn evaluate_agrees(case: &mut Fields<'_>) -> Option<bool> {
+    let source = case.next()?;
+    let row = case.next()?;
+    let before = case.next()?;
+    let answer = case.next()?;
+    let after = case.next()?;
+    let mut area = [0u8; AREA];
+    let values = cases::filled(&mut area, before);
     let mut got = [0u8; 8];
-    let n = cases::copy(cases::field(file, before), area);
-    aqfp::aqfp_evaluate(
-        cases::field(file, at),
-        cases::field(file, row),
-        &mut area[0..n],
-        &mut got,
-    );
-    if is_two(got, cases::field(file, answer)) {
-        &area[0..n] == cases::field(file, after)
-    } else {
-        false
-    }
+    aqfp::aqfp_evaluate(source, row, values, &mut got);
+    Some(got.as_slice() == answer && &*values == after)
 }
 
 // A case of the list of counts: source, numbers (capacity, input capacity), records, counts before; answer, counts after.
-fn count_nets_agrees(file: &[u8], at: usize, area: &mut [u8]) -> bool {
-    let numbers = cases::skip(file, at);
-    let records = cases::skip(file, numbers);
-    let before = cases::skip(file, records);
-    let answer = cases::skip(file, before);
-    let after = cases::skip(file, answer);
+fn count_nets_agrees(case: &mut Fields<'_>) -> Option<bool> {
+    let source = case.next()?;
+    let [capacity, input_capacity] = cases::numbers::<2>(case.next()?);
+    let records = case.next()?;
+    let before = case.next()?;
+    let answer = case.next()?;
+    let after = case.next()?;
+    let mut area = [0u8; AREA];
+    let counts = cases::filled(&mut area, before);
     let mut got = [0u8; 8];
-    let n = cases::copy(cases::field(file, before), area);
-    let asked = cases::field(file, numbers);
-    aqfp::aqfp_count_nets(
-        cases::field(file, at),
-        cases::number(asked, 0),
-        cases::number(asked, 4),
-        cases::field(file, records),
-        &mut area[0..n],
-        &mut got,
-    );
-    if is_two(got, cases::field(file, answer)) {
-        &area[0..n] == cases::field(file, after)
-    } else {
-        false
-    }
+    aqfp::aqfp_count_nets(source, capacity, input_capacity, records, counts, &mut got);
+    Some(got.as_slice() == answer && &*counts == after)
 }
 
 // A case of the least levels: source, numbers (capacity), area before; answer, area after.
-fn levels_agrees(file: &[u8], at: usize, area: &mut [u8]) -> bool {
-    let numbers = cases::skip(file, at);
-    let before = cases::skip(file, numbers);
-    let answer = cases::skip(file, before);
-    let after = cases::skip(file, answer);
+fn levels_agrees(case: &mut Fields<'_>) -> Option<bool> {
+    let source = case.next()?;
+    let [capacity] = cases::numbers::<1>(case.next()?);
+    let before = case.next()?;
+    let answer = case.next()?;
+    let after = case.next()?;
+    let mut area = [0u8; AREA];
+    let levelled = cases::filled(&mut area, before);
     let mut got = [0u8; 8];
-    let n = cases::copy(cases::field(file, before), area);
-    let capacity = cases::number(cases::field(file, numbers), 0);
-    aqfp::aqfp_levels(cases::field(file, at), capacity, &mut area[0..n], &mut got);
-    if is_two(got, cases::field(file, answer)) {
-        &area[0..n] == cases::field(file, after)
-    } else {
-        false
-    }
+    aqfp::aqfp_levels(source, capacity, levelled, &mut got);
+    Some(got.as_slice() == answer && &*levelled == after)
 }
 
 // A case of stripping: numbers (capacity, input capacity), mapped, area before; answer, area after.
-fn strip_agrees(file: &[u8], at: usize, area: &mut [u8]) -> bool {
-    let mapped = cases::skip(file, at);
-    let before = cases::skip(file, mapped);
-    let answer = cases::skip(file, before);
-    let after = cases::skip(file, answer);
+fn strip_agrees(case: &mut Fields<'_>) -> Option<bool> {
+    let [capacity, input_capacity] = cases::numbers::<2>(case.next()?);
+    let mapped = case.next()?;
+    let before = case.next()?;
+    let answer = case.next()?;
+    let after = case.next()?;
+    let mut area = [0u8; AREA];
+    let source = cases::filled(&mut area, before);
     let mut got = [0u8; 12];
-    let n = cases::copy(cases::field(file, before), area);
-    let asked = cases::field(file, at);
-    aqfp::aqfp_strip(
-        cases::number(asked, 0),
-        cases::number(asked, 4),
-        cases::field(file, mapped),
-        &mut area[0..n],
-        &mut got,
-    );
-    if is_three(got, cases::field(file, answer)) {
-        &area[0..n] == cases::field(file, after)
-    } else {
-        false
-    }
-}
-
-// A case of one step in its area: `numbers` is where the capacities stand in the file, `answer` where the answer does.
-fn step_leaves(file: &[u8], at: usize, numbers: usize, answer: usize, state: &mut [u8]) -> bool {
-    let asked = cases::field(file, numbers);
-    let mapped = cases::skip(file, numbers);
-    let row = cases::skip(file, mapped);
-    let mut got = [0u8; 8];
-    aqfp::aqfp_step(
-        cases::field(file, at),
-        cases::number(asked, 0),
-        cases::number(asked, 4),
-        cases::field(file, mapped),
-        cases::field(file, row),
-        state,
-        &mut got,
-    );
-    if is_two(got, cases::field(file, answer)) {
-        let after = cases::skip(file, answer);
-        &*state == cases::field(file, after)
-    } else {
-        false
-    }
+    aqfp::aqfp_strip(capacity, input_capacity, mapped, source, &mut got);
+    Some(got.as_slice() == answer && &*source == after)
 }
 
 // A case of one step: source, numbers (capacity, input capacity), mapped, row, state before; answer, state after.
-fn step_agrees(file: &[u8], at: usize, area: &mut [u8]) -> bool {
-    let numbers = cases::skip(file, at);
-    let before = cases::skip_all(file, numbers, 3);
-    let answer = cases::skip(file, before);
-    let n = cases::copy(cases::field(file, before), area);
-    step_leaves(file, at, numbers, answer, &mut area[0..n])
+fn step_agrees(case: &mut Fields<'_>) -> Option<bool> {
+    let source = case.next()?;
+    let [capacity, input_capacity] = cases::numbers::<2>(case.next()?);
+    let mapped = case.next()?;
+    let row = case.next()?;
+    let before = case.next()?;
+    let answer = case.next()?;
+    let after = case.next()?;
+    let mut area = [0u8; AREA];
+    let state = cases::filled(&mut area, before);
+    let mut got = [0u8; 8];
+    aqfp::aqfp_step(
+        source,
+        capacity,
+        input_capacity,
+        mapped,
+        row,
+        state,
+        &mut got,
+    );
+    Some(got.as_slice() == answer && &*state == after)
 }
 
-// A case of the run in its areas: `numbers` is where capacities and row count stand in the file, `answer` where the answer does.
-fn run_answers(
-    file: &[u8],
-    at: usize,
-    numbers: usize,
-    answer: usize,
-    state: &mut [u8],
-    outputs: &mut [u8],
-) -> bool {
-    let asked = cases::field(file, numbers);
-    let mapped = cases::skip(file, numbers);
-    let rows = cases::skip(file, mapped);
+// A case of the run: source, numbers (capacity, input capacity, row count), mapped, rows, state and outputs before; answer, state and outputs after.
+fn run_agrees(case: &mut Fields<'_>) -> Option<bool> {
+    let source = case.next()?;
+    let [capacity, input_capacity, row_count] = cases::numbers::<3>(case.next()?);
+    let mapped = case.next()?;
+    let rows = case.next()?;
+    let state_before = case.next()?;
+    let outputs_before = case.next()?;
+    let answer = case.next()?;
+    let state_after = case.next()?;
+    let outputs_after = case.next()?;
+    let mut state_area = [0u8; AREA];
+    let mut outputs_area = [0u8; AREA];
+    let state = cases::filled(&mut state_area, state_before);
+    let outputs = cases::filled(&mut outputs_area, outputs_before);
     let mut got = [0u8; 8];
     aqfp::aqfp_run(
-        cases::field(file, at),
-        cases::number(asked, 0),
-        cases::number(asked, 4),
-        cases::field(file, mapped),
-        cases::number(asked, 8),
-        cases::field(file, rows),
+        source,
+        capacity,
+        input_capacity,
+        mapped,
+        row_count,
+        rows,
         state,
         outputs,
         &mut got,
     );
-    is_two(got, cases::field(file, answer))
-}
-
-// The same, comparing the areas too.
-fn run_leaves(
-    file: &[u8],
-    at: usize,
-    numbers: usize,
-    answer: usize,
-    state: &mut [u8],
-    outputs: &mut [u8],
-) -> bool {
-    if !run_answers(file, at, numbers, answer, state, outputs) {
-        return false;
-    }
-    let after = cases::skip(file, answer);
-    if &*state != cases::field(file, after) {
-        return false;
-    }
-    &*outputs == cases::field(file, cases::skip(file, after))
-}
-
-// A case of the run: source, numbers (capacity, input capacity, row count), mapped, rows, state and outputs before; answer, state and outputs after.
-fn run_agrees(file: &[u8], at: usize, state: &mut [u8], outputs: &mut [u8]) -> bool {
-    let numbers = cases::skip(file, at);
-    let before = cases::skip_all(file, numbers, 3);
-    let outputs_before = cases::skip(file, before);
-    let answer = cases::skip(file, outputs_before);
-    let n = cases::copy(cases::field(file, before), state);
-    let k = cases::copy(cases::field(file, outputs_before), outputs);
-    run_leaves(
-        file,
-        at,
-        numbers,
-        answer,
-        &mut state[0..n],
-        &mut outputs[0..k],
-    )
+    Some(got.as_slice() == answer && &*state == state_after && &*outputs == outputs_after)
 }
 
 // A case of the block view: source, numbers (capacity, input capacity, record), mapped; part.
-fn block_view_agrees(file: &[u8], at: usize) -> bool {
-    let numbers = cases::skip(file, at);
-    let mapped = cases::skip(file, numbers);
-    let part = cases::skip(file, mapped);
-    let asked = cases::field(file, numbers);
-    let driver = cases::number(asked, 8) as usize;
-    let block = mapper::block_of(
-        cases::field(file, at),
-        netlist::Capacities {
-            buffer: cases::number(asked, 0),
-            input: cases::number(asked, 4),
-        },
-        cases::field(file, mapped),
-        driver,
-    );
-    block == cases::field(file, part)
+fn block_view_agrees(case: &mut Fields<'_>) -> Option<bool> {
+    let source = case.next()?;
+    let [buffer, input, record] = cases::numbers::<3>(case.next()?);
+    let mapped = case.next()?;
+    let part = case.next()?;
+    let capacities = netlist::Capacities { buffer, input };
+    Some(mapper::block_of(source, capacities, mapped, record as usize) == part)
 }
 
 // A case of the mapper: source, numbers (capacity, input capacity, length of the area), prices; answer, area after.
-fn mapper_agrees(file: &[u8], at: usize, area: &mut [u8]) -> bool {
-    let numbers = cases::skip(file, at);
-    let prices = cases::skip(file, numbers);
-    let answer = cases::skip(file, prices);
-    let after = cases::skip(file, answer);
-    let asked = cases::field(file, numbers);
-    let n = cases::number(asked, 8) as usize;
+fn mapper_agrees(case: &mut Fields<'_>) -> Option<bool> {
+    let source = case.next()?;
+    let [capacity, input_capacity, length] = cases::numbers::<3>(case.next()?);
+    let prices = case.next()?;
+    let answer = case.next()?;
+    let after = case.next()?;
+    let mut area = [FILL; AREA];
+    let mapped = area.get_mut(..length as usize)?;
     let mut got = [0u8; 28];
-    if area.len() < n {
-        return false;
-    }
-    aqfp::aqfp_map(
-        cases::field(file, at),
-        cases::number(asked, 0),
-        cases::number(asked, 4),
-        cases::field(file, prices),
-        &mut area[0..n],
-        &mut got,
-    );
-    if is_seven(got, cases::field(file, answer)) {
-        &area[0..n] == cases::field(file, after)
-    } else {
-        false
-    }
+    aqfp::aqfp_map(source, capacity, input_capacity, prices, mapped, &mut got);
+    Some(got.as_slice() == answer && &*mapped == after)
 }
 
-// Whether the case at a place agrees with its family's call.
-fn agrees(family: u8, file: &[u8], at: usize) -> bool {
-    let mut area = [0u8; 20000];
-    let mut outputs = [0u8; 20000];
-    match family {
-        READER => reader_agrees(file, at),
-        RECORD_VIEW => record_view_agrees(file, at),
-        COUNT => count_agrees(file, at),
-        VERIFIER => verifier_agrees(file, at),
-        EVALUATE => evaluate_agrees(file, at, &mut area),
-        COUNT_NETS => count_nets_agrees(file, at, &mut area),
-        LEVELS => levels_agrees(file, at, &mut area),
-        STRIP => strip_agrees(file, at, &mut area),
-        STEP => step_agrees(file, at, &mut area),
-        RUN => run_agrees(file, at, &mut area, &mut outputs),
-        BLOCK_VIEW => block_view_agrees(file, at),
-        MAPPER => {
-            let mut filled = [FILL; 20000];
-            mapper_agrees(file, at, &mut filled)
-        }
-        _ => false,
-    }
-}
-
-// Whether the case at a place stands whole in the file and agrees.
-fn holds(family: u8, fields: usize, file: &[u8], at: usize) -> bool {
-    if !cases::stand_all(file, at, fields) {
-        return false;
-    }
-    agrees(family, file, at)
-}
-
-// One more difference where a case does not agree.
-fn counted(differ: u32, agreed: bool) -> u32 {
-    if agreed {
-        return differ;
-    }
-    if differ < 4294967295 {
-        differ + 1
-    } else {
-        differ
-    }
-}
-
-// How many cases of a file differ, and one more where the file does not end with its last case.
-fn differing(family: u8, fields: usize, file: &[u8]) -> u32 {
-    let n = cases::number(file, 0);
-    let mut at: usize = 4;
-    let mut k: u32 = 0;
-    let mut differ: u32 = 0;
-    while k < n {
-        differ = counted(differ, holds(family, fields, file, at));
-        at = cases::skip_all(file, at, fields);
-        k += 1;
-    }
-    counted(differ, at == file.len())
-}
-
-// Reads until the area is full, or the file ends or cannot be read. Answers how many bytes were read.
-fn read_full(file: &mut impl Read, bytes: &mut [u8]) -> usize
-    ensures { result ≤ length bytes.new }
+// How many of so many cases differ, and one more where the file does not end with its last case.
+fn differing<F: Fn(&mut Fields<'_>) -> Option<bool>>(
+    count: u32,
+    mut fields: Fields<'_>,
+    agrees: F,
+) -> u32
+    requires { F.IsAlwaysCallable agrees }
 {
-    let mut done: usize = 0;
-    while done < bytes.len() {
-        match file.read(&mut bytes[done..]) {
-            Ok(n) if n > 0 => done += n,
-            _ => break,
+    let mut differ = 0u32;
+    for _ in 0..count {
+        if agrees(&mut fields) != Some(true) {
+            differ = differ.saturating_add(1);
         }
     }
-    done
-}
-
-// How many bytes of a file were read.
-fn read_file(rt: &impl Files, name: &str, bytes: &mut [u8]) -> usize
-    ensures { result ≤ length bytes.new }
-{
-    match fs::open(rt, name) {
-        Ok(mut file) => read_full(&mut file, bytes),
-        Err(_) => 0,
+    if !fields.is_done() {
+        differ = differ.saturating_add(1);
     }
+    differ
 }
 
 // Reads the file of a family and prints how many cases it has and how many differ.
-fn test_family(rt: &(impl Files + Print), name: &str, family: u8, fields: usize) -> io::Result<()> {
-    let mut bytes = [0u8; 300000];
-    let n = read_file(rt, name, &mut bytes);
-    let file = &bytes[0..n];
-    println!(rt;
-        "{name}: {} cases, {} differ",
-        cases::number(file, 0),
-        differing(family, fields, file)
-    )
+fn test_family<R: Files + Print, F: Fn(&mut Fields<'_>) -> Option<bool>>(
+    rt: &R,
+    name: &str,
+    agrees: F,
+) -> io::Result<()>
+    requires { F.IsAlwaysCallable agrees }
+{
+    let mut file = [0u8; FILE_LIMIT];
+    let file = reading::read_file(rt, name, &mut file);
+    let [count] = cases::numbers::<1>(file);
+    let differ = match Fields::of_file(file) {
+        Some(fields) => differing(count, fields, agrees),
+        None => 1,
+    };
+    println!(rt; "{name}: {count} cases, {differ} differ")
 }
 
 // Prints what the reader answers to so many bytes.
-fn test_size(rt: &impl Print, bytes: &[u8], size: u32) -> io::Result<()> {
-    let n = size as usize;
-    if n <= bytes.len() {
+fn test_size(rt: &impl Print, bytes: &[u8], size: usize) -> io::Result<()> {
+    if let Some(source) = bytes.get(..size) {
         print!(rt; "{size} bytes of inputs: ")?;
-        print_checked(rt, netlist::check_source(&bytes[0..n]))?;
+        print_checked(rt, netlist::check_source(source))?;
     }
     Ok(())
 }
 
-fn print_checked(rt: &impl Print, checked: Checked) -> io::Result<()> {
+fn print_checked(rt: &impl Print, checked: Result<(), Refusal>) -> io::Result<()> {
     match checked {
-        Checked::Passed => println!(rt; "0 0"),
-        Checked::Refused(number, place) => println!(rt; "{number} {place}"),
+        Ok(()) => println!(rt; "0 0"),
+        Err(refusal) => println!(rt; "{refusal}"),
     }
 }
 
 // The sizes around a source's limit, on a file of inputs.
 fn test_sizes(rt: &(impl Files + Print)) -> io::Result<()> {
-    let mut bytes = [0u8; 200000];
-    let n = read_file(rt, "inputs", &mut bytes);
-    let inputs = &bytes[0..n];
-    println!(rt; "inputs: {n} bytes")?;
-    test_size(rt, inputs, 0)?;
-    test_size(rt, inputs, 40960)?;
-    test_size(rt, inputs, 40970)?;
-    test_size(rt, inputs, 40971)
+    let mut inputs = [0u8; INPUTS_LIMIT];
+    let inputs = reading::read_file(rt, "inputs", &mut inputs);
+    println!(rt; "inputs: {} bytes", inputs.len())?;
+    for size in [0, 40960, 40970, 40971] {
+        test_size(rt, inputs, size)?;
+    }
+    Ok(())
 }
 
 fn main(rt: HostRuntime) -> io::Result<()> {
-    test_family(&rt, "reader", READER, 2)?;
-    test_family(&rt, "record_view", RECORD_VIEW, 4)?;
-    test_family(&rt, "count", COUNT, 3)?;
-    test_family(&rt, "count_nets", COUNT_NETS, 6)?;
-    test_family(&rt, "levels", LEVELS, 5)?;
-    test_family(&rt, "strip", STRIP, 5)?;
-    test_family(&rt, "verifier", VERIFIER, 4)?;
-    test_family(&rt, "evaluate", EVALUATE, 5)?;
-    test_family(&rt, "step", STEP, 7)?;
-    test_family(&rt, "run", RUN, 9)?;
-    test_family(&rt, "mapper", MAPPER, 5)?;
-    test_family(&rt, "block_view", BLOCK_VIEW, 4)?;
+    test_family(&rt, "reader", reader_agrees)?;
+    test_family(&rt, "record_view", record_view_agrees)?;
+    test_family(&rt, "count", count_agrees)?;
+    test_family(&rt, "count_nets", count_nets_agrees)?;
+    test_family(&rt, "levels", levels_agrees)?;
+    test_family(&rt, "strip", strip_agrees)?;
+    test_family(&rt, "verifier", verifier_agrees)?;
+    test_family(&rt, "evaluate", evaluate_agrees)?;
+    test_family(&rt, "step", step_agrees)?;
+    test_family(&rt, "run", run_agrees)?;
+    test_family(&rt, "mapper", mapper_agrees)?;
+    test_family(&rt, "block_view", block_view_agrees)?;
     test_sizes(&rt)
 }

@@ -9,8 +9,8 @@ use borrow.Author.Tests.{eqb-true, eq-eqb}
 use native.Mathlib.Omega.{arith}
 use native.Mathlib.Nat.{add-sub_of_le}
 use Rattle.facts.specs.Sums.{count}
-use Rattle.facts.specs.declared.Checked.TheVariants.{Passed, Refused as Failed}
-use Rattle.facts.specs.declared.Checked.{Checked}
+use Rattle.facts.specs.Answers.{Passed, Refused as Failed}
+use Rattle.facts.specs.Answers.{Checked}
 use Rattle.facts.specs.Checks.{outcome}
 use Rattle.facts.proofs.Reflect.{reflect}
 use Rattle.facts.proofs.Sums.{count_append, count_none, count_all}
@@ -24,7 +24,7 @@ use Rattle.netlist.proofs.Source.{source_passed, no_buffer_lem}
 use Rattle.verifier.specs.Legal.{Legal, Traces}
 use Rattle.verifier.specs.Checks.{legal_checks, mapped_checks, verify_checks, verify_answer}
 use Rattle.verifier.specs.Accepted.{Accepted, AcceptedExactly}
-use Rattle.verifier.specs.declared.Verified.TheVariants.{Buffers, Refused}
+use Rattle.verifier.specs.Checks.{Buffers, Refused}
 use Rattle.verifier.proofs.Trace.{driver_traces, traces_driver}
 
 module _ (n : Netlist) (caps : Capacities) (m : Netlist) where
@@ -130,10 +130,10 @@ accepted_exactly source caps mapped buffers = (
 )
 
 -- what the code has of an accepted call
-module _ (source : List ℕ) (caps : Capacities) (mapped : List ℕ) (a : Checked) (e : a ≡ verify_checks source caps mapped) where
-  module _ (p : a ≡ Passed) (m n : ℕ) (g : m ≡ record_count mapped) (h : n ≡ record_count source) where
+module _ (source : List ℕ) (caps : Capacities) (mapped : List ℕ) where
+  module _ (e : Passed ≡ verify_checks source caps mapped) (m n : ℕ) (g : m ≡ record_count mapped) (h : n ≡ record_count source) where
     accepted : Accepted source caps mapped
-    accepted = (checks_passed source caps mapped).0 (sym e ∙ p)
+    accepted = (checks_passed source caps mapped).0 (sym e)
 
     pub source_first : n ≤ m
     source_first = omega (arith, accepted.legal.whole)
@@ -143,7 +143,7 @@ module _ (source : List ℕ) (caps : Capacities) (mapped : List ℕ) (a : Checke
 
     pub verify_passed : Buffers (m - n) ≡ verify_answer source caps mapped
     verify_passed =
-        rw (← e, p, buffers_all (netlist source) caps (netlist mapped) accepted.is_source.is_source accepted.legal, g, h)
+        rw (← e, buffers_all (netlist source) caps (netlist mapped) accepted.is_source.is_source accepted.legal, g, h)
 
-  pub verify_refused : (number place : ℕ) → a ≡ Failed number place → Refused number place ≡ verify_answer source caps mapped
-  verify_refused number place p = rw (← e, p)
+  pub answer_refused : (number place : ℕ) → Failed number place ≡ verify_checks source caps mapped → Refused number place ≡ verify_answer source caps mapped
+  answer_refused number place e = rw (← e)

@@ -1,30 +1,27 @@
 -- Laws of checks 11 to 17, with premises as the code has them: what each test gives of the check's answer.
-use Prim.Native.Nat.{ℕ, zero, suc, ◌+◌, ◌%◌, ◌^◌, ◌<◌, ◌≤◌}
+use Prim.Native.Nat.{ℕ, zero, suc, ◌<◌, ◌≤◌}
 use native.Mathlib.Omega.{arith}
-use native.Mathlib.Numerals.{add-one}
 use mathlib.Core.Path.{◌≡◌, refl, sym, ap, ◌∙◌}
 use mathlib.Core.Bool.{Bool, true, false, not, ◌&&◌}
 use mathlib.Core.List.{List}
-use mathlib.Core.Logic.{◌≢◌}
-use lib.ListN.{length}
-use lib.Dec.{ltb, leb, eqb}
-use borrow.Author.Tests.{lt-ltb, le-ltb, le-leb, lt-leb, eq-eqb, ne_eqb, not-true}
-use Rattle.facts.specs.declared.Checked.{Checked}
-use Rattle.facts.specs.declared.Checked.TheVariants.{Passed, Refused}
+use lib.Dec.{leb, eqb}
+use borrow.Author.Tests.{lt-ltb, le-ltb, le-leb, lt-leb, eq-eqb, not-true}
+use Rattle.facts.specs.Answers.{Checked, Passed, Refused}
 use Rattle.facts.specs.Checks.{check, scan}
+use Rattle.std.specs.List.{list_any, range_with_len}
 use Rattle.facts.specs.Sums.{any}
 use Rattle.facts.proofs.Bools.{true_false}
 use Rattle.facts.proofs.Reflect.{reflect, unlike_none}
 use Rattle.facts.proofs.Sums.{any_none, any_cong}
-use Rattle.facts.proofs.Loops.{NoneYet, any_more, any_found, any_end}
+use Rattle.facts.proofs.Loops.{NoneYet, any_found, any_end}
 use Rattle.netlist.specs.declared.Capacities.{Capacities}
 use Rattle.netlist.specs.declared.Record.{Record}
-use Rattle.netlist.specs.Kinds.{width, slots, unused, mapped_limit, output, arity}
-use Rattle.netlist.specs.Capacities.{Allowed}
+use Rattle.netlist.specs.Kinds.{slots, unused, mapped_limit, arity}
 use Rattle.netlist.specs.Records.{Netlist, netlist, record_count, record_at, blank, slot}
 use Rattle.netlist.specs.Source.{IsSource}
 use Rattle.netlist.specs.Checks.{input_checks}
 use Rattle.netlist.proofs.Source.{input_passed, no_buffer_lem}
+use Rattle.facts.proofs.Chains.{any_ranged}
 use Rattle.verifier.specs.Checks.{bad_empty, differs, bad_name, not_one_lower, slot_checks, place_checks, trace_check, feed_check, bad_length, legal_checks, mapped_checks, verify_checks}
 use Rattle.verifier.specs.PrivateWalking.{Sized, Driven, PlacesPassed}
 use Rattle.verifier.specs.PrivateFeeding.{bad_fanin, buffer_checks}
@@ -37,19 +34,13 @@ blank_slot (suc (suc zero)) = refl
 blank_slot (suc (suc (suc j))) = refl
 
 -- a slot is wrong that the kind does not use and that names something
-module _ (kind : ℕ) (r : Record) (j n : ℕ) (e : n ≡ arity kind) (i : NoneYet (bad_empty kind blank r) slots j) (l : j < slots) where
-  pub empty_used : j < n → NoneYet (bad_empty kind blank r) slots (j + 1)
-  empty_used h = any_more (bad_empty kind blank r) slots j false i l (rw (lt-leb (arity kind) j (rw e at h))) refl
-
-  module _ (h : n ≤ j) (x : ℕ) (p : x ≡ slot r j) where
-    here : not (eqb x unused) ≡ bad_empty kind blank r j
-    here = rw (le-leb (arity kind) j (rw e at h), blank_slot j, p)
-
-    pub empty_found : x ≢ unused → true ≡ any (bad_empty kind blank r) slots
-    empty_found g = any_found (bad_empty kind blank r) slots j (not (eqb x unused)) l here (rw (ne_eqb x unused g))
-
-    pub empty_kept : x ≡ unused → NoneYet (bad_empty kind blank r) slots (j + 1)
-    empty_kept g = any_more (bad_empty kind blank r) slots j (not (eqb x unused)) i l here (rw (eq-eqb x unused g))
+pub empty_ranged :
+    (kind used : ℕ) (r : Record) (b : Bool) → used ≡ arity kind →
+    b ≡ list_any (λ j. leb used j && not (eqb (slot r j) unused)) (range_with_len 0 slots) → b ≡ any (bad_empty kind blank r) slots
+empty_ranged kind used r b e h =
+    h
+    ∙ any_ranged (λ j. leb used j && not (eqb (slot r j) unused)) slots
+    ∙ any_cong (λ j. leb used j && not (eqb (slot r j) unused)) (bad_empty kind blank r) slots (λ j l. rw (e, blank_slot j))
 
 -- where a's unused slots name nothing, those of r are held to a's as to a blank record's
 empty_as : (a r : Record) → any (bad_empty a.kind blank a) slots ≡ false → any (bad_empty a.kind blank r) slots ≡ any (bad_empty a.kind a r) slots
@@ -67,20 +58,6 @@ slots_differ a r b kind inversion level g e =
     e
     ∙ empty_as a r g
     ∙ rw (eq-eqb r.kind a.kind kind, eq-eqb r.inversion a.inversion inversion, eq-eqb r.level a.level level)
-
-module _ (m : Netlist) (r : Record) (j x : ℕ) (e : x ≡ slot r j) where
-  pub name_past : (n : ℕ) → n ≡ m.size → n ≤ x → true ≡ bad_name m r j
-  name_past n p l = let h : m.size ≤ slot r j = omega arith in rw (le-leb m.size (slot r j) h)
-
-  pub name_kind : (n y : ℕ) → n ≡ m.size → x < n → y ≡ (m.at x).kind → eqb y output ≡ bad_name m r j
-  name_kind n y p l q = let h : slot r j < m.size = omega arith in rw (lt-leb m.size (slot r j) h, q, e)
-
-module _ (m : Netlist) (r : Record) (j : ℕ) (b : Bool) (e : b ≡ bad_name m r j) where
-  pub fanin_named : b ≡ true → true ≡ bad_fanin m r j
-  fanin_named t = rw (← e, t)
-
-  pub fanin_lower : (x y : ℕ) → b ≡ false → x ≡ slot r j → y ≡ (m.at x).level → not (eqb r.level (y + 1)) ≡ bad_fanin m r j
-  fanin_lower x y t p q = rw (← e, t, q, p, add-one (m.at (slot r j)).level)
 
 -- 14 and 15 pass where no used slot is bad
 module _ (m : Netlist) (k : ℕ) (r : Record) where
@@ -104,13 +81,6 @@ module _ (m : Netlist) (k : ℕ) (r : Record) where
         go true u = refl
         go false u =
             absurd (true_false (any (bad_fanin m r) (arity r.kind)) some (slots_passed (rw (← p, ← any_end (bad_name m r) n j i l, u))))
-
-module _ (records : ℕ) (bytes : List ℕ) (whole : length bytes % width ≡ 0) (m : ℕ) (e : m ≡ record_count bytes) where
-  pub length_short : m < records → true ≡ bad_length records bytes
-  length_short h = rw (whole, lt-ltb (record_count bytes) records (rw e at h))
-
-  pub length_long : records ≤ m → ltb mapped_limit m ≡ bad_length records bytes
-  length_long h = rw (whole, le-ltb (record_count bytes) records (rw e at h), e)
 
 -- an accepted source's unused slots name nothing
 pub source_empty : (source : List ℕ) (k : ℕ) (a : Record) → IsSource (netlist source) → k < record_count source → a ≡ record_at source k → any (bad_empty a.kind blank a) slots ≡ false
@@ -174,30 +144,25 @@ module _ (records : ℕ) (bytes : List ℕ) (b : Bool) (f : b ≡ bad_length rec
   within : (records ≤ record_count bytes) × (record_count bytes ≤ mapped_limit)
   within = let h : bad_length records bytes ≡ false = sym f ∙ t in let g = simp reflect at h in (g.1.0, g.1.1)
 
-  pub records_fit : records < 2 ^ 32
-  records_fit = omega (arith, within)
+module _ (source : List ℕ) (caps : Capacities) (mapped : List ℕ) where
+  pub verify_refused : (number place : ℕ) → Refused number place ≡ input_checks source caps → Refused number place ≡ verify_checks source caps mapped
+  unfolding verify_checks
+  verify_refused number place e = rw (← e)
 
-  pub mapped_fits : (m : ℕ) → m ≡ record_count bytes → m < 2 ^ 32
-  mapped_fits m e = omega (arith, within)
-
-module _ (source : List ℕ) (caps : Capacities) (mapped : List ℕ) (input : Checked) (e : input ≡ input_checks source caps) where
-  module _ (p : input ≡ Passed) where
-    pub verify_allowed : Allowed caps
-    verify_allowed = (input_passed source caps (sym e ∙ p)).allowed
-
+  module _ (e : Passed ≡ input_checks source caps) where
     module _ (records : ℕ) (r : records ≡ record_count source) (b : Bool) (f : b ≡ bad_length records mapped) where
       pub verify_length : b ≡ true → Refused 11 0 ≡ verify_checks source caps mapped
       unfolding verify_checks mapped_checks
-      verify_length t = rw (← e, p, ← r, ← f, t)
+      verify_length t = rw (← e, ← r, ← f, t)
 
       pub verify_legal : (a : Checked) → b ≡ false → a ≡ legal_checks (netlist source) caps (netlist mapped) → a ≡ verify_checks source caps mapped
       unfolding verify_checks mapped_checks
-      verify_legal a t g = g ∙ rw (← e, p, ← r, ← f, t)
+      verify_legal a t g = g ∙ rw (← e, ← r, ← f, t)
 
       pub mapped_sized : (m : ℕ) → b ≡ false → m ≡ record_count mapped → Sized (netlist source) (netlist mapped) records m
       mapped_sized m t g =
           record {
-            source = (input_passed source caps (sym e ∙ p)).is_source.is_source;
+            source = (input_passed source caps (sym e)).is_source.is_source;
             records = r;
             size = g;
             whole = omega (arith, within records mapped b f t);

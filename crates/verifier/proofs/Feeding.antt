@@ -7,12 +7,11 @@ use mathlib.Core.Path.{◌≡◌, refl, sym, ap, ◌∙◌}
 use mathlib.Core.Bool.{Bool, true, false, cond, not}
 use mathlib.Core.List.{List}
 use lib.ListN.{length, get_or, replicate, length-set, length-replicate, get_or-replicate}
-use lib.Seq.{set-get_or, get_or-set_same, get_or-set_other}
+use lib.Seq.{get_or-set_same, get_or-set_other}
 use lib.Dec.{ltb, leb, eqb}
 use borrow.Author.Tests.{lt-ltb, le-ltb, ltb-true, ltb-false, leb-true, leb-false, eqb-true, eqb-false, not-true, not-false}
 use Rattle.facts.specs.Sums.{bit, sum, count, count₂, any}
-use Rattle.facts.specs.declared.Checked.{Checked}
-use Rattle.facts.specs.declared.Checked.TheVariants.{Passed, Refused}
+use Rattle.facts.specs.Answers.{Checked, Passed, Refused}
 use Rattle.facts.specs.Checks.{scan}
 use Rattle.facts.proofs.Bools.{true_false}
 use Rattle.facts.proofs.Loops.{NoneYet, any_start, any_more, any_found, any_end, Scanning, scan_start, scan_more, scan_stop, scan_end, scan_cong, scan_onward, scan_early}
@@ -29,9 +28,6 @@ use Rattle.verifier.specs.Checks.{differs, no_buffer, slot_checks, place_checks,
 use Rattle.verifier.specs.PrivateWalking.{Sized, PlacesPassed, Walkable}
 use Rattle.verifier.specs.PrivateFeeding.{stop, more, fed_once, fed_by, tally, bad_fanin, buffer_checks, Fed, FedAtMost, Tallied, TalliedIfPassed, count_check}
 use Rattle.verifier.proofs.Checks.{slots_good, slots_passed, kept_bad, kept_slots, placed, legal_places, legal_traces, legal_feeds}
-
-pub feed_full : (counts : List ℕ) (x : ℕ) → stop ≤ get_or counts x 0 → counts ≡ fed_once counts x
-feed_full counts x h = sym (rw (le-ltb (get_or counts x 0) stop h) (set-get_or counts x 0))
 
 -- feeding keeps the number of counts
 once_length : (counts : List ℕ) (x : ℕ) → length (fed_once counts x) ≡ length counts
@@ -133,16 +129,6 @@ module _ (m : Netlist) (r : Record) (n : ℕ) (before : List ℕ) where
           done = f ∙ rw (add-one j, p, i.done);
         }
 
--- the used slots of a record are its first 0, 1, 2 or 3
-module _ (m : Netlist) (r : Record) (used : ℕ) (u : used ≡ arity r.kind) (before : List ℕ) where
-  pub used_none : used ≡ 0 → Fed m r (arity r.kind) true before before
-  unfolding fed_by any
-  used_none e = rw (← u, e) (record { good = refl; counted = λ t. refl })
-
-  module _ (b : Bool) (after : List ℕ) where
-    pub used_some : (n : ℕ) → used ≡ n → Fed m r n b before after → Fed m r (arity r.kind) b before after
-    used_some n e f = rw (← u, e) f
-
 module _ (m : Netlist) where
   pub tallied_start : (entries : ℕ) → m.size ≤ entries → Tallied m 0 (replicate entries 0)
   unfolding tally
@@ -242,22 +228,16 @@ module _ (n m : Netlist) (records : ℕ) (counts : List ℕ) where
         let w : k ≡ records = omega (arith, i.scanning.within) in
         record { answer = scan_end (place_checks n m) records k i.scanning (rw e at l); tallied = λ p. rw (← w) i.tallied }
 
-    module _ (l : k < size) (a : Checked) (after : List ℕ) (c : TalliedIfPassed a (place_checks n m k) m (k + 1) after) where
-      pub tallying_stop : (number place : ℕ) → a ≡ Refused number place → TalliedIfPassed (Refused number place) (scan (place_checks n m) 0 records) m records after
-      tallying_stop number place p =
-          tallied_refused m _ number place records after (sym (scan_stop (place_checks n m) records k number place a i.scanning (rw e at l) c.answer p))
+    module _ (l : k < size) (after : List ℕ) where
+      pub tallying_stop :
+          (number place : ℕ) → TalliedIfPassed (Refused number place) (place_checks n m k) m (k + 1) after →
+          TalliedIfPassed (Refused number place) (scan (place_checks n m) 0 records) m records after
+      tallying_stop number place c =
+          tallied_refused m _ number place records after (sym (scan_stop (place_checks n m) records k number place i.scanning (rw e at l) c.answer))
 
-      pub tallying_more : a ≡ Passed → Tallying n m records after (k + 1)
-      tallying_more p =
-          record { scanning = scan_more (place_checks n m) records k a i.scanning (rw e at l) c.answer p; tallied = c.tallied p }
-
--- what a part of the checks leaves for the next
-module _ (a right : Checked) (m : Netlist) (k : ℕ) (counts : List ℕ) (c : TalliedIfPassed a right m k counts) where
-  pub tallied_passed : a ≡ Passed → right ≡ Passed
-  tallied_passed p = sym c.answer ∙ p
-
-  pub tallied_counts : a ≡ Passed → Tallied m k counts
-  tallied_counts p = c.tallied p
+      pub tallying_more : TalliedIfPassed Passed (place_checks n m k) m (k + 1) after → Tallying n m records after (k + 1)
+      tallying_more c =
+          record { scanning = scan_more (place_checks n m) records k i.scanning (rw e at l) c.answer; tallied = c.tallied refl }
 
 -- 17 by the counts, which stop above every capacity
 module _ (caps : Capacities) (m : Netlist) (counts : List ℕ) where
@@ -282,34 +262,28 @@ module _ (caps : Capacities) (m : Netlist) (counts : List ℕ) where
       e ∙ ap (scan (count_check caps m counts) 0) same ∙ scan_cong (count_check caps m counts) (feed_check caps m) m.size (count_feed allowed t)
 
 -- 12 to 17, part by part
-module _ (n m : Netlist) (records size : ℕ) (sized : Sized n m records size) (a : Checked) (counts : List ℕ) where
-  pub kept_refused :
-      (caps : Capacities) (k number place : ℕ) → TalliedIfPassed a (scan (place_checks n m) 0 n.size) m k counts → a ≡ Refused number place →
-      Refused number place ≡ legal_checks n caps m
-  kept_refused caps k number place c p =
-      legal_places n caps m number place
-      (scan_early (place_checks n m) n.size m.size (omega (arith, sized.records, sized.size, sized.whole)) number place (sym c.answer ∙ p))
+module _ (n m : Netlist) (records size : ℕ) (sized : Sized n m records size) (caps : Capacities) (counts : List ℕ) where
+  module _ (number place : ℕ) where
+    pub kept_refused :
+        (k : ℕ) → TalliedIfPassed (Refused number place) (scan (place_checks n m) 0 n.size) m k counts → Refused number place ≡ legal_checks n caps m
+    kept_refused k c =
+        legal_places n caps m number place
+        (scan_early (place_checks n m) n.size m.size (omega (arith, sized.records, sized.size, sized.whole)) number place (sym c.answer))
 
-  module _ (c : TalliedIfPassed a (scan (place_checks n m) 0 m.size) m m.size counts) where
-    pub added_refused : (caps : Capacities) (number place : ℕ) → a ≡ Refused number place → Refused number place ≡ legal_checks n caps m
-    added_refused caps number place p = legal_places n caps m number place (sym c.answer ∙ p)
+    pub added_refused : TalliedIfPassed (Refused number place) (scan (place_checks n m) 0 m.size) m m.size counts → Refused number place ≡ legal_checks n caps m
+    added_refused c = legal_places n caps m number place (sym c.answer)
 
-    module _ (p : a ≡ Passed) where
-      pub places_placed : PlacesPassed n m
-      places_placed = placed n m (omega (arith, sized.records, sized.size, sized.whole)) (sym c.answer ∙ p)
+  module _ (c : TalliedIfPassed Passed (scan (place_checks n m) 0 m.size) m m.size counts) where
+    pub places_placed : PlacesPassed n m
+    places_placed = placed n m (omega (arith, sized.records, sized.size, sized.whole)) (sym c.answer)
 
-      pub counts_room : size ≤ length counts
-      counts_room = omega (arith, (c.tallied p).room, sized.size)
+    pub traced_refused : (number place : ℕ) → Refused number place ≡ scan (trace_check n m) 0 n.size → Refused number place ≡ legal_checks n caps m
+    traced_refused number place f = legal_traces n caps m (sym c.answer) number place (sym f)
 
-      module _ (traced : Checked) (q : traced ≡ scan (trace_check n m) 0 n.size) where
-        pub traced_refused : (caps : Capacities) (number place : ℕ) → traced ≡ Refused number place → Refused number place ≡ legal_checks n caps m
-        traced_refused caps number place f = legal_traces n caps m (sym c.answer ∙ p) number place (sym q ∙ f)
-
-        pub feeds_decide :
-            (caps : Capacities) (b : Checked) → traced ≡ Passed → Allowed caps → b ≡ scan (count_check caps m counts) 0 size → b ≡ legal_checks n caps m
-        feeds_decide caps b f allowed e =
-            legal_feeds n caps m (sym c.answer ∙ p) b (sym q ∙ f)
-            (counts_feeds caps m counts allowed (c.tallied p) size sized.size b e)
+    pub feeds_decide :
+        (a : Checked) → Passed ≡ scan (trace_check n m) 0 n.size → Allowed caps → a ≡ scan (count_check caps m counts) 0 size → a ≡ legal_checks n caps m
+    feeds_decide a f allowed e =
+        legal_feeds n caps m (sym c.answer) a (sym f) (counts_feeds caps m counts allowed (c.tallied refl) size sized.size a e)
 
 -- one record more by the counts
 module _ (caps : Capacities) (m : Netlist) (counts : List ℕ) (size k : ℕ) (i : Scanning (count_check caps m counts) size k) (l : k < size)
@@ -318,34 +292,10 @@ module _ (caps : Capacities) (m : Netlist) (counts : List ℕ) (size k : ℕ) (i
   most = capacity_of caps (m.at k).kind
 
   pub count_more : not b ≡ false → Scanning (count_check caps m counts) size (k + 1)
-  count_more d = scan_more (count_check caps m counts) size k Passed i l (sym (rw (← g, le-ltb most f (leb-true f most (sym h ∙ not-false b d))))) refl
+  count_more d = scan_more (count_check caps m counts) size k i l (sym (rw (← g, le-ltb most f (leb-true f most (sym h ∙ not-false b d)))))
 
   pub count_stop : not b ≡ true → Refused 17 k ≡ scan (count_check caps m counts) 0 size
-  count_stop d = scan_stop (count_check caps m counts) size k 17 k (Refused 17 k) i l (sym (rw (← g, lt-ltb most f (leb-false f most (sym h ∙ not-true b d))))) refl
-
--- the largest count of the records from `from` on, below k
-module _ (counts : List ℕ) (from : ℕ) where
-  pub most_start : FedAtMost counts from from 0
-  most_start = record { bound = λ j a b. absurd (omega arith) }
-
-  module _ (k most : ℕ) (i : FedAtMost counts from k most) where
-    most_more : (next : ℕ) → most ≤ next → get_or counts k 0 ≤ next → FedAtMost counts from (k + 1) next
-    most_more next g h =
-        record {
-          bound = λ j a b. elim (dec_lt j k) [
-            | yes l ↦ omega (arith, i.bound j a l)
-            | no l ↦ (let e : j ≡ k = omega arith in rw e h)
-          ];
-        }
-
-    pub most_raised : (next : ℕ) → most < get_or counts k 0 → next ≡ get_or counts k 0 → FedAtMost counts from (k + 1) next
-    most_raised next h e = most_more next (omega arith) (omega arith)
-
-    pub most_kept : (next : ℕ) → get_or counts k 0 ≤ most → next ≡ most → FedAtMost counts from (k + 1) next
-    most_kept next h e = most_more next (omega arith) (omega arith)
-
-    pub most_end : (to : ℕ) → to ≤ k → FedAtMost counts from to most
-    most_end to l = record { bound = λ j a b. i.bound j a (omega arith) }
+  count_stop d = scan_stop (count_check caps m counts) size k 17 k i l (sym (rw (← g, lt-ltb most f (leb-false f most (sym h ∙ not-true b d)))))
 
 -- where the buffers feed no more than they may, the records before them are enough
 module _ (caps : Capacities) (m : Netlist) (n size : ℕ) (counts : List ℕ) (buffers : ℕ) (w : Walkable n m) (sizes : (n ≤ size) × (size ≡ m.size))

@@ -7,8 +7,7 @@ use mathlib.Core.Logic.{⊎_elim, ◌↔◌, ◌≢◌}
 use mathlib.Core.Bool.{true}
 use mathlib.Core.List.{List}
 use lib.ListN.{length, get_or-replicate}
-use Rattle.facts.specs.declared.Checked.{Checked}
-use Rattle.facts.specs.declared.Checked.TheVariants.{Passed, Refused as Failed}
+use Rattle.facts.specs.Answers.{Checked, Passed, Refused as Failed}
 use Rattle.facts.specs.Checks.{outcome}
 use Rattle.facts.specs.Sums.{any}
 use Rattle.facts.specs.Refusals.{row_of, Fails, ◌or◌, Each, First}
@@ -22,7 +21,7 @@ use Rattle.netlist.specs.Records.{Netlist, netlist, record_count, blank, slot, f
 use Rattle.netlist.specs.Capacities.{capacity_of}
 use Rattle.netlist.specs.Counts.{buffer_count}
 use Rattle.netlist.proofs.Refusals.{input_first, input_rows}
-use Rattle.verifier.specs.declared.Verified.TheVariants.{Buffers, Refused}
+use Rattle.verifier.specs.Checks.{Buffers, Refused}
 use Rattle.verifier.specs.PrivateWalking.{PlacesPassed}
 use Rattle.verifier.specs.Trace.{driver}
 use Rattle.verifier.specs.Checks.{bad_length, bad_empty, changed, foreign, bad_name, not_one_lower, strays, place_checks, trace_check, feed_check, legal_checks, mapped_checks, verify_checks}

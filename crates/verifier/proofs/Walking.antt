@@ -6,30 +6,27 @@ use mathlib.Core.Path.{◌≡◌, refl, sym, ap, ◌∙◌}
 use mathlib.Core.Logic.{◌≢◌}
 use mathlib.Core.Bool.{Bool, true, false, not}
 use mathlib.Core.List.{List}
-use lib.ListN.{length, get_or, set, replicate, length-set, length-replicate, get_or-replicate}
+use lib.ListN.{length, get_or, set, length-set}
 use lib.Seq.{get_or-set_same, get_or-set_other}
 use lib.Dec.{eqb}
 use borrow.Author.Tests.{lt-ltb, le-ltb, eq-eqb, ne_eqb, not-true}
-use Rattle.facts.specs.declared.Checked.{Checked}
-use Rattle.facts.specs.declared.Checked.TheVariants.{Passed, Refused}
+use Rattle.facts.specs.Answers.{Checked, Passed, Refused}
 use Rattle.facts.specs.Checks.{check, scan}
 use Rattle.facts.specs.Sums.{any}
 use Rattle.facts.proofs.Reflect.{reflect}
 use Rattle.facts.proofs.Sums.{any_none}
 use Rattle.facts.proofs.Loops.{NoneYet, any_start, any_more, any_found, any_end, Scanning, scan_start, scan_more, scan_stop, scan_end}
-use Rattle.netlist.specs.declared.Capacities.{Capacities}
 use Rattle.netlist.specs.declared.Record.{Record}
 use Rattle.netlist.specs.Kinds.{buffer, arity}
-use Rattle.netlist.specs.Capacities.{Allowed}
 use Rattle.netlist.specs.Records.{Netlist, netlist, record_at, record_count, slot, fanin}
-use Rattle.netlist.proofs.Balance.{buffer_named_lem, buffer_level}
+use Rattle.netlist.proofs.Balance.{buffer_level}
 use Rattle.verifier.specs.Trace.{walk, driver}
 use Rattle.verifier.specs.PrivateWalking.{Sized, Driven, Buffering, unknown, Known, known_driver, PlacesPassed, Walkable, Traceable, Traced, SlotsTraceable, SlotsTraced}
 use Rattle.verifier.specs.PrivateFeeding.{bad_fanin, buffer_checks, Fed, Tallied, TalliedIfPassed}
 use Rattle.verifier.specs.Checks.{no_buffer, place_checks, strays, trace_check}
 use Rattle.verifier.proofs.Trace.{walk_here, walk_back, driver_back}
 use Rattle.verifier.proofs.Checks.{driven, placed_driven, place_buffer}
-use Rattle.verifier.proofs.Feeding.{tallied_start, buffer_kind, Tallying, tallying_onward, tallying_end, tallying_stop, tallying_more}
+use Rattle.verifier.proofs.Feeding.{buffer_kind, Tallying, tallying_onward, tallying_end, tallying_stop, tallying_more}
 
 -- one driver more is known
 pub keep : (m : Netlist) (drivers : List ℕ) (x d : ℕ) → Known m drivers → x < m.size → (d ≢ unknown → d ≡ driver m x) → Known m (set drivers x d)
@@ -46,22 +43,6 @@ keep m drivers x d k l e =
                 q ∙ k.right y h (λ u. f (q ∙ u))
           ];
     }
-
--- at first none is
-pub known_none : (m : Netlist) (entries : ℕ) → m.size ≤ entries → Known m (replicate entries unknown)
-known_none m entries l =
-    record {
-      room = rw (length-replicate {A = ℕ} entries unknown) l;
-      right = λ x h f. absurd (f (get_or-replicate entries x unknown 0 (omega arith)));
-    }
-
--- with new counts and drivers, an entry for each record, the checks may start
-pub fresh :
-    (n m : Netlist) (first all entries : ℕ) (caps : Capacities) → Sized n m first all → Allowed caps → all ≤ entries →
-    Sized n m first all × (Allowed caps × (Tallied m 0 (replicate entries 0) × Known m (replicate entries unknown)))
-fresh n m first all entries caps sized allowed l =
-    let h : m.size ≤ entries = omega (arith, sized.size) in
-    (sized, (allowed, (tallied_start m entries h, known_none m entries h)))
 
 -- what is known is right
 known_right : (n : ℕ) (drivers : List ℕ) (x : ℕ) (m : Netlist) (d : ℕ) → Known m drivers → Driven n m → x < m.size → d ≡ known_driver n drivers x → d ≢ unknown → d ≡ driver m x
@@ -106,10 +87,6 @@ module _ (n : ℕ) (m : Netlist) (drivers : List ℕ) (level x : ℕ) (w : Trace
   walk_stays l =
       record { ends = sym (walk_here m (m.at x).level x (w.walkable.driven.driver x l)); known = w.known }
 
-  pub walk_found : get_or drivers x 0 ≢ unknown → Traced m x (get_or drivers x 0) drivers
-  walk_found h =
-      record { ends = w.known.right x w.here h; known = w.known }
-
   module _ (l : n ≤ x) where
     is_buffer_lem : (m.at x).kind ≡ buffer
     is_buffer_lem = w.walkable.buffers x l w.here
@@ -121,19 +98,7 @@ module _ (n : ℕ) (m : Netlist) (drivers : List ℕ) (level x : ℕ) (w : Trace
     pub walk_level : 1 ≤ level
     walk_level = omega (arith, lower)
 
-    pub walk_falls : (t : ℕ) → level + level ≡ t → level - 1 + (level - 1) + 1 < t
-    walk_falls t h = omega (arith, lower)
-
     module _ (z : ℕ) (f : z ≡ slot (m.at x) 0) where
-      pub walk_next : Traceable n m drivers (level - 1) z
-      walk_next =
-          rw f (record {
-            walkable = w.walkable;
-            here = buffer_named_lem m w.walkable.named x w.here is_buffer_lem;
-            stands = omega (arith, lower);
-            known = w.known;
-          })
-
       pub walk_keeps : (d : ℕ) (after : List ℕ) → Traced m z d after → Traced m x d (set after x d)
       walk_keeps d after v =
           let ends : d ≡ driver m x = v.ends ∙ rw f (sym (driver_back m w.walkable.named w.walkable.balanced x w.here is_buffer_lem)) in
@@ -148,12 +113,6 @@ passed_walkable n m first all sized p =
       named = p.named;
       balanced = p.balanced;
     }
-
-pub buffer_traceable :
-    (n : ℕ) (m : Netlist) (drivers : List ℕ) (size k level : ℕ) → Walkable n m → Known m drivers → size ≡ m.size → k < size → level ≡ (m.at k).level →
-    Traceable n m drivers level k
-buffer_traceable n m drivers size k level w known e l h =
-    record { walkable = w; here = rw e at l; stands = h; known = known }
 
 -- a used slot may be traced from, one level lower
 module _ (first : ℕ) (m : Netlist) (before : List ℕ) (r : Record) (n : ℕ) (w : SlotsTraceable first m before r n) (j : ℕ) (l : j < n) where
@@ -198,19 +157,6 @@ module _ (first : ℕ) (m : Netlist) (before : List ℕ) (a r : Record) (n : ℕ
       strayed_more t g =
           record { none = any_more (strays m a r) n j false i.none l (sym (here g ∙ rw (eq-eqb d y t))) refl; known = f.known }
 
--- the used slots of a source record are its first 0, 1, 2 or 3
-module _ (m : Netlist) (a r : Record) (used : ℕ) (u : used ≡ arity a.kind) (drivers : List ℕ) where
-  module _ (first : ℕ) (w : SlotsTraceable first m drivers r (arity a.kind)) where
-    pub traced_none : used ≡ 0 → SlotsTraced m false (any (strays m a r) (arity a.kind)) drivers
-    unfolding any
-    traced_none e = rw (← u, e) (record { answer = refl; known = w.known })
-
-    pub traceable_some : (n : ℕ) → used ≡ n → SlotsTraceable first m drivers r n
-    traceable_some n e = rw (← u, e) at w
-
-  pub traced_some : (b : Bool) (n : ℕ) → used ≡ n → SlotsTraced m b (any (strays m a r) n) drivers → SlotsTraced m b (any (strays m a r) (arity a.kind)) drivers
-  traced_some b n e f = rw (← u, e) f
-
 -- the answer from k on is the answer, and what is known is right
 pub record Tracing (n m : Netlist) (drivers : List ℕ) (k : ℕ) : Type 0 where
   pub scanning : Scanning (trace_check n m) n.size k
@@ -251,12 +197,14 @@ module _ (source mapped : List ℕ) (drivers : List ℕ) where
         pub tracing_more : b ≡ false → Tracing (netlist source) (netlist mapped) after (k + 1)
         tracing_more t =
             record {
-              scanning = scan_more (trace_check (netlist source) (netlist mapped)) (record_count source) k (check 16 k b) i.scanning (rw e at l) each (rw t);
+              scanning = scan_more (trace_check (netlist source) (netlist mapped)) (record_count source) k i.scanning (rw e at l) (let g : Passed ≡ check 16 k b = rw t in g ∙ each);
               known = f.known;
             }
 
         pub tracing_stop : b ≡ true → Refused 16 k ≡ scan (trace_check (netlist source) (netlist mapped)) 0 (record_count source)
-        tracing_stop t = scan_stop (trace_check (netlist source) (netlist mapped)) (record_count source) k 16 k (check 16 k b) i.scanning (rw e at l) each (rw t)
+        tracing_stop t =
+            scan_stop (trace_check (netlist source) (netlist mapped)) (record_count source) k 16 k i.scanning (rw e at l)
+            (let g : Refused 16 k ≡ check 16 k b = rw t in g ∙ each)
 
 -- the pass over the buffers: the answer from k on is the answer, the first k records are counted, and what is known is right
 pub record Noting (n m : Netlist) (records : ℕ) (counts drivers : List ℕ) (k : ℕ) : Type 0 where
@@ -284,17 +232,19 @@ module _ (n m : Netlist) (records size : ℕ) (sized : Sized n m records size) (
       pub noting_buffering : scan (place_checks n m) 0 n.size ≡ Passed → Buffering records m k
       noting_buffering h = record { from = i.from; here = omega (arith, sized.size); driven = driven n m records size sized h }
 
-      module _ (a : Checked) (after : List ℕ) (c : TalliedIfPassed a (buffer_checks m k) m (k + 1) after) where
-        place : TalliedIfPassed a (place_checks n m k) m (k + 1) after
-        place = rw (place_buffer n m k (omega (arith, sized.records, i.from))) c
+      module _ (after : List ℕ) where
+        place : (a : Checked) → TalliedIfPassed a (buffer_checks m k) m (k + 1) after → TalliedIfPassed a (place_checks n m k) m (k + 1) after
+        place a c = rw (place_buffer n m k (omega (arith, sized.records, i.from))) c
 
-        pub noting_stop : (number place : ℕ) → a ≡ Refused number place → TalliedIfPassed (Refused number place) (scan (place_checks n m) 0 m.size) m m.size after
-        noting_stop number at p = tallying_stop n m m.size counts k i.tallying size sized.size l a after place number at p
+        pub noting_stop :
+            (number place : ℕ) → TalliedIfPassed (Refused number place) (buffer_checks m k) m (k + 1) after →
+            TalliedIfPassed (Refused number place) (scan (place_checks n m) 0 m.size) m m.size after
+        noting_stop number at c = tallying_stop n m m.size counts k i.tallying size sized.size l after number at (place (Refused number at) c)
 
-        pub noting_more : (later : List ℕ) → Known m later → a ≡ Passed → Noting n m records after later (k + 1)
-        noting_more later known p =
+        pub noting_more : (later : List ℕ) → Known m later → TalliedIfPassed Passed (buffer_checks m k) m (k + 1) after → Noting n m records after later (k + 1)
+        noting_more later known c =
             record {
               from = omega (arith, i.from);
-              tallying = tallying_more n m m.size counts k i.tallying size sized.size l a after place p;
+              tallying = tallying_more n m m.size counts k i.tallying size sized.size l after (place Passed c);
               known = known;
             }

@@ -6,7 +6,7 @@ use Rattle.netlist.specs.Capacities.{Allowed}
 use Rattle.netlist.specs.Records.{netlist, record_count}
 use Rattle.netlist.specs.Source.{Source}
 use Rattle.netlist.specs.Counts.{buffer_count}
-use Rattle.verifier.specs.declared.Verified.TheVariants.{Buffers}
+use Rattle.verifier.specs.Checks.{Buffers}
 use Rattle.verifier.specs.Legal.{Legal}
 use Rattle.verifier.specs.Checks.{verify_answer}
 

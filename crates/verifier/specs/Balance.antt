@@ -3,7 +3,7 @@ use Rattle.std.specs.Prelude.{ℕ, ◌≡◌, List}
 use Rattle.netlist.specs.declared.Capacities.{Capacities}
 use Rattle.netlist.specs.Records.{netlist}
 use Rattle.netlist.specs.Balance.{PathBalanced, ProperlyBranched}
-use Rattle.verifier.specs.declared.Verified.TheVariants.{Buffers}
+use Rattle.verifier.specs.Checks.{Buffers}
 use Rattle.verifier.specs.Checks.{verify_answer}
 
 -- of every netlist that the verifier accepts

@@ -1,6 +1,6 @@
 -- Checks 11 to 17 (specification 3.3), each a condition with a name, their order, and the verifier's answer.
 use Rattle.std.specs.Prelude.{ℕ, suc, Bool, not, ◌&&◌, ◌||◌, List, [], ◌∷◌, ltb, leb, eqb}
-use Rattle.facts.specs.declared.Checked.{Checked}
+use Rattle.facts.specs.Answers.{Checked}
 use Rattle.facts.specs.Checks.{check, ◌and_then◌, outcome, scan}
 use Rattle.facts.specs.Sums.{any}
 use Rattle.netlist.specs.declared.Capacities.{Capacities}
@@ -10,8 +10,6 @@ use Rattle.netlist.specs.Records.{Netlist, netlist, record_count, blank, slot, f
 use Rattle.netlist.specs.Counts.{buffer_count}
 use Rattle.netlist.specs.Checks.{ragged, input_checks}
 use Rattle.netlist.specs.Capacities.{capacity_of}
-use Rattle.verifier.specs.declared.Verified.{Verified}
-use Rattle.verifier.specs.declared.Verified.TheVariants.{Buffers, Refused}
 use Rattle.verifier.specs.Trace.{driver}
 
 -- 11: no whole records, fewer than the source's, or too many
@@ -94,6 +92,11 @@ mapped_checks n caps bytes = check 11 0 (bad_length n.size bytes) and_then legal
 -- 1, 26, 2 to 7, then 11 to 17
 unfoldable pub verify_checks : List ℕ → Capacities → List ℕ → Checked
 verify_checks source caps mapped = input_checks source caps and_then mapped_checks (netlist source) caps mapped
+
+-- a legal mapped netlist's number of buffers, or the number of the first failing check and its place
+pub data Verified : Type 0 where
+  Buffers : (buffers : ℕ) → Verified
+  Refused : (number place : ℕ) → Verified
 
 -- the verifier's answer
 abbrev pub verify_answer : List ℕ → Capacities → List ℕ → Verified

@@ -7,7 +7,7 @@ use Rattle.netlist.specs.Records.{Netlist, netlist, fanin}
 use Rattle.netlist.specs.Source.{IsSource}
 use Rattle.netlist.specs.Counts.{is_buffer, buffer_count}
 use Rattle.fanout.specs.Nets.{row, buffers_at, net_has_tree, tree_size, fewest_in_all}
-use Rattle.verifier.specs.declared.Verified.TheVariants.{Buffers}
+use Rattle.verifier.specs.Checks.{Buffers}
 use Rattle.verifier.specs.Legal.{Legal, Traces}
 use Rattle.verifier.specs.Trace.{driver}
 use Rattle.verifier.specs.Checks.{verify_answer}

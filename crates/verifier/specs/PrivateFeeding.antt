@@ -1,7 +1,6 @@
 -- For private functions alone: check 17's counts, made while 14 and 15 pass over the used slots: a count stops above the largest capacity, so that none can wrap.
 use Rattle.std.specs.Prelude.{ℕ, zero, suc, ◌+◌, ◌<◌, ◌≤◌, ◌≡◌, Bool, true, cond, not, ◌||◌, List, length, get_or, set, replicate, ltb}
-use Rattle.facts.specs.declared.Checked.{Checked}
-use Rattle.facts.specs.declared.Checked.TheVariants.{Passed}
+use Rattle.facts.specs.Answers.{Checked, Passed}
 use Rattle.facts.specs.Checks.{check, ◌and_then◌}
 use Rattle.facts.specs.Sums.{any}
 use Rattle.netlist.specs.declared.Capacities.{Capacities}

@@ -7,7 +7,7 @@ use Rattle.netlist.specs.Kinds.{slots, unused, top_level, mapped_limit, output, 
 use Rattle.netlist.specs.Records.{Netlist, netlist, record_count, slot, fanin, feeds}
 use Rattle.netlist.specs.Refusals.{Ragged, InputFails}
 use Rattle.netlist.specs.Capacities.{capacity_of}
-use Rattle.verifier.specs.declared.Verified.TheVariants.{Refused}
+use Rattle.verifier.specs.Checks.{Refused}
 use Rattle.verifier.specs.Legal.{Traces}
 use Rattle.verifier.specs.Checks.{verify_answer}
 

@@ -1,12 +1,13 @@
 // Check 17: how many slots each record feeds.
 ghost use Rattle.std.specs.Prelude.{◌≡◌, ◌<◌, ◌≤◌, length};
+ghost use Rattle.facts.specs.Answers.{numbered};
 ghost use Rattle.facts.specs.Checks.{scan};
 ghost use Rattle.netlist.specs.Capacities.{Allowed};
 ghost use Rattle.netlist.specs.Records.{netlist, record_count};
 ghost use Rattle.verifier.specs.PrivateWalking.{Walkable};
 ghost use Rattle.verifier.specs.PrivateFeeding.{count_check, fed_once, FedAtMost};
 
-use facts::Checked;
+use facts::{Check, Refusal};
 use netlist::{Capacities, GATE_CAPACITY};
 
 // Where a count of check 17 stops: one above the largest capacity, an input's.
@@ -29,39 +30,33 @@ fn most_fed(counts: &[u16], from: u32, to: u32) -> u16
     ensures { FedAtMost counts.now from to result }
 {
     let mut most: u16 = 0;
-    let mut k = from;
-    while k < to {
-        let fed = counts[k as usize];
-        if most < fed {
-            most = fed;
-        }
-        k += 1;
+    for k in from..to {
+        most = most.max(counts[k as usize]);
     }
     most
 }
 
-// A count, to compare with a capacity.
-fn wide_count(count: u16) -> u32
-    ensures { result ≡ count }
-{
-    count as u32
-}
-
 // Check 17 of the first m records, rising, by the counts.
-fn first_overfed(capacities: Capacities, mapped: &[u8], counts: &[u16], m: u32) -> Checked
+fn first_overfed(
+    capacities: Capacities,
+    mapped: &[u8],
+    counts: &[u16],
+    m: u32,
+) -> Result<(), Refusal>
     requires allowed { Allowed capacities }
     requires m_in_bounds { m ≤ length counts.now }
-    ensures { result ≡ scan (count_check capacities (netlist mapped.now) counts.now) 0 m }
+    ensures { numbered result ≡ scan (count_check capacities (netlist mapped.now) counts.now) 0 m }
 {
-    let mut k: u32 = 0;
-    while k < m {
-        let fed = wide_count(counts[k as usize]);
+    for k in 0..m {
+        let fed = u32::from(counts[k as usize]);
         if !netlist::may_feed(mapped, capacities, k as usize, fed) {
-            return Checked::Refused(17, k);
+            return Err(Refusal {
+                check: Check::Capacity,
+                place: k,
+            });
         }
-        k += 1;
     }
-    Checked::Passed
+    Ok(())
 }
 
 // Check 17 of the first m records, of which those from n on are buffers. Where no buffer feeds too many slots, the first n records are enough; they pass at once if none feeds more than a gate may.
@@ -71,18 +66,18 @@ pub(crate) fn check_counts(
     counts: &[u16],
     n: u32,
     m: u32,
-) -> Checked
+) -> Result<(), Refusal>
     requires allowed { Allowed capacities }
     requires walkable { Walkable n (netlist mapped.now) }
     requires n_le_m { (n ≤ m) × (m ≡ record_count mapped.now) }
     requires m_in_bounds { m ≤ length counts.now }
-    ensures { result ≡ scan (count_check capacities (netlist mapped.now) counts.now) 0 m }
+    ensures { numbered result ≡ scan (count_check capacities (netlist mapped.now) counts.now) 0 m }
 {
-    if capacities.buffer < most_fed(counts, n, m) as u32 {
+    if capacities.buffer < u32::from(most_fed(counts, n, m)) {
         return first_overfed(capacities, mapped, counts, m);
     }
-    if most_fed(counts, 0, n) as u32 <= GATE_CAPACITY {
-        return Checked::Passed;
+    if u32::from(most_fed(counts, 0, n)) <= GATE_CAPACITY {
+        return Ok(());
     }
     first_overfed(capacities, mapped, counts, n)
 }

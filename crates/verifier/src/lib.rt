@@ -1,14 +1,16 @@
 // The verifier (specification 4.3): whether a mapped netlist is legal for a source and capacities (checks 11 to 17).
 #![tactic(auto)]
 
-ghost use Rattle.std.specs.Prelude.{◌≡◌};
+ghost use Rattle.std.specs.Prelude.{◌≡◌, ◌≤◌};
+ghost use Rattle.facts.specs.Answers.{numbered, told};
 ghost use Rattle.netlist.specs.Capacities.{Allowed};
+ghost use Rattle.netlist.specs.Kinds.{mapped_limit};
 ghost use Rattle.netlist.specs.Records.{netlist};
 ghost use Rattle.verifier.specs.PrivateWalking.{Sized, Known};
 ghost use Rattle.verifier.specs.PrivateFeeding.{Tallied};
-ghost use Rattle.verifier.specs.Checks.{bad_length, legal_checks, verify_checks, verify_answer};
+ghost use Rattle.verifier.specs.Checks.{Buffers, Refused, bad_length, legal_checks, verify_checks, verify_answer};
 
-use facts::Checked;
+use facts::{Check, Refusal};
 use netlist::{Capacities, record_count};
 use traces::UNKNOWN;
 
@@ -24,13 +26,6 @@ pub const SHORT: usize = 2048;
 
 pub const MIDDLE: usize = 16384;
 
-// A legal mapped netlist's number of buffers, or the number of the first failing check and its place.
-#[derive(Clone, Copy)]
-pub enum Verified {
-    Buffers(u32),
-    Refused(u32, u32),
-}
-
 // Checks 12 to 17, with counts that are all 0 and drivers of which none is known.
 fn check_with(
     source: &[u8],
@@ -40,83 +35,78 @@ fn check_with(
     m: u32,
     counts: &mut [u16],
     drivers: &mut [u16],
-) -> Checked
+) -> Result<(), Refusal>
     requires sized { Sized (netlist source.now) (netlist mapped.now) n m }
     requires allowed { Allowed capacities }
     requires tallied { Tallied (netlist mapped.now) 0 counts.old }
     requires known { Known (netlist mapped.now) drivers.old }
-    ensures { result ≡ legal_checks (netlist source.now) capacities (netlist mapped.now) }
+    ensures { numbered result ≡ legal_checks (netlist source.now) capacities (netlist mapped.now) }
 {
-    let kept = places::check_records(source, mapped, n, counts);
-    match kept {
-        Checked::Passed => {}
-        Checked::Refused(number, place) => {
-            return Checked::Refused(number, place);
-        }
-    }
-    let added = places::check_buffers(source, mapped, n, m, counts, drivers);
-    match added {
-        Checked::Passed => {}
-        Checked::Refused(number, place) => {
-            return Checked::Refused(number, place);
-        }
-    }
-    let traced = traces::check_traces(source, mapped, n, m, drivers);
-    match traced {
-        Checked::Passed => feeds::check_counts(capacities, mapped, counts, n, m),
-        Checked::Refused(number, place) => Checked::Refused(number, place),
-    }
+    places::check_records(source, mapped, n, counts)?;
+    places::check_buffers(source, mapped, n, m, counts, drivers)?;
+    traces::check_traces(source, mapped, n, m, drivers)?;
+    feeds::check_counts(capacities, mapped, counts, n, m)
 }
 
 // Check 11: no whole records, fewer than the source's, or too many.
 fn bad_length(records: usize, bytes: &[u8]) -> bool
     ensures { result ≡ bad_length records bytes.now }
 {
-    if bytes.len() % netlist::WIDTH != 0 {
-        return true;
-    }
     let m = record_count(bytes);
-    if m < records {
-        return true;
-    }
-    netlist::MAPPED_LIMIT < m
+    bytes.len() % netlist::WIDTH != 0 || m < records || netlist::MAPPED_LIMIT < m
 }
 
-// Checks 12 to 17. A netlist of few records takes short arrays, which are sooner cleared.
-fn check_legal(source: &[u8], capacities: Capacities, mapped: &[u8], n: u32, m: u32) -> Checked
+// The same, with arrays of N counts and N drivers.
+fn check_in<const N: usize>(
+    source: &[u8],
+    capacities: Capacities,
+    mapped: &[u8],
+    n: u32,
+    m: u32,
+) -> Result<(), Refusal>
     requires sized { Sized (netlist source.now) (netlist mapped.now) n m }
     requires allowed { Allowed capacities }
-    ensures { result ≡ legal_checks (netlist source.now) capacities (netlist mapped.now) }
+    requires m_le_n { m ≤ N }
+    requires n_fits { N ≤ mapped_limit }
+    ensures { numbered result ≡ legal_checks (netlist source.now) capacities (netlist mapped.now) }
 {
-    if m as usize <= SHORT {
-        let mut counts = [0u16; SHORT];
-        let mut drivers = [UNKNOWN; SHORT];
-        return check_with(source, capacities, mapped, n, m, &mut counts, &mut drivers);
-    }
-    if m as usize <= MIDDLE {
-        let mut counts = [0u16; MIDDLE];
-        let mut drivers = [UNKNOWN; MIDDLE];
-        return check_with(source, capacities, mapped, n, m, &mut counts, &mut drivers);
-    }
-    let mut counts = [0u16; RECORDS];
-    let mut drivers = [UNKNOWN; RECORDS];
+    let mut counts = [0u16; N];
+    let mut drivers = [UNKNOWN; N];
     check_with(source, capacities, mapped, n, m, &mut counts, &mut drivers)
 }
 
-// What every call with a mapped netlist checks first: 1, 26, 2 to 7, then 11 to 17.
-pub fn check_mapping(source: &[u8], capacities: Capacities, mapped: &[u8]) -> Checked
-    ensures { result ≡ verify_checks source.now capacities mapped.now }
+// The same. A netlist of few records takes short arrays, which are sooner cleared.
+fn check_legal(
+    source: &[u8],
+    capacities: Capacities,
+    mapped: &[u8],
+    n: u32,
+    m: u32,
+) -> Result<(), Refusal>
+    requires sized { Sized (netlist source.now) (netlist mapped.now) n m }
+    requires allowed { Allowed capacities }
+    ensures { numbered result ≡ legal_checks (netlist source.now) capacities (netlist mapped.now) }
 {
-    let input = netlist::check_input(source, capacities);
-    match input {
-        Checked::Passed => {}
-        Checked::Refused(number, place) => {
-            return Checked::Refused(number, place);
-        }
+    if m as usize <= SHORT {
+        return check_in::<SHORT>(source, capacities, mapped, n, m);
     }
+    if m as usize <= MIDDLE {
+        return check_in::<MIDDLE>(source, capacities, mapped, n, m);
+    }
+    check_in::<RECORDS>(source, capacities, mapped, n, m)
+}
+
+// What every call with a mapped netlist checks first: 1, 26, 2 to 7, then 11 to 17.
+pub fn check_mapping(source: &[u8], capacities: Capacities, mapped: &[u8]) -> Result<(), Refusal>
+    ensures { numbered result ≡ verify_checks source.now capacities mapped.now }
+{
+    netlist::check_input(source, capacities)?;
     let n = record_count(source);
     if bad_length(n, mapped) {
-        return Checked::Refused(11, 0);
+        return Err(Refusal {
+            check: Check::MappedLength,
+            place: 0,
+        });
     }
     check_legal(
         source,
@@ -128,12 +118,9 @@ pub fn check_mapping(source: &[u8], capacities: Capacities, mapped: &[u8]) -> Ch
 }
 
 // The verifier: checks 1, 26, 2 to 7, then 11 to 17; a legal mapped netlist's buffers are all its records from the source's size on.
-pub fn verify(source: &[u8], capacities: Capacities, mapped: &[u8]) -> Verified
-    ensures { result ≡ verify_answer source.now capacities mapped.now }
+pub fn verify(source: &[u8], capacities: Capacities, mapped: &[u8]) -> Result<u32, Refusal>
+    ensures { told result Buffers Refused ≡ verify_answer source.now capacities mapped.now }
 {
-    let checked = check_mapping(source, capacities, mapped);
-    match checked {
-        Checked::Passed => Verified::Buffers((record_count(mapped) - record_count(source)) as u32),
-        Checked::Refused(number, place) => Verified::Refused(number, place),
-    }
+    check_mapping(source, capacities, mapped)?;
+    Ok((record_count(mapped) - record_count(source)) as u32)
 }

@@ -1,5 +1,6 @@
 // Check 16: every slot of a source record is traced back through buffers to the driver that it names.
 ghost use Rattle.std.specs.Prelude.{◌≡◌, ◌<◌, ◌≤◌, length};
+ghost use Rattle.facts.specs.Answers.{numbered};
 ghost use Rattle.facts.specs.Checks.{scan};
 ghost use Rattle.facts.specs.Sums.{any};
 ghost use Rattle.netlist.specs.Kinds;
@@ -8,8 +9,8 @@ ghost use Rattle.netlist.specs.Records.{netlist, record_count};
 ghost use Rattle.verifier.specs.PrivateWalking.{Sized, PlacesPassed, Known, known_driver, Walkable, Traceable, Traced, SlotsTraceable, SlotsTraced};
 ghost use Rattle.verifier.specs.Checks.{strays, trace_check};
 
-use facts::Checked;
-use netlist::{Record, arity, record_reader, slot};
+use facts::{Check, Refusal};
+use netlist::{Record, by_arity, record_reader, slot};
 
 // What stands for a driver that is not known yet.
 pub const UNKNOWN: u16 = 65535;
@@ -19,8 +20,8 @@ pub fn known(n: u32, drivers: &[u16], x: u16) -> u16
     requires { x < length drivers.now }
     ensures { result ≡ known_driver n drivers.now x }
 {
-    if n <= x as u32 {
-        drivers[x as usize]
+    if n <= u32::from(x) {
+        drivers[usize::from(x)]
     } else {
         x
     }
@@ -32,10 +33,10 @@ pub fn walk(mapped: &[u8], n: u32, drivers: &mut [u16], level: u16, x: u16) -> u
     requires { Traceable n (netlist mapped.now) drivers.old level x }
     ensures { Traced (netlist mapped.now) x result drivers.new }
 {
-    if (x as u32) < n {
+    if u32::from(x) < n {
         return x;
     }
-    let found = drivers[x as usize];
+    let found = drivers[usize::from(x)];
     if found != UNKNOWN {
         return found;
     }
@@ -54,9 +55,9 @@ fn walk_back(mapped: &[u8], n: u32, drivers: &mut [u16], level: u16, x: u16) -> 
         n,
         drivers,
         level - 1,
-        netlist::slot_at(mapped, x as usize, 0),
+        netlist::slot_at(mapped, usize::from(x), 0),
     );
-    drivers[x as usize] = d;
+    drivers[usize::from(x)] = d;
     d
 }
 
@@ -68,8 +69,7 @@ pub fn walk_buffers(mapped: &[u8], n: u32, m: u32, drivers: &mut [u16])
     requires known { Known (netlist mapped.now) drivers.old }
     ensures { Known (netlist mapped.now) drivers.new }
 {
-    let mut k = n;
-    while k < m {
+    for k in n..m {
         if drivers[k as usize] == UNKNOWN {
             walk_back(
                 mapped,
@@ -79,7 +79,6 @@ pub fn walk_buffers(mapped: &[u8], n: u32, m: u32, drivers: &mut [u16])
                 k as u16,
             );
         }
-        k += 1;
     }
 }
 
@@ -88,28 +87,21 @@ fn any_strays(mapped: &[u8], n: u32, drivers: &mut [u16], a: Record, r: Record, 
     requires { SlotsTraceable n (netlist mapped.now) drivers.old r used }
     ensures { SlotsTraced (netlist mapped.now) result (any (strays (netlist mapped.now) a r) used) drivers.new }
 {
-    let mut j: usize = 0;
-    while j < used {
+    for j in 0..used {
         if walk(mapped, n, drivers, r.level - 1, slot(r, j)) != slot(a, j) {
             return true;
         }
-        j += 1;
     }
     false
 }
 
-// The same of all used slots, by a path for each number of them.
+// The same of all used slots.
 fn used_strays(mapped: &[u8], n: u32, drivers: &mut [u16], a: Record, r: Record) -> bool
     requires { SlotsTraceable n (netlist mapped.now) drivers.old r (Kinds.arity a.kind) }
     ensures { SlotsTraced (netlist mapped.now) result (any (strays (netlist mapped.now) a r) (Kinds.arity a.kind)) drivers.new }
 {
-    let used = arity(a.kind);
-    match used {
-        0 => false,
-        1 => any_strays(mapped, n, drivers, a, r, 1),
-        2 => any_strays(mapped, n, drivers, a, r, 2),
-        _ => any_strays(mapped, n, drivers, a, r, netlist::SLOTS),
-    }
+    let mut strays = |used: usize| any_strays(mapped, n, drivers, a, r, used);
+    by_arity(a.kind, &mut strays)
 }
 
 // Check 16 of every source record, rising.
@@ -119,15 +111,14 @@ pub(crate) fn check_traces(
     n: u32,
     m: u32,
     drivers: &mut [u16],
-) -> Checked
+) -> Result<(), Refusal>
     requires sized { Sized (netlist source.now) (netlist mapped.now) n m }
     requires places_passed { PlacesPassed (netlist source.now) (netlist mapped.now) }
     requires known { Known (netlist mapped.now) drivers.old }
-    ensures { result ≡ scan (trace_check (netlist source.now) (netlist mapped.now)) 0 (record_count source.now) }
+    ensures { numbered result ≡ scan (trace_check (netlist source.now) (netlist mapped.now)) 0 (record_count source.now) }
 {
     walk_buffers(mapped, n, m, drivers);
-    let mut k: u32 = 0;
-    while k < n {
+    for k in 0..n {
         if used_strays(
             mapped,
             n,
@@ -135,9 +126,11 @@ pub(crate) fn check_traces(
             record_reader::read_at(source, k as usize),
             record_reader::read_at(mapped, k as usize),
         ) {
-            return Checked::Refused(16, k);
+            return Err(Refusal {
+                check: Check::Driver,
+                place: k,
+            });
         }
-        k += 1;
     }
-    Checked::Passed
+    Ok(())
 }

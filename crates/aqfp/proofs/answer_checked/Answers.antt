@@ -1,9 +1,12 @@
 -- `answer_checked` meets its contract: each case stores its own numbers.
-use Rattle.aqfp.proofs.Answers.{checked_passed, checked_refused}
+use Rattle.std.proofs.Common.{rules}
+use Rattle.facts.specs.Checks.{checked_numbers}
 use Rattle.aqfp.proofs.answer_checked.Goals as goal
 
-pub returns-in-Passed : goal.returns-in-Passed
-returns-in-Passed c = search checked_passed
+pub returns-in-Ok : goal.returns-in-Ok
+unfolding checked_numbers
+returns-in-Ok c = rw c.in-Ok.is (search rules)
 
-pub returns-in-Refused : goal.returns-in-Refused
-returns-in-Refused c = search checked_refused
+pub returns-in-Err : goal.returns-in-Err
+unfolding checked_numbers
+returns-in-Err c = rw (c.in-Err.is, ← c.number.ensures) (search rules)

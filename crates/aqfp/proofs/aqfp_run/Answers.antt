@@ -3,4 +3,4 @@ use Rattle.aqfp.proofs.Answers.{checked_as}
 use Rattle.aqfp.proofs.aqfp_run.Goals as goal
 
 pub returns : goal.returns
-returns c = search checked_as
+returns c = rw (← c.capacities_of-capacities.ensures) (search checked_as)

@@ -1,9 +1,6 @@
 -- `add_record` meets its contract: the slots below j are counted.
-use Rattle.fanout.proofs.Filling.{slots_start, slots_room, slots_more, slots_end}
+use Rattle.fanout.proofs.Filling.{slots_room, slots_more, slots_end}
 use Rattle.fanout.proofs.add_record.Goals as goal
-
-pub loop-j-init : goal.loop-j-init
-loop-j-init c = search slots_start
 
 pub add_slot-most-requires : goal.add_slot-most-requires
 add_slot-most-requires c = search slots_room

@@ -4,13 +4,13 @@ use Rattle.level_sheet.proofs.Sheets.{passed_countable, passed_length, passed_on
 use Rattle.level_sheet.proofs.write_sheet.Goals as goal
 
 pub put_sheet-requires : goal.put_sheet-requires
-put_sheet-requires c = search (rules, passed_countable)
+put_sheet-requires c = search (rules, passed_countable, c.in-Ok.ensures)
 
 pub put_line-requires : goal.put_line-requires
 put_line-requires c = search (rules, refusal_room)
 
-pub returns-in-Passed : goal.returns-in-Passed
-returns-in-Passed c = search (passed_length, passed_onto)
+pub returns-in-Ok : goal.returns-in-Ok
+returns-in-Ok c = search (passed_length, passed_onto, c.in-Ok.ensures)
 
-pub returns-in-Refused : goal.returns-in-Refused
-returns-in-Refused c = search (refused_length, refused_onto)
+pub returns-in-Err : goal.returns-in-Err
+returns-in-Err c = search (refused_length, refused_onto, c.in-Err.ensures)

@@ -20,7 +20,7 @@ returns-then-area-size c = record {
 
 pub write_mapped-buffers_price-requires : goal.write_mapped-buffers_price-requires
 write_mapped-buffers_price-requires c = record {
-  ready = (search counted_ready, search rules);
+  ready = search counted_ready;
   chained = search rules;
   n_value = search rules;
   row_value = search rules;
@@ -43,6 +43,6 @@ returns c =
     let pre = c.requires in
     let written = c.write_mapped-buffers_price.ensures in
     let gates = c.price_gates-gates_price.ensures in record {
-      value = mapped_answer _ _ _ _ _ _ _ pre.counted _ _ pre.applied_prices (search rules) (search rules) _ _ _ written.value gates c.accept.ensures;
-      area_after = mapped_area _ _ _ _ _ _ _ pre.counted _ _ pre.applied_prices (search rules) (search rules) _ written.area_after;
+      value = mapped_answer _ _ _ _ _ _ _ pre.counted _ _ c.args.job.prices.now.applied (search rules) (search rules) _ _ _ written.value gates c.accept.ensures;
+      area_after = mapped_area _ _ _ _ _ _ _ pre.counted _ _ c.args.job.prices.now.applied (search rules) (search rules) _ written.area_after;
     }

@@ -2,14 +2,14 @@
 use Rattle.mapper.proofs.Answering.{counted_all, refused_tree, kept_tree}
 use Rattle.nets.proofs.TreeCounts.{input_source}
 use Rattle.nets.proofs.Chains.{end_fits, link_start}
-use borrow.Author.Rules.{rules}
+use Rattle.std.proofs.Common.{rules, ◌≡◌, Err}
 use Rattle.mapper.proofs.map_with.Goals as goal
 
 pub overflow_cast-end : goal.overflow_cast-end
 overflow_cast-end c = search (rules, input_source, end_fits)
 
-pub size_trees-sizing-requires : goal.size_trees-sizing-requires
-size_trees-sizing-requires c = record {
+pub size_trees-requires : goal.size_trees-requires
+size_trees-requires c = record {
   capacities_value = search rules;
   n_value = (search rules, search rules);
   end_value = search rules;
@@ -18,19 +18,19 @@ size_trees-sizing-requires c = record {
 }
 
 pub map_trees-requires : goal.map_trees-requires
-map_trees-requires c = record {
-  counted = counted_all _ _ (search rules) _ (search rules) _ _ (search rules) c.in-Total.is _ _ _ (search rules);
-  row_value = search rules;
-  applied_prices = search rules;
-}
-
-pub shape_of-first-in-Total : goal.shape_of-first-in-Total
-shape_of-first-in-Total c = search (rules, c.size_trees-sizing.auto, c.empty_chains.auto)
-
-pub returns-in-Stops : goal.returns-in-Stops
-returns-in-Stops c =
-    let pre = c.requires in
+map_trees-requires c =
+    let sized = c.in_ok-total.ensures in
     record {
-      value = search (refused_tree, pre.capacities_value.0, pre.capacities_value.1);
-      area_after = search (kept_tree, pre.capacities_value.0, pre.capacities_value.1);
+      counted = counted_all _ _ (search rules) _ (search rules) _ sized.value sized.total _ _ _ (search rules);
+      row_value = search rules;
+    }
+
+pub returns-in_err-total : goal.returns-in_err-total
+returns-in_err-total c =
+    let e : c.from_residual.result ≡ Err c.in_err-total.field-0.0 = search rules in
+    let pre = c.requires in
+    let refused = c.in_err-total.ensures in
+    record {
+      value = rw e (search (refused_tree, pre.capacities_value, c.args.job.prices.now.applied, refused.value));
+      area_after = search (kept_tree, pre.capacities_value, c.args.job.prices.now.applied, refused.value);
     }

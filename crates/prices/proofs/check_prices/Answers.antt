@@ -1,17 +1,22 @@
--- `check_prices` meets its contract: the answer from position k on is the answer.
-use Rattle.facts.proofs.Loops.{scan_start}
-use Rattle.prices.proofs.Lists.{prices_more, prices_stop, prices_end}
-use borrow.Author.Rules.{rules}
+-- `check_prices` meets its contract: the first price of 0 is found, or none is there.
+use Rattle.std.proofs.Common.{rules, tests, ◌≡◌, ◌∙◌, sym, eqb, position}
+use Rattle.std.proofs.lemmas.Iterator.{YieldsList-from_slice}
+use Rattle.std.proofs.lemmas.Iterator.Search.{position_from_yields_List}
+use Rattle.facts.proofs.Chains.{position_refused, position_passed}
 use Rattle.prices.proofs.check_prices.Goals as goal
 
-pub loop-k-init : goal.loop-k-init
-loop-k-init c = search (rules, scan_start)
+pub returns-in-Some : goal.returns-in-Some
+returns-in-Some c =
+    let list = c.args.list.now in
+    let found : c.position.result ≡ position (λ x. eqb x 0) list =
+    position_from_yields_List _ _ _ _ c.position.ensures.ran (YieldsList-from_slice list cc) (λ x b q k. search (rules, tests))
+    in
+    position_refused (λ x. eqb x 0) list 28 _ (sym found ∙ c.in-Some.is)
 
-pub returns-then-list-k-eq0 : goal.returns-then-list-k-eq0
-returns-then-list-k-eq0 c = search prices_stop
-
-pub loop-k-preserved : goal.loop-k-preserved
-loop-k-preserved c = (search rules, search (rules, prices_more))
-
-pub returns : goal.returns
-returns c = search prices_end
+pub returns-in-None : goal.returns-in-None
+returns-in-None c =
+    let list = c.args.list.now in
+    let found : c.position.result ≡ position (λ x. eqb x 0) list =
+    position_from_yields_List _ _ _ _ c.position.ensures.ran (YieldsList-from_slice list cc) (λ x b q k. search (rules, tests))
+    in
+    position_passed (λ x. eqb x 0) list 28 (sym found ∙ c.in-None.is)

@@ -1,11 +1,6 @@
 -- `read_prices` meets its contract: the prices below position k are read.
-use Prim.Native.Nat.{◌-◌}
-use lib.ListN.{length}
 use Rattle.prices.proofs.Lists.{Reading}
 use Rattle.prices.proofs.read_prices.Given as goal
 
 abbrev pub invariant-loop-k : goal.invariant-loop-k
 invariant-loop-k l = Reading l.list l.prices l.k
-
-abbrev pub decreases-loop-k : goal.decreases-loop-k
-decreases-loop-k l = length l.list - l.k

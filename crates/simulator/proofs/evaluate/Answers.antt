@@ -1,22 +1,19 @@
 -- `evaluate` meets its contract: the area is written where the checks passed, and is as it was where they did not.
-use Rattle.simulator.proofs.Checks.{answer_is, evaluate_source_is, evaluate_room, evaluated, area_writes, area_keeps}
+use Rattle.std.proofs.Common.{rules}
+use Rattle.simulator.proofs.Checks.{evaluate_source_is, evaluate_room, evaluated, area_writes, area_keeps}
 use Rattle.simulator.specs.Evaluate.{evaluate_area}
-use borrow.Author.Rules.{rules}
 use Rattle.simulator.proofs.evaluate.Goals as goal
 
-pub fill-requires : goal.fill-requires
-fill-requires c = search (rules, evaluate_source_is, evaluate_room)
-
-pub returns-in-Passed : goal.returns-in-Passed
+pub returns-in_err-check_evaluate-clause-area : goal.returns-in_err-check_evaluate-clause-area
 unfolding evaluate_area
-returns-in-Passed c = record {
-  answer = search answer_is;
-  area = search (area_writes, evaluated);
-}
+returns-in_err-check_evaluate-clause-area c = search (area_keeps, c.in_err-check_evaluate.ensures)
 
-pub returns-in-Refused : goal.returns-in-Refused
+pub fill-requires-clause-source : goal.fill-requires-clause-source
+fill-requires-clause-source c = search (evaluate_source_is, c.in_ok-check_evaluate.ensures)
+
+pub fill-requires-clause-sizes : goal.fill-requires-clause-sizes
+fill-requires-clause-sizes c = search (rules, evaluate_room, c.in_ok-check_evaluate.ensures)
+
+pub returns-clause-area : goal.returns-clause-area
 unfolding evaluate_area
-returns-in-Refused c = record {
-  answer = search answer_is;
-  area = search area_keeps;
-}
+returns-clause-area c = search (area_writes, evaluated, c.in_ok-check_evaluate.ensures)

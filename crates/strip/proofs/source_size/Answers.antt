@@ -1,11 +1,7 @@
 -- `source_size` meets its contract: what the search finds from k on is what it finds in all.
 use borrow.Author.Rules.{rules}
-use Rattle.facts.proofs.Loops.{seek_start}
 use Rattle.strip.proofs.Sources.{size_here, size_more, size_end}
 use Rattle.strip.proofs.source_size.Goals as goal
-
-pub loop-k-init : goal.loop-k-init
-loop-k-init c = search (rules, seek_start)
 
 pub returns-then-kind_within-eq-BUFFER : goal.returns-then-kind_within-eq-BUFFER
 returns-then-kind_within-eq-BUFFER c = search size_here

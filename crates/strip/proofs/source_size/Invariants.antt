@@ -1,5 +1,4 @@
 -- `source_size` meets its contract: what the search finds from k on is what it finds in all.
-use Prim.Native.Nat.{◌-◌}
 use mathlib.Core.Path.{◌≡◌}
 use Rattle.facts.proofs.Loops.{Seeking}
 use Rattle.netlist.specs.Records.{netlist, record_count}
@@ -8,6 +7,3 @@ use Rattle.strip.proofs.source_size.Given as goal
 
 abbrev pub invariant-loop-k : goal.invariant-loop-k
 invariant-loop-k l = (l.m ≡ record_count l.mapped) × Seeking (is_buffer (netlist l.mapped)) l.m l.k
-
-abbrev pub decreases-loop-k : goal.decreases-loop-k
-decreases-loop-k l = l.m - l.k

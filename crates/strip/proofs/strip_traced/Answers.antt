@@ -2,14 +2,14 @@
 use Rattle.strip.proofs.Answering.{none_answered, none_kept, judged_refused, judged_answered, judged_written}
 use Rattle.strip.proofs.strip_traced.Goals as goal
 
-pub returns-in-Passed : goal.returns-in-Passed
-returns-in-Passed c = record {
-  value = search judged_answered;
-  area_after = search judged_written;
+pub returns-in-Ok : goal.returns-in-Ok
+returns-in-Ok c = record {
+  value = search (judged_answered, c.in-Ok.ensures);
+  area_after = search (judged_written, c.in-Ok.ensures);
 }
 
-pub returns-in-Refused : goal.returns-in-Refused
-returns-in-Refused c = record {
-  value = search (none_answered, judged_refused);
-  area_after = search (none_kept, judged_refused);
+pub returns-in-Err : goal.returns-in-Err
+returns-in-Err c = record {
+  value = search (none_answered, judged_refused, c.in-Err.ensures);
+  area_after = search (none_kept, judged_refused, c.in-Err.ensures);
 }

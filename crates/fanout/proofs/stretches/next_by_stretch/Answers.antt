@@ -2,8 +2,8 @@
 use Rattle.fanout.proofs.EmptyStretches.{next_none, next_found}
 use Rattle.fanout.proofs.stretches.next_by_stretch.Goals as goal
 
-pub returns-then-word-eq0 : goal.returns-then-word-eq0
-returns-then-word-eq0 c = search next_none
+pub returns-in-Some : goal.returns-in-Some
+returns-in-Some c = let h = c.in-Some.ensures in search (next_found, h.power_le, h.next_power_gt)
 
-pub returns : goal.returns
-returns c = search next_found
+pub returns-in-None : goal.returns-in-None
+returns-in-None c = let h = c.in-None.ensures in search (next_none, h.none)

@@ -1,10 +1,9 @@
 -- `line_count` meets its contract: one more than the highest level of the records below k.
-use borrow.Author.Rules.{rules}
 use Rattle.level_sheet.proofs.Table.{lines_start, lines_more, lines_end}
 use Rattle.level_sheet.proofs.counting.line_count.Goals as goal
 
 pub loop-k-init : goal.loop-k-init
-loop-k-init c = search (rules, lines_start)
+loop-k-init c = lines_start c.args.mapped.now
 
 pub loop-k-preserved : goal.loop-k-preserved
 loop-k-preserved c = search lines_more

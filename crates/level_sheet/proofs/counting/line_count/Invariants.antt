@@ -1,10 +1,6 @@
 -- `line_count` meets its contract: one more than the highest level of the records below k.
-use Prim.Native.Nat.{◌-◌}
 use Rattle.level_sheet.proofs.Table.{LinesSoFar}
 use Rattle.level_sheet.proofs.counting.line_count.Given as goal
 
 abbrev pub invariant-loop-k : goal.invariant-loop-k
-invariant-loop-k l = LinesSoFar l.mapped l.m l.lines l.k
-
-abbrev pub decreases-loop-k : goal.decreases-loop-k
-decreases-loop-k l = l.m - l.k
+invariant-loop-k l = LinesSoFar l.mapped l.lines l.k

@@ -1,16 +1,11 @@
 -- `put_sum` meets its contract: the word, then the totals behind it.
-use borrow.Author.Rules.{rules}
-use Rattle.level_sheet.proofs.Lines.{word_room, tail_room, both_end, both_put, both_same}
+use Rattle.std.proofs.Common.{rules, ◌++◌, drop}
+use mathlib.Core.Path.{refl}
+use Rattle.level_sheet.proofs.Lines.{onto_behind}
+use Rattle.level_sheet.specs.Text.{numbers_behind, sum_word}
 use Rattle.level_sheet.proofs.writing.put_sum.Goals as goal
 
-pub put_sum_word-end-requires : goal.put_sum_word-end-requires
-put_sum_word-end-requires c = search (rules, word_room)
-
-pub put_numbers-requires : goal.put_numbers-requires
-put_numbers-requires c = search (rules, tail_room)
-
-pub shape_of-text : goal.shape_of-text
-shape_of-text c = search (rules, both_same)
-
-pub returns : goal.returns
-returns c = search (both_end, both_put)
+pub returns-clause-text_after : goal.returns-clause-text_after
+returns-clause-text_after c =
+    let word = c.copy_from_slice.new.self ++ drop 3 c.args.text.now in
+    onto_behind sum_word (numbers_behind c.args.totals.now) c.args.text.now word c.put_numbers.new.text 3 refl (search rules) (search rules)

@@ -1,10 +1,6 @@
 -- `check_records` meets its contract: the records below k are checked and counted.
-use Prim.Native.Nat.{◌-◌}
 use Rattle.levels.proofs.SinkCounts.{CountedBelow}
 use Rattle.levels.proofs.counting.check_records.Given as goal
 
 abbrev pub invariant-loop-k : goal.invariant-loop-k
 invariant-loop-k l = CountedBelow l.source l.n l.k l.initial.sinks l.sinks
-
-abbrev pub decreases-loop-k : goal.decreases-loop-k
-decreases-loop-k l = l.n - l.k

@@ -12,8 +12,8 @@ overflow_cast-end c = search (rules, input_source, end_fits)
 pub empty_chains-requires : goal.empty_chains-requires
 empty_chains-requires c = search (rules, input_source, records_few)
 
-pub size_trees-sizing-requires : goal.size_trees-sizing-requires
-size_trees-sizing-requires c = record {
+pub size_trees-sized-requires : goal.size_trees-sized-requires
+size_trees-sized-requires c = record {
   capacities_value = search rules;
   n_value = (search rules, search (rules, input_source, records_few));
   end_value = search rules;
@@ -23,7 +23,8 @@ size_trees-sizing-requires c = record {
 
 pub counted_ends-requires : goal.counted_ends-requires
 counted_ends-requires c =
-    sized_all _ _ (search rules) _ (search rules) _ _ (search rules) c.in-Total.is _ (search rules) (search (rules, input_source, records_few))
+    let sized = c.in-Ok.ensures in
+    sized_all _ _ (search rules) _ (search rules) _ sized.value sized.total _ (search rules) (search (rules, input_source, records_few))
 
-pub returns-in-Stops : goal.returns-in-Stops
-returns-in-Stops c = search ends_tree
+pub returns-in-Err : goal.returns-in-Err
+returns-in-Err c = let refused = c.in-Err.ensures in search (rules, ends_tree, refused.value)

@@ -1,17 +1,12 @@
 -- `price_distances` meets its contract: the distances below k are priced.
 use Rattle.mapper.proofs.PriceWalk.{pricing_start, pricing_nodes, pricing_fits, pricing_more, pricing_end}
-use borrow.Author.Rules.{rules}
 use Rattle.mapper.proofs.pricing.price_distances.Goals as goal
 
 pub loop-k-init : goal.loop-k-init
 loop-k-init c = search pricing_start
 
-pub price_level-total-requires : goal.price_level-total-requires
-price_level-total-requires c = record {
-  applied_prices = search rules;
-  le_s = search rules;
-  n_bound = search pricing_nodes;
-}
+pub price_level-total-requires-clause-n_bound : goal.price_level-total-requires-clause-n_bound
+price_level-total-requires-clause-n_bound c = search pricing_nodes
 
 pub overflow_add-total : goal.overflow_add-total
 overflow_add-total c = search pricing_fits

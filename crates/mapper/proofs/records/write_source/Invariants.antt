@@ -1,5 +1,4 @@
 -- `write_source` meets its contract: the first i records are written.
-use Prim.Native.Nat.{◌-◌}
 use Rattle.netlist.specs.Records.{record_count}
 use Rattle.mapper.specs.PrivateWriting.{relinked_at}
 use Rattle.netlist.proofs.Bytes.{RecordsSoFar}
@@ -7,6 +6,3 @@ use Rattle.mapper.proofs.records.write_source.Given as goal
 
 abbrev pub invariant-loop-i : goal.invariant-loop-i
 invariant-loop-i l = RecordsSoFar l.initial.area 0 (relinked_at l.source l.parents) (record_count l.source) l.area l.i
-
-abbrev pub decreases-loop-i : goal.decreases-loop-i
-decreases-loop-i l = record_count l.source - l.i

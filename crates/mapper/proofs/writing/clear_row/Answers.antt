@@ -1,9 +1,6 @@
--- `clear_row` meets its contract: entries below k are zero, and those beyond top.
-use Rattle.mapper.proofs.ClearedRow.{clear_more, clear_end}
+-- `clear_row` meets its contract: entries up to top are written, and those beyond are zero.
+use Rattle.mapper.proofs.ClearedRow.{cleared}
 use Rattle.mapper.proofs.writing.clear_row.Goals as goal
 
-pub loop-k-preserved : goal.loop-k-preserved
-loop-k-preserved c = search clear_more
-
 pub returns : goal.returns
-returns c = search clear_end
+returns c = cleared c.args.row.now c.args.top c.requires c.fill.new.self (c.fill.ensures.after (λ y e. e))

@@ -5,5 +5,5 @@ use Rattle.mapper.proofs.writing.line_parent.Goals as goal
 pub returns-then-k-lt2 : goal.returns-then-k-lt2
 returns-then-k-lt2 c = search line_near
 
-pub returns : goal.returns
-returns c = search line_far
+pub returns-else-k-lt2 : goal.returns-else-k-lt2
+returns-else-k-lt2 c = search line_far

@@ -1,5 +1,5 @@
 -- `write_line` meets its contract: the first j buffers are written.
-use Rattle.netlist.proofs.Bytes.{written_start, written_end}
+use Rattle.netlist.proofs.Bytes.{written_start}
 use Rattle.mapper.proofs.WriteRecords.{line_more}
 use Rattle.mapper.proofs.writing.write_line.Goals as goal
 
@@ -8,6 +8,3 @@ loop-j-init c = search written_start
 
 pub loop-j-preserved : goal.loop-j-preserved
 loop-j-preserved c = search line_more
-
-pub returns : goal.returns
-returns c = search written_end

@@ -1,11 +1,7 @@
 -- `write_line` meets its contract: the first j buffers are written.
-use Prim.Native.Nat.{◌-◌}
 use Rattle.mapper.specs.PrivateWriting.{line_record}
 use Rattle.netlist.proofs.Bytes.{RecordsSoFar}
 use Rattle.mapper.proofs.writing.write_line.Given as goal
 
 abbrev pub invariant-loop-j : goal.invariant-loop-j
 invariant-loop-j l = RecordsSoFar l.initial.area l.start (line_record l.d l.start l.low) l.n l.area l.j
-
-abbrev pub decreases-loop-j : goal.decreases-loop-j
-decreases-loop-j l = l.n - l.j

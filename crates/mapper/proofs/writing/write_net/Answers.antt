@@ -8,18 +8,14 @@ use Rattle.mapper.proofs.writing.write_net.Goals as goal
 
 pub overflow_sub-n : goal.overflow_sub-n
 overflow_sub-n c =
-    (few_sinks _ _ _ _ _ c.chain_of-chain.ensures c.in-Short.is).above
+    (few_sinks _ _ _ _ _ c.of_driver-chain.ensures c.in-Short.is).above
 
-pub set_line_parents-requires : goal.set_line_parents-requires
-set_line_parents-requires c = record {
-  chained = search rules;
-  d_bound = search rules;
-  start_le_mapped_limit = search line_start;
-}
+pub set_line_parents-requires-clause-start_le_mapped_limit : goal.set_line_parents-requires-clause-start_le_mapped_limit
+set_line_parents-requires-clause-start_le_mapped_limit c = search line_start
 
 pub write_line-requires : goal.write_line-requires
 write_line-requires c =
-    let few = few_sinks _ _ _ _ _ c.chain_of-chain.ensures c.in-Short.is in
+    let few = few_sinks _ _ _ _ _ c.of_driver-chain.ensures c.in-Short.is in
     record {
       n_in_bounds = search (line_room, few);
       d_bound = (search rules, search (line_fits, few), search (line_levels, few));
@@ -27,16 +23,13 @@ write_line-requires c =
 
 pub overflow_add-result : goal.overflow_add-result
 overflow_add-result c =
-    let few = few_sinks _ _ _ _ _ c.chain_of-chain.ensures c.in-Short.is in
+    let few = few_sinks _ _ _ _ _ c.of_driver-chain.ensures c.in-Short.is in
     search (line_next, few)
 
 pub price_line-requires : goal.price_line-requires
 price_line-requires c =
-    let few = few_sinks _ _ _ _ _ c.chain_of-chain.ensures c.in-Short.is in
-    record {
-      applied_prices = search rules;
-      n_lt_top_level = (search (line_near, few), search (line_behind, few));
-    }
+    let few = few_sinks _ _ _ _ _ c.of_driver-chain.ensures c.in-Short.is in
+    (search (line_near, few), search (line_behind, few))
 
 pub returns-in-Empty : goal.returns-in-Empty
 returns-in-Empty c = record {
@@ -46,7 +39,7 @@ returns-in-Empty c = record {
 
 pub returns-in-Short : goal.returns-in-Short
 returns-in-Short c =
-    let few = few_sinks _ _ _ _ _ c.chain_of-chain.ensures c.in-Short.is in
+    let few = few_sinks _ _ _ _ _ c.of_driver-chain.ensures c.in-Short.is in
     record {
       wrote = search (net_line, few);
       price_value = c.price_line.ensures ∙ line_price_lem _ _ _ _ _ _ c.requires.writable.ready.allowed.low few;

@@ -1,5 +1,4 @@
 -- `write_nets` meets its contract: the nets of the drivers below d are written and priced.
-use Prim.Native.Nat.{◌-◌}
 use mathlib.Core.Path.{◌≡◌}
 use lib.ListN.{length}
 use Rattle.facts.specs.Sums.{sum}
@@ -9,7 +8,4 @@ use Rattle.mapper.proofs.WriteNets.{NetsWritten}
 use Rattle.mapper.proofs.writing.write_nets.Given as goal
 
 abbrev pub invariant-loop-d : goal.invariant-loop-d
-invariant-loop-d l = NetsWritten (netlist l.source) l.capacities l.first l.end l.initial.area l.d l.at l.next l.row l.base l.area × (length l.next ≡ length l.initial.next) × (l.total ≡ sum (tree_price l.prices (netlist l.source) l.capacities) l.d)
-
-abbrev pub decreases-loop-d : goal.decreases-loop-d
-decreases-loop-d l = l.n - l.d
+invariant-loop-d l = NetsWritten (netlist l.job.source.now) l.job.capacities l.first l.end l.initial.area l.d l.at l.next l.row l.base l.area × (length l.next ≡ length l.initial.next) × (l.total ≡ sum (tree_price l.job.prices.now.list (netlist l.job.source.now) l.job.capacities) l.d)

@@ -1,29 +1,13 @@
--- `store` meets its contract: ten stores write a part of ten bytes whole.
-use native.Mathlib.Omega.{arith}
-use lib.ListN.{length-set}
+-- `store` meets its contract: its stores write a part of ten bytes whole.
+use mathlib.Core.Path.{ap, ◌∙◌}
+use Rattle.facts.specs.Bytes.{two_bytes}
 use Rattle.netlist.proofs.Bytes.{stored}
 use Rattle.netlist.proofs.record_writer.store.Goals as goal
 
-pub bounds-part-4 : goal.bounds-part-4
-bounds-part-4 c = simp length-set (omega arith)
-
-pub bounds-part-5 : goal.bounds-part-5
-bounds-part-5 c = simp length-set (omega arith)
-
-pub bounds-part-6 : goal.bounds-part-6
-bounds-part-6 c = simp length-set (omega arith)
-
-pub bounds-part-7 : goal.bounds-part-7
-bounds-part-7 c = simp length-set (omega arith)
-
-pub bounds-part-8 : goal.bounds-part-8
-bounds-part-8 c = simp length-set (omega arith)
-
-pub bounds-part-9 : goal.bounds-part-9
-bounds-part-9 c = simp length-set (omega arith)
-
-pub shape_of-part : goal.shape_of-part
-shape_of-part c = simp length-set
-
 pub returns : goal.returns
-returns c = search stored
+returns c =
+    stored c.args.r _ _ _ _ c.args.part.now c.requires
+    (c.copy_from_slice.ensures.after ∙ c.to_le_bytes.ensures)
+    (c.copy_from_slice-2.ensures.after ∙ c.to_le_bytes-2.ensures ∙ ap two_bytes c.slot.ensures)
+    (c.copy_from_slice-3.ensures.after ∙ c.to_le_bytes-3.ensures ∙ ap two_bytes c.slot-2.ensures)
+    (c.copy_from_slice-4.ensures.after ∙ c.to_le_bytes-4.ensures ∙ ap two_bytes c.slot-3.ensures)

@@ -1,6 +1,5 @@
 -- `bad_slots` meets its contract: no slot below j is bad, until one is or all are passed.
 use Rattle.facts.proofs.Loops.{NoneYet}
-use Prim.Native.Nat.{◌-◌}
 use Rattle.netlist.specs.Kinds.{slots}
 use Rattle.netlist.specs.Records.{netlist}
 use Rattle.netlist.specs.Checks.{bad_slot}
@@ -8,6 +7,3 @@ use Rattle.netlist.proofs.source_reader.bad_slots.Given as goal
 
 abbrev pub invariant-loop-j : goal.invariant-loop-j
 invariant-loop-j l = NoneYet (bad_slot (netlist l.bytes) l.k l.r) slots l.j
-
-abbrev pub decreases-loop-j : goal.decreases-loop-j
-decreases-loop-j l = slots - l.j

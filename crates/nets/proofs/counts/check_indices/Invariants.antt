@@ -1,5 +1,4 @@
 -- `check_indices` meets its contract: the answer from index k on is the answer.
-use Prim.Native.Nat.{◌-◌}
 use mathlib.Core.Path.{◌≡◌}
 use Rattle.facts.proofs.Loops.{Scanning}
 use Rattle.nets.specs.Counts.{index_count, index_check}
@@ -7,6 +6,3 @@ use Rattle.nets.proofs.counts.check_indices.Given as goal
 
 abbrev pub invariant-loop-k : goal.invariant-loop-k
 invariant-loop-k l = (l.n ≡ index_count l.records) × Scanning (index_check l.source l.records) (index_count l.records) l.k
-
-abbrev pub decreases-loop-k : goal.decreases-loop-k
-decreases-loop-k l = l.n - l.k

@@ -1,6 +1,4 @@
 -- `write_counts` meets its contract: the numbers of the indices before k are stored.
-use Prim.Native.Nat.{◌-◌}
-use mathlib.Core.Path.{◌≡◌}
 use lib.ListN.{get_or}
 use Rattle.facts.proofs.Stored.{Stored}
 use Rattle.nets.specs.Counts.{index_count, index_at}
@@ -8,7 +6,4 @@ use Rattle.nets.proofs.counts.write_counts.Given as goal
 
 abbrev pub invariant-loop-k : goal.invariant-loop-k
 invariant-loop-k l =
-    (l.listed ≡ index_count l.records) × Stored (λ i. get_or l.totals (index_at l.records i) 0) (index_count l.records) l.k l.counts l.initial.counts
-
-abbrev pub decreases-loop-k : goal.decreases-loop-k
-decreases-loop-k l = l.listed - l.k
+    Stored (λ i. get_or l.totals (index_at l.records i) 0) (index_count l.records) l.k l.counts l.initial.counts

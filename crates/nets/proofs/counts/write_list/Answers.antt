@@ -11,26 +11,23 @@ overflow_cast-end c = search (rules, list_input, input_source, end_fits)
 pub empty_chains-requires : goal.empty_chains-requires
 empty_chains-requires c = search (rules, list_input, input_source, records_few)
 
-pub link_all-requires : goal.link_all-requires
-link_all-requires c = record {
-  source = search (list_input, input_source);
-  n_value = search rules;
-  linked = search (rules, list_input, input_source, slots_few, all_unused, link_start);
-}
+pub link_all-requires-clause-source : goal.link_all-requires-clause-source
+link_all-requires-clause-source c = search (list_input, input_source)
 
-pub count_each-requires : goal.count_each-requires
-count_each-requires c = record {
-  chained = search (rules, list_chained);
-  allowed = search (list_input, input_allowed);
-  n_value = (search rules, search (rules, list_input, input_source, records_few));
-  row_value = search rules;
-}
+pub link_all-requires-clause-linked : goal.link_all-requires-clause-linked
+link_all-requires-clause-linked c = search (rules, list_input, input_source, slots_few, all_unused, link_start)
 
-pub write_counts-requires : goal.write_counts-requires
-write_counts-requires c = record {
-  indices_in = search list_inside;
-  counts_len = search list_long;
-}
+pub count_each-requires-clause-chained : goal.count_each-requires-clause-chained
+count_each-requires-clause-chained c = search (rules, list_chained)
+
+pub count_each-requires-clause-allowed : goal.count_each-requires-clause-allowed
+count_each-requires-clause-allowed c = search (list_input, input_allowed)
+
+pub write_counts-requires-clause-indices_in : goal.write_counts-requires-clause-indices_in
+write_counts-requires-clause-indices_in c = search list_inside
+
+pub write_counts-requires-clause-counts_len : goal.write_counts-requires-clause-counts_len
+write_counts-requires-clause-counts_len c = search list_long
 
 pub returns : goal.returns
 returns c = search list_area

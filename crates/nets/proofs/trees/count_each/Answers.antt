@@ -1,6 +1,6 @@
 -- `count_each` meets its contract: the nets of the records before d are counted.
 use Rattle.nets.proofs.Chains.{chained_from}
-use Rattle.nets.proofs.TreeCounts.{count_start, count_inside, count_fits, count_more, count_stop, count_end, count_numbers_lem}
+use Rattle.nets.proofs.TreeCounts.{count_start, count_inside, count_fits, count_more, count_stop, count_end, count_total, count_numbers_lem}
 use borrow.Author.Rules.{rules}
 use Rattle.nets.proofs.trees.count_each.Goals as goal
 
@@ -27,6 +27,7 @@ loop-d-preserved c = (search (rules, count_more), search rules)
 pub returns-then-stop-n : goal.returns-then-stop-n
 returns-then-stop-n c = record {
   value = search count_stop;
+  total = search rules;
   row_after = search rules;
   net_numbers = search count_numbers_lem;
 }
@@ -34,6 +35,7 @@ returns-then-stop-n c = record {
 pub returns : goal.returns
 returns c = record {
   value = search count_end;
+  total = search count_total;
   row_after = search rules;
   net_numbers = search count_numbers_lem;
 }

@@ -1,5 +1,4 @@
 -- `count_each` meets its contract: the nets of the records before d are counted.
-use Prim.Native.Nat.{◌-◌}
 use mathlib.Core.Path.{◌≡◌}
 use lib.ListN.{length}
 use Rattle.netlist.specs.Records.{netlist}
@@ -9,6 +8,3 @@ use Rattle.nets.proofs.trees.count_each.Given as goal
 abbrev pub invariant-loop-d : goal.invariant-loop-d
 invariant-loop-d l =
     Counting (netlist l.source) l.capacities l.n l.row l.totals l.stop l.total l.d × (length l.totals ≡ length l.initial.totals)
-
-abbrev pub decreases-loop-d : goal.decreases-loop-d
-decreases-loop-d l = l.n - l.d

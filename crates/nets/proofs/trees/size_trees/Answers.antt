@@ -21,6 +21,7 @@ count_each-requires c = record {
 pub returns : goal.returns
 returns c = record {
   value = search rules;
+  total = search rules;
   chained = search input_chained;
   row_after = search rules;
   net_numbers = search rules;

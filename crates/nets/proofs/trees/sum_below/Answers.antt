@@ -1,16 +1,16 @@
--- `sum_below` meets its contract: the total is that of the numbers before d.
-use Rattle.nets.proofs.TreeCounts.{sum_start, sum_fits, sum_more, sum_end}
+-- `sum_below` meets its contract: the chain sums the first m numbers.
+use mathlib.Core.Path.{◌≡◌, ◌∙◌}
+use lib.ListN.{take}
+use Rattle.std.specs.List.{sum_by}
+use Rattle.std.proofs.iter.runs.Made.{chains}
+use Rattle.nets.proofs.TreeCounts.{sum_listed, sum_fits}
 use borrow.Author.Rules.{rules}
 use Rattle.nets.proofs.trees.sum_below.Goals as goal
 
-pub loop-d-init : goal.loop-d-init
-loop-d-init c = search sum_start
-
-pub overflow_add-total : goal.overflow_add-total
-overflow_add-total c = search (rules, sum_fits)
-
-pub loop-d-preserved : goal.loop-d-preserved
-loop-d-preserved c = search (rules, sum_more)
+pub sum-requires-clause-fits : goal.sum-requires-clause-fits
+sum-requires-clause-fits c = let l = sum_fits c.args.totals.now c.args.m c.requires c.type_inv.totals in search (rules, chains)
 
 pub returns : goal.returns
-returns c = sum_end _ _ _ _ c.loop-d.invariant (search rules)
+returns c =
+    let e : c.sum.result ≡ sum_by (λ x. x) (take c.args.m c.args.totals.now) = search (rules, chains) in
+    e ∙ sum_listed c.args.totals.now c.args.m c.requires.0

@@ -1,16 +1,19 @@
 -- `check_run` meets its contract: the verifier first, the areas where it accepted.
+use Rattle.std.proofs.Common.{rules, ◌≡◌, Err}
 use Rattle.facts.proofs.Reflect.{then_stop, then_go}
 use Rattle.simulator.proofs.Checks.{judged_few}
 use Rattle.simulator.specs.Run.{run_answer}
 use Rattle.simulator.proofs.area_checks.check_run.Goals as goal
 
-pub check_rows-requires : goal.check_rows-requires
-check_rows-requires c = search judged_few
-
-pub returns-in-Passed : goal.returns-in-Passed
+pub returns-in_err-check_mapping : goal.returns-in_err-check_mapping
 unfolding run_answer
-returns-in-Passed c = search then_go
+returns-in_err-check_mapping c =
+    let e : c.from_residual.result ≡ Err c.in_err-check_mapping.field-0.0 = search rules in
+    rw e (search (then_stop, c.in_err-check_mapping.ensures))
 
-pub returns-in-Refused : goal.returns-in-Refused
+pub invariant_of-check_rows : goal.invariant_of-check_rows
+invariant_of-check_rows c = search (judged_few, c.in_ok-check_mapping.ensures)
+
+pub returns : goal.returns
 unfolding run_answer
-returns-in-Refused c = search then_stop
+returns c = search (then_go, c.in_ok-check_mapping.ensures)

@@ -1,10 +1,6 @@
 -- `collect` meets its contract: the output bytes of the first i records are written, in index order.
-use Prim.Native.Nat.{◌-◌}
 use Rattle.simulator.proofs.Playing.{Collecting}
 use Rattle.simulator.proofs.phase_run.collect.Given as goal
 
 abbrev pub invariant-loop-i : goal.invariant-loop-i
-invariant-loop-i l = Collecting l.source l.state l.n l.k l.i l.row l.initial.row
-
-abbrev pub decreases-loop-i : goal.decreases-loop-i
-decreases-loop-i l = l.n - l.i
+invariant-loop-i l = Collecting l.source l.state l.i-end l.k l.i l.row l.initial.row

@@ -1,19 +1,13 @@
 -- `fill` meets its contract: the first i bytes are plain logic's, each worked out from those before it.
 use borrow.Author.Rules.{rules}
-use Rattle.simulator.proofs.Writes.{passing_fits, filling_wired, filling_start, filling_more, filling_end}
+use Rattle.simulator.proofs.Writes.{filling_wired, filling_start, filling_more, filling_end}
 use Rattle.simulator.proofs.plain_logic.fill.Goals as goal
 
 pub loop-i-init : goal.loop-i-init
 loop-i-init c = search (rules, filling_start)
 
-pub next_byte-requires : goal.next_byte-requires
-next_byte-requires c = record {
-  i_bound = search rules;
-  wired = search filling_wired;
-}
-
-pub overflow_add-given : goal.overflow_add-given
-overflow_add-given c = record { fits = search (rules, passing_fits) }
+pub invariant_of-next_byte : goal.invariant_of-next_byte
+invariant_of-next_byte c = search filling_wired
 
 pub loop-i-preserved : goal.loop-i-preserved
 loop-i-preserved c = (search rules, search filling_more)

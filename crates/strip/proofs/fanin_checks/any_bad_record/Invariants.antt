@@ -1,5 +1,4 @@
 -- `any_bad_record` meets its contract: no record below k is bad, until one is or all are passed.
-use Prim.Native.Nat.{◌-◌}
 use Rattle.netlist.specs.Records.{netlist}
 use Rattle.facts.proofs.Loops.{NoneYet}
 use Rattle.strip.specs.PrivateTracing.{bad_fanins}
@@ -7,6 +6,3 @@ use Rattle.strip.proofs.fanin_checks.any_bad_record.Given as goal
 
 abbrev pub invariant-loop-k : goal.invariant-loop-k
 invariant-loop-k l = NoneYet (bad_fanins (netlist l.mapped)) l.n l.k
-
-abbrev pub decreases-loop-k : goal.decreases-loop-k
-decreases-loop-k l = l.n - l.k

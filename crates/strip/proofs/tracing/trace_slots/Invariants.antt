@@ -1,5 +1,4 @@
 -- `trace_slots` meets its contract: the first j slots are traced.
-use Prim.Native.Nat.{◌-◌}
 use mathlib.Core.Path.{◌≡◌}
 use lib.ListN.{length}
 use Rattle.netlist.specs.Records.{netlist}
@@ -8,6 +7,3 @@ use Rattle.strip.proofs.tracing.trace_slots.Given as goal
 
 abbrev pub invariant-loop-j : goal.invariant-loop-j
 invariant-loop-j l = SlotsSoFar (netlist l.mapped) l.r l.used l.slots l.drivers l.j × (length l.drivers ≡ length l.initial.drivers)
-
-abbrev pub decreases-loop-j : goal.decreases-loop-j
-decreases-loop-j l = l.used - l.j

@@ -1,6 +1,6 @@
 -- `write_left` meets its contract: the first k records are written.
 use borrow.Author.Rules.{rules}
-use Rattle.strip.proofs.TracedRecords.{left_start, left_end, left_inside, left_room, left_slots, left_more}
+use Rattle.strip.proofs.TracedRecords.{left_start, left_end, left_inside, left_slots, left_more}
 use Rattle.strip.proofs.tracing.write_left.Goals as goal
 
 pub loop-k-init : goal.loop-k-init
@@ -11,9 +11,6 @@ read_at-r-requires c = search (rules, left_inside)
 
 pub trace_used-traced-requires : goal.trace_used-traced-requires
 trace_used-traced-requires c = search (rules, left_slots)
-
-pub write_record-requires : goal.write_record-requires
-write_record-requires c = search (rules, left_room)
 
 pub loop-k-preserved : goal.loop-k-preserved
 loop-k-preserved c = (search left_more, (search rules, search rules))

@@ -1,5 +1,4 @@
 -- `write_left` meets its contract: the first k records are written.
-use Prim.Native.Nat.{◌-◌}
 use mathlib.Core.Path.{◌≡◌}
 use lib.ListN.{length}
 use Rattle.strip.proofs.TracedRecords.{LeftSoFar}
@@ -7,6 +6,3 @@ use Rattle.strip.proofs.tracing.write_left.Given as goal
 
 abbrev pub invariant-loop-k : goal.invariant-loop-k
 invariant-loop-k l = LeftSoFar l.mapped l.n l.initial.source l.source l.drivers l.k × ((length l.drivers ≡ length l.initial.drivers) × (length l.source ≡ length l.initial.source))
-
-abbrev pub decreases-loop-k : goal.decreases-loop-k
-decreases-loop-k l = l.n - l.k

@@ -1,5 +1,4 @@
 -- `first_overfed` meets its contract: the answer from k on is the answer.
-use Prim.Native.Nat.{◌-◌}
 use Rattle.facts.proofs.Loops.{Scanning}
 use Rattle.netlist.specs.Records.{netlist}
 use Rattle.verifier.specs.PrivateFeeding.{count_check}
@@ -7,6 +6,3 @@ use Rattle.verifier.proofs.feeds.first_overfed.Given as goal
 
 abbrev pub invariant-loop-k : goal.invariant-loop-k
 invariant-loop-k l = Scanning (count_check l.capacities (netlist l.mapped) l.counts) l.m l.k
-
-abbrev pub decreases-loop-k : goal.decreases-loop-k
-decreases-loop-k l = l.m - l.k

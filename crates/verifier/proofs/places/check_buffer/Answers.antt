@@ -13,7 +13,7 @@ known-d-requires c = search fanin_room
 pub returns-then-feed_slots : goal.returns-then-feed_slots
 returns-then-feed_slots c = record {
   tallied_if_passed = search (slots_counted, buffer_decides, buffer_fed);
-  known_2 = search buffer_known;
+  known_after = search buffer_known;
 }
 
 pub refuse_slots-requires : goal.refuse_slots-requires

@@ -1,5 +1,4 @@
 -- `any_strays` meets its contract: no slot below j strays, until one does or all are passed.
-use Prim.Native.Nat.{◌-◌}
 use mathlib.Core.Path.{◌≡◌}
 use lib.ListN.{length}
 use Rattle.netlist.specs.Records.{netlist}
@@ -8,6 +7,3 @@ use Rattle.verifier.proofs.traces.any_strays.Given as goal
 
 abbrev pub invariant-loop-j : goal.invariant-loop-j
 invariant-loop-j l = NoneStrayed (netlist l.mapped) l.a l.r l.used l.drivers l.j × (length l.drivers ≡ length l.initial.drivers)
-
-abbrev pub decreases-loop-j : goal.decreases-loop-j
-decreases-loop-j l = l.used - l.j

@@ -1,5 +1,5 @@
 -- `walk_buffers` meets its contract: what is known stays right, buffer by buffer.
-use Prim.Native.Nat.{◌-◌, ◌≤◌}
+use Prim.Native.Nat.{◌≤◌}
 use mathlib.Core.Path.{◌≡◌}
 use lib.ListN.{length}
 use Rattle.netlist.specs.Records.{netlist}
@@ -8,6 +8,3 @@ use Rattle.verifier.proofs.traces.walk_buffers.Given as goal
 
 abbrev pub invariant-loop-k : goal.invariant-loop-k
 invariant-loop-k l = Known (netlist l.mapped) l.drivers × (l.n ≤ l.k) × (length l.drivers ≡ length l.initial.drivers)
-
-abbrev pub decreases-loop-k : goal.decreases-loop-k
-decreases-loop-k l = l.m - l.k

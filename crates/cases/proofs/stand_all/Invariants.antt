@@ -1,9 +1,0 @@
--- `stand_all` ends: k rises to n.
-use Rattle.std.proofs.Common.{◌≤◌, ◌-◌}
-use Rattle.cases.proofs.stand_all.Given as goal
-
-abbrev pub invariant-loop-k : goal.invariant-loop-k
-invariant-loop-k l = l.k ≤ l.n
-
-abbrev pub decreases-loop-k : goal.decreases-loop-k
-decreases-loop-k l = l.n - l.k

@@ -1,9 +1,0 @@
--- `read_full` ends: each round reads at least a byte, within the area, which keeps its length.
-use Rattle.std.proofs.Common.{◌≤◌, ◌-◌, length}
-use Rattle.sheet.proofs.read_full.Given as goal
-
-abbrev pub invariant-loop-done : goal.invariant-loop-done
-invariant-loop-done g l = l.done ≤ length l.bytes
-
-abbrev pub decreases-loop-done : goal.decreases-loop-done
-decreases-loop-done g l = length l.bytes - l.done
