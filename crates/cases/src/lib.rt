@@ -1,7 +1,7 @@
 // Stored test cases: a file is a four-byte count and then fields, each a four-byte length and its bytes. Low byte first.
 #![tactic(auto)]
 
-ghost use Rattle.std.specs.Prelude.{ℕ, ◌≡◌, ◌<◌, ◌↔◌, true, length, min, drop, [], slice_index};
+ghost use Rattle.std.specs.Prelude.{ℕ, ◌≡◌, ◌<◌, ◌↔◌, true, length, take, drop, [], slice_index};
 ghost use Rattle.std.specs.Iterator.{at_most};
 ghost use Rattle.std.specs.Option.{MatchOption};
 ghost use Rattle.cases.specs.Numbers.{number_bytes, first_number, number_at};
@@ -86,7 +86,7 @@ impl<'a> Iterator for Fields<'a> {
 
 // The start of an area, with as many of the bytes in it as it has room for.
 pub fn filled<'a>(area: &'a mut [u8], bytes: &[u8]) -> &'a mut [u8]
-    ensures { length result.now ≡ min (length bytes.now) (length area.old) }
+    ensures { result.now ≡ take (length area.old) bytes.now }
 {
     let n = bytes.len().min(area.len());
     area[..n].copy_from_slice(&bytes[..n]);
