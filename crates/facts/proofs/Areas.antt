@@ -59,6 +59,13 @@ sets_put bs xs at l = sets-eq bs xs at l ∙ append_assoc (take at xs) bs (drop 
 pub put_start : (xs bytes : List ℕ) → put xs 0 bytes ≡ onto bytes xs
 put_start xs bytes = ap (λ (k : ℕ). bytes ++ drop k xs) (zero-add (length bytes))
 
+-- a part that was stored whole
+pub stored_whole : (part bytes : List ℕ) (w : ℕ) → length part ≡ w → length bytes ≡ w → sets part 0 bytes ≡ bytes
+stored_whole part bytes w p b =
+    sets-eq bytes part 0 (omega arith)
+    ∙ ap (λ (l : List ℕ). bytes ++ l) (drop_of_length-le part {i = 0 + length bytes} (omega arith))
+    ∙ append-nil bytes
+
 -- a part that was written comes back into the area
 pub part_kept : (area part bytes : List ℕ) (at w : ℕ) → part ≡ bytes →
     take at area ++ (part ++ drop (at + w - at) (drop at area)) ≡ take at area ++ (bytes ++ drop (at + w) area)

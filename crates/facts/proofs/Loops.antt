@@ -7,7 +7,7 @@ use native.Mathlib.Omega.{arith}
 use mathlib.Core.Path.{◌≡◌, refl, sym, ap, ap₂, subst, ◌∙◌}
 use mathlib.Core.Bool.{Bool, true, false, cond}
 use Rattle.facts.specs.Answers.{Checked, Passed, Refused}
-use Rattle.facts.specs.Checks.{◌and_then◌, scan}
+use Rattle.facts.specs.Checks.{check, ◌and_then◌, scan}
 use Rattle.facts.specs.Sums.{any, seek, largest}
 use Rattle.facts.proofs.Bools.{true_false}
 use Rattle.facts.proofs.Sums.{any_some}
@@ -195,3 +195,15 @@ module _ (f : ℕ → Checked) where
 
     pub scan_early : (number place : ℕ) → scan f 0 a ≡ Refused number place → scan f 0 n ≡ Refused number place
     scan_early number place h = parts ∙ rw h
+
+-- one check at each place
+module _ (number : ℕ) (bad : ℕ → Bool) (n k : ℕ) (s : Scanning (λ p. check number p (bad p)) n k) where
+  pub check_more : k < n → bad k ≡ false → Scanning (λ p. check number p (bad p)) n (k + 1)
+  check_more h e = scan_more (λ p. check number p (bad p)) n k s h (rw e)
+
+  pub check_stop : (m : ℕ) → k < n → bad k ≡ true → n ≡ m → Refused number k ≡ scan (λ p. check number p (bad p)) 0 m
+  check_stop m h e q =
+      scan_stop (λ p. check number p (bad p)) n k number k s h (rw e) ∙ ap (scan (λ p. check number p (bad p)) 0) q
+
+  pub check_end : (m : ℕ) → n ≤ k → n ≡ m → Passed ≡ scan (λ p. check number p (bad p)) 0 m
+  check_end m h q = scan_end (λ p. check number p (bad p)) n k s h ∙ ap (scan (λ p. check number p (bad p)) 0) q

@@ -43,7 +43,7 @@ fn check_record(source: &[u8], k: u32, r: Record, sinks: &mut [u16]) -> Result<(
     ensures { RecordCounted source.now k (numbered result) sinks.old sinks.new }
 {
     let mut check = |used: usize| check_used(source, k, r, used, sinks);
-    netlist::by_arity(r.kind, &mut check)
+    netlist::by_kind(r.kind, &mut check)
 }
 
 // Checks 4 to 6 of every record, rising; where they pass, every slot is counted.

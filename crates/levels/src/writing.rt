@@ -45,6 +45,16 @@ fn check_high(levels: &[u16], n: u32) -> Result<(), Refusal>
     first_high(levels, n)
 }
 
+// The bytes of a source into an area of the same length. A loop, since here the library's copy would need `memmove` from outside.
+fn copy_bytes(source: &[u8], area: &mut [u8])
+    requires { length area.old ≡ length source.now }
+    ensures { area.new ≡ source.now }
+{
+    for (k, &byte) in source.iter().enumerate() {
+        area[k] = byte;
+    }
+}
+
 // The source with the levels of an array.
 fn write_levels(source: &[u8], n: usize, levels: &[u16], area: &mut [u8])
     requires n_value { n ≡ record_count source.now }
@@ -52,7 +62,7 @@ fn write_levels(source: &[u8], n: usize, levels: &[u16], area: &mut [u8])
     requires area_len { length area.old ≡ length source.now }
     ensures { area.new ≡ levelled (entries levels.now) source.now }
 {
-    area.copy_from_slice(source);
+    copy_bytes(source, area);
     for (k, &level) in levels[..n].iter().enumerate() {
         netlist::record_writer::write_level(area, k, level);
     }

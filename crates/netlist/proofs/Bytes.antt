@@ -9,13 +9,13 @@ use native.Mathlib.Numerals.{add-one}
 use native.Mathlib.Decide.{dec_lt}
 use borrow.Rule.Slice.PartMut.{put_mid}
 use lib.ListN.{length, get_or, drop, set}
-use lib.Seq.{take_all, get_or-append-add, ext_get_or}
+use lib.Seq.{sets, take_all, get_or-append-add, ext_get_or}
 use Rattle.facts.specs.Bytes.{AreBytes, two_bytes}
 use Rattle.facts.specs.Lists.{tabulate, joined}
 use Rattle.facts.specs.Areas.{put, onto}
 use Rattle.facts.proofs.Lists.{length_tabulate, get_d_tabulate, length_joined, part_joined, get_or_joined, joined_cong, parts_joined}
 use Rattle.facts.proofs.Bytes.{two_back, two_from, two_below}
-use Rattle.facts.proofs.Areas.{put_none, length_put, put_behind, put_before}
+use Rattle.facts.proofs.Areas.{put_none, length_put, put_behind, put_before, stored_whole}
 use Rattle.netlist.specs.declared.Record.{Record}
 use Rattle.netlist.specs.Kinds.{width, slots, unused}
 use Rattle.netlist.specs.Records.{Netlist, netlist, field, decode, slot, blank, record_count, record_bytes, record_at}
@@ -218,6 +218,18 @@ module _ (area₀ : List ℕ) (at : ℕ) (f : ℕ → Record) (n : ℕ) where
         place : width * (at + j) ≡ width * at + length (encoded f j)
         place = omega (arith, length_encoded f j)
 
+-- the ten bytes of a record, stored one by one
+pub stored : (part : List ℕ) (r : Record) (x y z l₁ l₂ x₁ x₂ y₁ y₂ z₁ z₂ : ℕ) → length part ≡ width →
+    x ≡ slot r 0 → y ≡ slot r 1 → z ≡ slot r 2 →
+    l₁ ≡ r.level % 256 → l₂ ≡ r.level / 256 % 256 → x₁ ≡ x % 256 → x₂ ≡ x / 256 % 256 →
+    y₁ ≡ y % 256 → y₂ ≡ y / 256 % 256 → z₁ ≡ z % 256 → z₂ ≡ z / 256 % 256 →
+    sets part 0 (r.kind ∷ r.inversion ∷ l₁ ∷ l₂ ∷ x₁ ∷ x₂ ∷ y₁ ∷ y₂ ∷ z₁ ∷ z₂ ∷ []) ≡ encode r
+unfolding encode joined
+stored part r x y z l₁ l₂ x₁ x₂ y₁ y₂ z₁ z₂ p a b c d e f g h i j k =
+    let bytes : List ℕ = r.kind ∷ r.inversion ∷ l₁ ∷ l₂ ∷ x₁ ∷ x₂ ∷ y₁ ∷ y₂ ∷ z₁ ∷ z₂ ∷ [] in
+    let same : bytes ≡ encode r = cc in
+    stored_whole part bytes width p refl ∙ same
+
 -- a list by its entries
 entries : (xs : List ℕ) (n : ℕ) → length xs ≡ n → xs ≡ tabulate (λ i. get_or xs i 0) n
 entries xs n e =
@@ -229,7 +241,7 @@ module _ (r : Record) (a b c d : List ℕ) where
   abbrev stores : List ℕ → List ℕ
   stores part = put_mid 8 2 (put_mid 6 2 (put_mid 4 2 (put_mid 2 2 (set (set part 0 r.kind) 1 r.inversion) a) b) c) d
 
-  pub stored : (part : List ℕ) → length part ≡ width → a ≡ two_bytes r.level → b ≡ two_bytes (slot r 0) → c ≡ two_bytes (slot r 1) → d ≡ two_bytes (slot r 2) →
+  pub stored_fields : (part : List ℕ) → length part ≡ width → a ≡ two_bytes r.level → b ≡ two_bytes (slot r 0) → c ≡ two_bytes (slot r 1) → d ≡ two_bytes (slot r 2) →
       stores part ≡ encode r
   unfolding encode joined
-  stored part long e f g h = ap stores (entries part width long) ∙ rw (e, f, g, h) refl
+  stored_fields part long e f g h = ap stores (entries part width long) ∙ rw (e, f, g, h) refl

@@ -111,6 +111,21 @@ pub fn by_arity<R, F: FnMut(usize) -> R>(kind: u8, f: &mut F) -> R
     }
 }
 
+// The same by a path for each kind.
+pub fn by_kind<R, F: FnMut(usize) -> R>(kind: u8, f: &mut F) -> R
+    requires { F.pre f.old (Kinds.arity kind) }
+    ensures { F.step f.old (Kinds.arity kind) result f.new }
+{
+    match kind {
+        INPUT => f(arity(INPUT)),
+        AND => f(arity(AND)),
+        OR => f(arity(OR)),
+        MAJORITY => f(arity(MAJORITY)),
+        OUTPUT => f(arity(OUTPUT)),
+        _ => f(arity(kind)),
+    }
+}
+
 // A kind from the first to the last of a range.
 fn is_among(kind: u8, first: u8, last: u8) -> bool
     ensures { result ≡ among first last kind }

@@ -10,8 +10,8 @@ ghost use Rattle.netlist.specs.Records;
 ghost use Rattle.netlist.specs.Checks.{bad_slot, bad_slots, not_below, misplaced, bad_level, size_checks, structure_of, level_of, record_checks};
 
 use crate::{
-    INPUT, OUTPUT, Record, SLOTS, SOURCE_LIMIT, TOP_LEVEL, UNUSED, WIDTH, arity, by_arity, is_gate,
-    record_count, record_reader, slot,
+    AND, INPUT, MAJORITY, OR, OUTPUT, Record, SLOTS, SOURCE_LIMIT, TOP_LEVEL, UNUSED, WIDTH, arity,
+    is_gate, record_count, record_reader, slot,
 };
 use facts::{Check, Refusal};
 
@@ -169,14 +169,20 @@ fn check_used(bytes: &[u8], deep: u16, k: u32, r: Record, used: usize) -> Result
     check_level(bytes, deep, k, r, used)
 }
 
-// Checks 4 to 7 of record k.
+// Checks 4 to 7 of record k: a path for each kind. As a closure handed to `by_kind` they are called, and not laid out in each path.
 fn check_record(bytes: &[u8], deep: u16, k: u32, r: Record) -> Result<(), Refusal>
     requires k_bound { k < record_count bytes.now }
     requires r_value { misplaced deep r ≡ misplaced (Records.depth (netlist bytes.now)) r }
     ensures { numbered result ≡ (structure_of (netlist bytes.now) k r and_then level_of (netlist bytes.now) k r) }
 {
-    let mut check = |used: usize| check_used(bytes, deep, k, r, used);
-    by_arity(r.kind, &mut check)
+    match r.kind {
+        INPUT => check_used(bytes, deep, k, r, arity(INPUT)),
+        AND => check_used(bytes, deep, k, r, arity(AND)),
+        OR => check_used(bytes, deep, k, r, arity(OR)),
+        MAJORITY => check_used(bytes, deep, k, r, arity(MAJORITY)),
+        OUTPUT => check_used(bytes, deep, k, r, arity(OUTPUT)),
+        _ => check_used(bytes, deep, k, r, arity(r.kind)),
+    }
 }
 
 // The level of the first output so far, with record r.

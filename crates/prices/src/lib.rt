@@ -13,10 +13,10 @@ use netlist::{AND, BUFFER, MAJORITY, OR};
 use std::ops::Range;
 
 // Bytes of a list that is not empty.
-const LIST_LENGTH: usize = 11;
+pub const LIST_LENGTH: usize = 11;
 
 // What applies where the list is empty: 6 for every gate, 2 for every buffer.
-const PLAIN: [u32; LIST_LENGTH] = [6, 6, 6, 6, 6, 6, 2, 2, 2, 2, 2];
+pub const PLAIN: [u32; LIST_LENGTH] = [6, 6, 6, 6, 6, 6, 2, 2, 2, 2, 2];
 
 // Check 27: neither empty nor 11 bytes long.
 fn bad_list_length(list: &[u8]) -> bool

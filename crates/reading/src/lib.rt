@@ -1,4 +1,5 @@
-// Reading into lent memory: the programs read their input and their files into arrays of their own.
+// Reading into lent memory: the programs read their input and their files into arrays of their own. Inline, so that the compiler knows
+// how long a part of such an array can be.
 #![tactic(auto)]
 
 ghost use Rattle.std.specs.Prelude.{◌≤◌, length};
@@ -8,6 +9,7 @@ use std::io::Read;
 use std::rt::Files;
 
 // Reads until the area is full, or the input ends or cannot be read. The part of the area that was filled.
+#[inline(always)]
 pub fn read_full<'a, R: Read>(input: &mut R, area: &'a mut [u8]) -> &'a [u8]
     ensures { length result.now ≤ length area.old }
 {
@@ -22,6 +24,7 @@ pub fn read_full<'a, R: Read>(input: &mut R, area: &'a mut [u8]) -> &'a [u8]
 }
 
 // The first bytes of a file, as many as the area has room for; none where it cannot be opened, or read from its start.
+#[inline(always)]
 pub fn read_file<'a>(rt: &impl Files, name: &str, area: &'a mut [u8]) -> &'a [u8]
     ensures { length result.now ≤ length area.old }
 {

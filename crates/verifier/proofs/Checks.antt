@@ -1,19 +1,19 @@
 -- Laws of checks 11 to 17, with premises as the code has them: what each test gives of the check's answer.
-use Prim.Native.Nat.{ℕ, zero, suc, ◌<◌, ◌≤◌}
+use Prim.Native.Nat.{ℕ, zero, suc, ◌+◌, ◌<◌, ◌≤◌}
 use native.Mathlib.Omega.{arith}
 use mathlib.Core.Path.{◌≡◌, refl, sym, ap, ◌∙◌}
 use mathlib.Core.Bool.{Bool, true, false, not, ◌&&◌}
 use mathlib.Core.List.{List}
+use mathlib.Core.Logic.{◌≢◌}
 use lib.Dec.{leb, eqb}
-use borrow.Author.Tests.{lt-ltb, le-ltb, le-leb, lt-leb, eq-eqb, not-true}
+use borrow.Author.Tests.{lt-ltb, le-ltb, le-leb, lt-leb, eq-eqb, ne_eqb, not-true}
 use Rattle.facts.specs.Answers.{Checked, Passed, Refused}
 use Rattle.facts.specs.Checks.{check, scan}
-use Rattle.std.specs.List.{list_any, range_with_len}
 use Rattle.facts.specs.Sums.{any}
 use Rattle.facts.proofs.Bools.{true_false}
 use Rattle.facts.proofs.Reflect.{reflect, unlike_none}
 use Rattle.facts.proofs.Sums.{any_none, any_cong}
-use Rattle.facts.proofs.Loops.{NoneYet, any_found, any_end}
+use Rattle.facts.proofs.Loops.{NoneYet, any_more, any_found, any_end}
 use Rattle.netlist.specs.declared.Capacities.{Capacities}
 use Rattle.netlist.specs.declared.Record.{Record}
 use Rattle.netlist.specs.Kinds.{slots, unused, mapped_limit, arity}
@@ -21,7 +21,6 @@ use Rattle.netlist.specs.Records.{Netlist, netlist, record_count, record_at, bla
 use Rattle.netlist.specs.Source.{IsSource}
 use Rattle.netlist.specs.Checks.{input_checks}
 use Rattle.netlist.proofs.Source.{input_passed, no_buffer_lem}
-use Rattle.facts.proofs.Chains.{any_ranged}
 use Rattle.verifier.specs.Checks.{bad_empty, differs, bad_name, not_one_lower, slot_checks, place_checks, trace_check, feed_check, bad_length, legal_checks, mapped_checks, verify_checks}
 use Rattle.verifier.specs.PrivateWalking.{Sized, Driven, PlacesPassed}
 use Rattle.verifier.specs.PrivateFeeding.{bad_fanin, buffer_checks}
@@ -34,13 +33,19 @@ blank_slot (suc (suc zero)) = refl
 blank_slot (suc (suc (suc j))) = refl
 
 -- a slot is wrong that the kind does not use and that names something
-pub empty_ranged :
-    (kind used : ℕ) (r : Record) (b : Bool) → used ≡ arity kind →
-    b ≡ list_any (λ j. leb used j && not (eqb (slot r j) unused)) (range_with_len 0 slots) → b ≡ any (bad_empty kind blank r) slots
-empty_ranged kind used r b e h =
-    h
-    ∙ any_ranged (λ j. leb used j && not (eqb (slot r j) unused)) slots
-    ∙ any_cong (λ j. leb used j && not (eqb (slot r j) unused)) (bad_empty kind blank r) slots (λ j l. rw (e, blank_slot j))
+module _ (kind : ℕ) (r : Record) (j n : ℕ) (e : n ≡ arity kind) (i : NoneYet (bad_empty kind blank r) slots j) (l : j < slots) where
+  pub empty_used : j < n → NoneYet (bad_empty kind blank r) slots (j + 1)
+  empty_used h = any_more (bad_empty kind blank r) slots j false i l (rw (lt-leb (arity kind) j (rw e at h))) refl
+
+  module _ (h : n ≤ j) (x : ℕ) (p : x ≡ slot r j) where
+    here : not (eqb x unused) ≡ bad_empty kind blank r j
+    here = rw (le-leb (arity kind) j (rw e at h), blank_slot j, p)
+
+    pub empty_found : x ≢ unused → true ≡ any (bad_empty kind blank r) slots
+    empty_found g = any_found (bad_empty kind blank r) slots j (not (eqb x unused)) l here (rw (ne_eqb x unused g))
+
+    pub empty_kept : x ≡ unused → NoneYet (bad_empty kind blank r) slots (j + 1)
+    empty_kept g = any_more (bad_empty kind blank r) slots j (not (eqb x unused)) i l here (rw (eq-eqb x unused g))
 
 -- where a's unused slots name nothing, those of r are held to a's as to a blank record's
 empty_as : (a r : Record) → any (bad_empty a.kind blank a) slots ≡ false → any (bad_empty a.kind blank r) slots ≡ any (bad_empty a.kind a r) slots

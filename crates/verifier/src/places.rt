@@ -21,8 +21,12 @@ use netlist::{Record, arity, by_arity, record_at, record_count, record_reader, s
 fn any_bad_empty(kind: u8, r: Record) -> bool
     ensures { result ≡ any (bad_empty kind Records.blank r) slots }
 {
-    let used = arity(kind);
-    (0..netlist::SLOTS).any(|j| used <= j && slot(r, j) != netlist::UNUSED)
+    for j in 0..netlist::SLOTS {
+        if arity(kind) <= j && slot(r, j) != netlist::UNUSED {
+            return true;
+        }
+    }
+    false
 }
 
 // Check 12: r differs outside the used slots from a source record a, whose unused slots name nothing.
