@@ -176,7 +176,9 @@ fn check_buffer(
     refuse_slots(mapped, k, r)
 }
 
-// Checks 13 to 15 of every record from the source's size on, rising, once those below passed.
+// Checks 13 to 15 of every record from the source's size on, rising, once those below passed. Not inline: beside the other
+// checks its loop would not keep its values in registers.
+#[inline(never)]
 pub(crate) fn check_buffers(
     source: &[u8],
     mapped: &[u8],
