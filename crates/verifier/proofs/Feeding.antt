@@ -6,6 +6,7 @@ use native.Mathlib.Numerals.{add-one}
 use mathlib.Core.Path.{◌≡◌, refl, sym, ap, ◌∙◌}
 use mathlib.Core.Bool.{Bool, true, false, cond, not}
 use mathlib.Core.List.{List}
+use mathlib.Core.Logic.{◌≢◌}
 use lib.ListN.{length, get_or, replicate, length-set, length-replicate, get_or-replicate}
 use lib.Seq.{get_or-set_same, get_or-set_other}
 use lib.Dec.{ltb, leb, eqb}
@@ -26,7 +27,7 @@ use Rattle.netlist.proofs.Balance.{capacity_least, capacity_most}
 use Rattle.netlist.proofs.Checks.{arity_slots}
 use Rattle.verifier.specs.Checks.{differs, no_buffer, slot_checks, place_checks, trace_check, feed_check, legal_checks}
 use Rattle.verifier.specs.PrivateWalking.{Sized, PlacesPassed, Walkable}
-use Rattle.verifier.specs.PrivateFeeding.{stop, more, fed_once, fed_by, tally, bad_fanin, buffer_checks, Fed, FedAtMost, Tallied, TalliedIfPassed, count_check}
+use Rattle.verifier.specs.PrivateFeeding.{stop, more, fed_once, fed_by, tally, bad_fanin, buffer_checks, Fed, FedAtMost, Tallied, TalliedIfPassed, TalliedIf, count_check}
 use Rattle.verifier.proofs.Checks.{slots_good, slots_passed, kept_bad, kept_slots, placed, legal_places, legal_traces, legal_feeds}
 
 -- feeding keeps the number of counts
@@ -145,9 +146,15 @@ module _ (m : Netlist) where
         counted = f ∙ rw (e, add-one k) (ap (λ (l : List ℕ). fed_by l (m.at k) (arity (m.at k).kind)) t.counted);
       }
 
+  passed_apart : (number place : ℕ) → Refused number place ≢ Passed
+  passed_apart number place p = let z : ◌≡◌ {A = ℕ} 0 1 = cc in omega arith
+
   tallied_refused : (right : Checked) (number place k : ℕ) (counts : List ℕ) → right ≡ Refused number place → TalliedIfPassed (Refused number place) right m k counts
-  tallied_refused right number place k counts e =
-      record { answer = sym e; tallied = λ p. absurd (let z : ◌≡◌ {A = ℕ} 0 1 = cc in omega arith) }
+  tallied_refused right number place k counts e = record { answer = sym e; tallied = λ p. absurd (passed_apart number place p) }
+
+  pub tallied_none : (right : Checked) (number place k : ℕ) (counts : List ℕ) → Refused number place ≡ right → TalliedIf false right m k counts
+  tallied_none right number place k counts e =
+      record { passed = λ t. absurd (true_false false t refl); failed = λ q p. passed_apart number place (e ∙ p) }
 
   -- a record whose slots decide
   module _ (right : Checked) (k : ℕ) (r : Record) (here : r ≡ m.at k) (decides : right ≡ slot_checks m k (m.at k))
@@ -159,25 +166,28 @@ module _ (m : Netlist) where
           tallied = λ p. tallied_more k before after t (f.counted e ∙ rw here);
         }
 
-    pub slots_refused : (a : Checked) → b ≡ false → a ≡ slot_checks m k r → TalliedIfPassed a right m (k + 1) after
-    slots_refused a e g =
-        record {
-          answer = g ∙ rw here (sym decides);
-          tallied = λ p. absurd (true_false b (f.good ∙ rw (slots_passed m k r (sym g ∙ p))) e);
-        }
+    slots_refused : b ≡ false → right ≢ Passed
+    slots_refused e p = true_false b (f.good ∙ rw (slots_passed m k r (rw here (sym decides ∙ p)))) e
 
--- some slot of a record that was not fed is bad
-pub unfed : (m : Netlist) (r : Record) (n : ℕ) (b : Bool) (before after : List ℕ) → Fed m r n b before after → n ≡ arity r.kind → b ≡ false → any (bad_fanin m r) (arity r.kind) ≡ true
-unfed m r n b before after f u e = rw (← u) (not-false (any (bad_fanin m r) n) (sym f.good ∙ e))
+    pub slots_tallied : (d : Bool) → b ≡ d → Tallied m k before → TalliedIf d right m (k + 1) after
+    slots_tallied d e t = rw (← e) (record { passed = slots_counted t; failed = slots_refused })
+
+  module _ (right : Checked) (k : ℕ) (r : Record) (here : r ≡ m.at k) (decides : right ≡ slot_checks m k (m.at k)) where
+    pub slots_decide : (a : Checked) → a ≡ slot_checks m k r → a ≡ right
+    slots_decide a g = g ∙ rw here (sym decides)
+
+    pub slots_unfit : right ≢ Passed → any (bad_fanin m r) (arity r.kind) ≡ true
+    slots_unfit fails = go (any (bad_fanin m r) (arity r.kind)) refl
+      where
+        go : (c : Bool) → any (bad_fanin m r) (arity r.kind) ≡ c → c ≡ true
+        go true e = refl
+        go false e = absurd (fails (decides ∙ rw (← here) (slots_good m k r true (rw e) refl)))
 
 -- what the code has of record k: below the source's size
 module _ (source mapped : List ℕ) (k : ℕ) (a r : Record) (p : a ≡ record_at source k) (q : r ≡ record_at mapped k) (b : Bool) (e : b ≡ differs a r)
     (l : k < record_count source) where
-  pub record_differs :
-      (next : ℕ) (counts : List ℕ) → b ≡ true →
-      TalliedIfPassed (Refused 12 k) (place_checks (netlist source) (netlist mapped) k) (netlist mapped) next counts
-  record_differs next counts t =
-      tallied_refused (netlist mapped) _ 12 k next counts (kept_bad (netlist source) (netlist mapped) k l (rw (← p, ← q, ← e) t))
+  pub record_differs : b ≡ true → Refused 12 k ≡ place_checks (netlist source) (netlist mapped) k
+  record_differs t = sym (kept_bad (netlist source) (netlist mapped) k l (rw (← p, ← q, ← e) t))
 
   pub record_decides : b ≡ false → place_checks (netlist source) (netlist mapped) k ≡ slot_checks (netlist mapped) k (record_at mapped k)
   record_decides same = kept_slots (netlist source) (netlist mapped) k l (rw (← p, ← q, ← e) same)
@@ -193,22 +203,17 @@ module _ (mapped : List ℕ) (k : ℕ) (r : Record) (q : r ≡ record_at mapped 
   foreign : no_buffer (record_at mapped k) ≡ b
   foreign = rw (← q, e)
 
-  pub buffer_differs : (next : ℕ) (counts : List ℕ) → b ≡ true → TalliedIfPassed (Refused 13 k) (buffer_checks (netlist mapped) k) (netlist mapped) next counts
-  buffer_differs next counts t = tallied_refused (netlist mapped) _ 13 k next counts (rw (foreign, t))
+  pub buffer_differs : b ≡ true → Refused 13 k ≡ buffer_checks (netlist mapped) k
+  buffer_differs t = rw (foreign, t)
 
   pub buffer_decides : b ≡ false → buffer_checks (netlist mapped) k ≡ slot_checks (netlist mapped) k (record_at mapped k)
   buffer_decides same = rw (foreign, same)
 
-  pub buffer_fed :
-      (used : ℕ) (c : Bool) (before after : List ℕ) → b ≡ false → used ≡ arity buffer → Fed (netlist mapped) r used c before after →
-      Fed (netlist mapped) r (arity r.kind) c before after
-  buffer_fed used c before after same u f = rw (← buffer_uses r b used e same u) f
-
-  pub buffer_refused :
-      (used : ℕ) (c : Bool) (before after : List ℕ) (x : Checked) → b ≡ false → used ≡ arity buffer → Fed (netlist mapped) r used c before after →
-      c ≡ false → x ≡ slot_checks (netlist mapped) k r → TalliedIfPassed x (buffer_checks (netlist mapped) k) (netlist mapped) (k + 1) after
-  buffer_refused used c before after x same u f =
-      slots_refused (netlist mapped) _ k r q (buffer_decides same) c before after (buffer_fed used c before after same u f) x
+  pub buffer_tallied :
+      (used : ℕ) (c d : Bool) (before after : List ℕ) → b ≡ false → used ≡ arity buffer → Fed (netlist mapped) r used c before after →
+      c ≡ d → Tallied (netlist mapped) k before → TalliedIf d (buffer_checks (netlist mapped) k) (netlist mapped) (k + 1) after
+  buffer_tallied used c d before after same u f =
+      slots_tallied (netlist mapped) _ k r q (buffer_decides same) c before after (rw (← buffer_uses r b used e same u) f) d
 
 -- the answer from k on is the answer, and the first k records are counted
 pub record Tallying (n m : Netlist) (records : ℕ) (counts : List ℕ) (k : ℕ) : Type 0 where
@@ -230,10 +235,10 @@ module _ (n m : Netlist) (records : ℕ) (counts : List ℕ) where
 
     module _ (l : k < size) (after : List ℕ) where
       pub tallying_stop :
-          (number place : ℕ) → TalliedIfPassed (Refused number place) (place_checks n m k) m (k + 1) after →
-          TalliedIfPassed (Refused number place) (scan (place_checks n m) 0 records) m records after
-      tallying_stop number place c =
-          tallied_refused m _ number place records after (sym (scan_stop (place_checks n m) records k number place i.scanning (rw e at l) c.answer))
+          (a : Checked) → a ≡ place_checks n m k → place_checks n m k ≢ Passed → TalliedIfPassed a (scan (place_checks n m) 0 records) m records after
+      tallying_stop Passed c fails = absurd (fails (sym c))
+      tallying_stop (Refused number place) c fails =
+          tallied_refused m _ number place records after (sym (scan_stop (place_checks n m) records k number place i.scanning (rw e at l) c))
 
       pub tallying_more : TalliedIfPassed Passed (place_checks n m k) m (k + 1) after → Tallying n m records after (k + 1)
       tallying_more c =

@@ -233,18 +233,17 @@ module _ (n m : Netlist) (records size : ℕ) (sized : Sized n m records size) (
       noting_buffering h = record { from = i.from; here = omega (arith, sized.size); driven = driven n m records size sized h }
 
       module _ (after : List ℕ) where
-        place : (a : Checked) → TalliedIfPassed a (buffer_checks m k) m (k + 1) after → TalliedIfPassed a (place_checks n m k) m (k + 1) after
-        place a c = rw (place_buffer n m k (omega (arith, sized.records, i.from))) c
+        placed_buffer : place_checks n m k ≡ buffer_checks m k
+        placed_buffer = place_buffer n m k (omega (arith, sized.records, i.from))
 
         pub noting_stop :
-            (number place : ℕ) → TalliedIfPassed (Refused number place) (buffer_checks m k) m (k + 1) after →
-            TalliedIfPassed (Refused number place) (scan (place_checks n m) 0 m.size) m m.size after
-        noting_stop number at c = tallying_stop n m m.size counts k i.tallying size sized.size l after number at (place (Refused number at) c)
+            (a : Checked) → a ≡ buffer_checks m k → buffer_checks m k ≢ Passed → TalliedIfPassed a (scan (place_checks n m) 0 m.size) m m.size after
+        noting_stop a c fails = tallying_stop n m m.size counts k i.tallying size sized.size l after a (c ∙ sym placed_buffer) (rw placed_buffer fails)
 
         pub noting_more : (later : List ℕ) → Known m later → TalliedIfPassed Passed (buffer_checks m k) m (k + 1) after → Noting n m records after later (k + 1)
         noting_more later known c =
             record {
               from = omega (arith, i.from);
-              tallying = tallying_more n m m.size counts k i.tallying size sized.size l after (place Passed c);
+              tallying = tallying_more n m m.size counts k i.tallying size sized.size l after (rw placed_buffer c);
               known = known;
             }

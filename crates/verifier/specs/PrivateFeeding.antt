@@ -1,5 +1,5 @@
 -- For private functions alone: check 17's counts, made while 14 and 15 pass over the used slots: a count stops above the largest capacity, so that none can wrap.
-use Rattle.std.specs.Prelude.{ℕ, zero, suc, ◌+◌, ◌<◌, ◌≤◌, ◌≡◌, Bool, true, cond, not, ◌||◌, List, length, get_or, set, replicate, ltb}
+use Rattle.std.specs.Prelude.{ℕ, zero, suc, ◌+◌, ◌<◌, ◌≤◌, ◌≡◌, ◌≢◌, Bool, true, false, cond, not, ◌||◌, List, length, get_or, set, replicate, ltb}
 use Rattle.facts.specs.Answers.{Checked, Passed}
 use Rattle.facts.specs.Checks.{check, ◌and_then◌}
 use Rattle.facts.specs.Sums.{any}
@@ -54,6 +54,11 @@ pub record Tallied (m : Netlist) (k : ℕ) (counts : List ℕ) : Type 0 where
 pub record TalliedIfPassed (a right : Checked) (m : Netlist) (k : ℕ) (counts : List ℕ) : Type 0 where
   pub answer : a ≡ right
   pub tallied : a ≡ Passed → Tallied m k counts
+
+-- whether checks pass; if they do, the first k records are counted
+pub record TalliedIf (b : Bool) (right : Checked) (m : Netlist) (k : ℕ) (counts : List ℕ) : Type 0 where
+  pub passed : b ≡ true → TalliedIfPassed Passed right m k counts
+  pub failed : b ≡ false → right ≢ Passed
 
 -- 17 of record k, by the counts
 abbrev pub count_check : Capacities → Netlist → List ℕ → ℕ → Checked

@@ -1,5 +1,5 @@
 // Checks 12 to 15: each record of a mapped netlist at its place; the used slots are counted for 17.
-ghost use Rattle.std.specs.Prelude.{◌≡◌, true, false, ◌+◌, ◌<◌, ◌≤◌, length};
+ghost use Rattle.std.specs.Prelude.{◌≡◌, ◌≢◌, true, false, ◌+◌, ◌<◌, ◌≤◌, length};
 ghost use Rattle.facts.specs.Answers.{Passed, numbered};
 ghost use Rattle.facts.specs.Checks.{scan};
 ghost use Rattle.facts.specs.Sums.{any};
@@ -9,7 +9,7 @@ ghost use Rattle.netlist.specs.Records;
 ghost use Rattle.netlist.specs.Records.{netlist, record_count};
 ghost use Rattle.netlist.specs.Source.{IsSource};
 ghost use Rattle.verifier.specs.PrivateWalking.{Sized, Buffering, Known};
-ghost use Rattle.verifier.specs.PrivateFeeding.{bad_fanin, buffer_checks, Fed, Tallied, TalliedIfPassed};
+ghost use Rattle.verifier.specs.PrivateFeeding.{bad_fanin, buffer_checks, Fed, Tallied, TalliedIf, TalliedIfPassed};
 ghost use Rattle.verifier.specs.Checks;
 ghost use Rattle.verifier.specs.Checks.{bad_empty, no_buffer, bad_name, slot_checks, place_checks};
 
@@ -109,12 +109,29 @@ fn refuse_slots(mapped: &[u8], k: u32, r: Record) -> Result<(), Refusal>
     })
 }
 
-// Checks 12, 14 and 15 of record k below the source's size; its used slots are counted.
-fn check_record(source: &[u8], mapped: &[u8], k: u32, counts: &mut [u16]) -> Result<(), Refusal>
+// Whether record k below the source's size passes 12, 14 and 15; if so, its used slots are counted.
+fn record_passes(source: &[u8], mapped: &[u8], k: u32, counts: &mut [u16]) -> bool
     requires source { IsSource (netlist source.now) }
     requires k_bound { k < record_count source.now }
     requires tallied { Tallied (netlist mapped.now) k counts.old }
-    ensures { TalliedIfPassed (numbered result) (place_checks (netlist source.now) (netlist mapped.now) k) (netlist mapped.now) (k + 1) counts.new }
+    ensures { TalliedIf result (place_checks (netlist source.now) (netlist mapped.now) k) (netlist mapped.now) (k + 1) counts.new }
+{
+    let r = record_at(mapped, k as usize);
+    if differs(record_reader::read_at(source, k as usize), r) {
+        return false;
+    }
+    feed_used(mapped, r, counts)
+}
+
+// The refusal of record k below the source's size, which does not pass: 12 comes first. Worked out behind the loop, which then
+// holds no refusal in its registers.
+#[cold]
+#[inline(never)]
+fn refuse_record(source: &[u8], mapped: &[u8], k: u32) -> Result<(), Refusal>
+    requires source { IsSource (netlist source.now) }
+    requires k_bound { k < record_count source.now }
+    requires fails { place_checks (netlist source.now) (netlist mapped.now) k ≢ Passed }
+    ensures { numbered result ≡ place_checks (netlist source.now) (netlist mapped.now) k }
 {
     let r = record_at(mapped, k as usize);
     if differs(record_reader::read_at(source, k as usize), r) {
@@ -123,13 +140,12 @@ fn check_record(source: &[u8], mapped: &[u8], k: u32, counts: &mut [u16]) -> Res
             place: k,
         });
     }
-    if feed_used(mapped, r, counts) {
-        return Ok(());
-    }
     refuse_slots(mapped, k, r)
 }
 
-// Checks 12, 14 and 15 of every record below the source's size, rising.
+// Checks 12, 14 and 15 of every record below the source's size, rising. Not inline: beside the other checks its loop would not
+// keep its values in registers.
+#[inline(never)]
 pub(crate) fn check_records(
     source: &[u8],
     mapped: &[u8],
@@ -142,24 +158,40 @@ pub(crate) fn check_records(
     ensures { TalliedIfPassed (numbered result) (scan (place_checks (netlist source.now) (netlist mapped.now)) 0 (record_count source.now)) (netlist mapped.now) (record_count source.now) counts.new }
 {
     for k in 0..n {
-        check_record(source, mapped, k, counts)?;
+        if !record_passes(source, mapped, k, counts) {
+            return refuse_record(source, mapped, k);
+        }
     }
     Ok(())
 }
 
-// Checks 13 to 15 of record k from the source's size on; its slot is counted, and its driver kept if its fanin's is known.
-fn check_buffer(
-    mapped: &[u8],
-    n: u32,
-    k: u32,
-    counts: &mut [u16],
-    drivers: &mut [u16],
-) -> Result<(), Refusal>
+// Whether record k from the source's size on passes 13 to 15; if so, its slot is counted, and its driver kept if its fanin's is known.
+fn buffer_passes(mapped: &[u8], n: u32, k: u32, counts: &mut [u16], drivers: &mut [u16]) -> bool
     requires buffering { Buffering n (netlist mapped.now) k }
     requires tallied { Tallied (netlist mapped.now) k counts.old }
     requires known { Known (netlist mapped.now) drivers.old }
-    ensures tallied_if_passed { TalliedIfPassed (numbered result) (buffer_checks (netlist mapped.now) k) (netlist mapped.now) (k + 1) counts.new }
+    ensures tallied_if { TalliedIf result (buffer_checks (netlist mapped.now) k) (netlist mapped.now) (k + 1) counts.new }
     ensures known_after { Known (netlist mapped.now) drivers.new }
+{
+    let r = record_reader::read_at(mapped, k as usize);
+    if no_buffer(r) {
+        return false;
+    }
+    if feed_slots(mapped, r, arity(netlist::BUFFER), counts) {
+        let d = traces::known(n, drivers, slot(r, 0));
+        drivers[k as usize] = d;
+        return true;
+    }
+    false
+}
+
+// The refusal of record k from the source's size on, which does not pass: 13 comes first.
+#[cold]
+#[inline(never)]
+fn refuse_buffer(mapped: &[u8], k: u32) -> Result<(), Refusal>
+    requires k_bound { k < record_count mapped.now }
+    requires fails { buffer_checks (netlist mapped.now) k ≢ Passed }
+    ensures { numbered result ≡ buffer_checks (netlist mapped.now) k }
 {
     let r = record_reader::read_at(mapped, k as usize);
     if no_buffer(r) {
@@ -168,16 +200,10 @@ fn check_buffer(
             place: k,
         });
     }
-    if feed_slots(mapped, r, arity(netlist::BUFFER), counts) {
-        let d = traces::known(n, drivers, slot(r, 0));
-        drivers[k as usize] = d;
-        return Ok(());
-    }
     refuse_slots(mapped, k, r)
 }
 
-// Checks 13 to 15 of every record from the source's size on, rising, once those below passed. Not inline: beside the other
-// checks its loop would not keep its values in registers.
+// Checks 13 to 15 of every record from the source's size on, rising, once those below passed. Not inline either.
 #[inline(never)]
 pub(crate) fn check_buffers(
     source: &[u8],
@@ -195,7 +221,9 @@ pub(crate) fn check_buffers(
     ensures known_after { Known (netlist mapped.now) drivers.new }
 {
     for k in n..m {
-        check_buffer(mapped, n, k, counts, drivers)?;
+        if !buffer_passes(mapped, n, k, counts, drivers) {
+            return refuse_buffer(mapped, k);
+        }
     }
     Ok(())
 }
