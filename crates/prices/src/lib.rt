@@ -71,14 +71,16 @@ pub fn read_prices(list: &[u8]) -> PriceTable
     PriceTable { list: prices }
 }
 
-// The positions of a kind's prices, from no slot fed on.
+// The positions of a kind's prices, from no slot fed on. Gates have two each, in the order of their kinds: with an arm for each
+// gate, gates of several kinds in turns take a jump that the processor seldom foresees.
 fn price_range(kind: u8) -> Range<usize>
     ensures { (result.start ≡ price_start kind) × (result.end ≡ price_start kind + price_count kind) }
 {
     match kind {
-        AND => 0..2,
-        OR => 2..4,
-        MAJORITY => 4..6,
+        AND | OR | MAJORITY => {
+            let start = 2 * usize::from(kind - AND);
+            start..start + 2
+        }
         BUFFER => 6..LIST_LENGTH,
         _ => 0..0,
     }

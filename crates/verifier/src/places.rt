@@ -15,7 +15,7 @@ ghost use Rattle.verifier.specs.Checks.{bad_empty, no_buffer, bad_name, slot_che
 
 use crate::{feeds, traces};
 use facts::{Check, Refusal};
-use netlist::{Record, arity, by_arity, record_at, record_count, record_reader, slot};
+use netlist::{Record, arity, by_arity, record_count, record_reader, slot};
 
 // Checks 12 and 13 of the slots that the kind does not use: one names something.
 fn any_bad_empty(kind: u8, r: Record) -> bool
@@ -112,11 +112,12 @@ fn refuse_slots(mapped: &[u8], k: u32, r: Record) -> Result<(), Refusal>
 // Whether record k below the source's size passes 12, 14 and 15; if so, its used slots are counted.
 fn record_passes(source: &[u8], mapped: &[u8], k: u32, counts: &mut [u16]) -> bool
     requires source { IsSource (netlist source.now) }
+    requires whole { record_count source.now ≤ record_count mapped.now }
     requires k_bound { k < record_count source.now }
     requires tallied { Tallied (netlist mapped.now) k counts.old }
     ensures { TalliedIf result (place_checks (netlist source.now) (netlist mapped.now) k) (netlist mapped.now) (k + 1) counts.new }
 {
-    let r = record_at(mapped, k as usize);
+    let r = record_reader::read_at(mapped, k as usize);
     if differs(record_reader::read_at(source, k as usize), r) {
         return false;
     }
@@ -129,11 +130,12 @@ fn record_passes(source: &[u8], mapped: &[u8], k: u32, counts: &mut [u16]) -> bo
 #[inline(never)]
 fn refuse_record(source: &[u8], mapped: &[u8], k: u32) -> Result<(), Refusal>
     requires source { IsSource (netlist source.now) }
+    requires whole { record_count source.now ≤ record_count mapped.now }
     requires k_bound { k < record_count source.now }
     requires fails { place_checks (netlist source.now) (netlist mapped.now) k ≢ Passed }
     ensures { numbered result ≡ place_checks (netlist source.now) (netlist mapped.now) k }
 {
-    let r = record_at(mapped, k as usize);
+    let r = record_reader::read_at(mapped, k as usize);
     if differs(record_reader::read_at(source, k as usize), r) {
         return Err(Refusal {
             check: Check::SourceKept,
@@ -154,6 +156,7 @@ pub(crate) fn check_records(
 ) -> Result<(), Refusal>
     requires n_value { n ≡ record_count source.now }
     requires source { IsSource (netlist source.now) }
+    requires whole { record_count source.now ≤ record_count mapped.now }
     requires tallied { Tallied (netlist mapped.now) 0 counts.old }
     ensures { TalliedIfPassed (numbered result) (scan (place_checks (netlist source.now) (netlist mapped.now)) 0 (record_count source.now)) (netlist mapped.now) (record_count source.now) counts.new }
 {
